@@ -1,0 +1,12 @@
+pub mod Causes
+pub mod Inputs
+pub mod Memory
+pub mod MemoryInputs
+pub mod MemorySink
+pub mod MemorySite
+pub mod Paths
+pub mod RegexPatterns
+pub mod Sinks
+pub mod Sites
+pub mod TextMaps
+pub mod Worlds

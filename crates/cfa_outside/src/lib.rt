@@ -1,0 +1,28 @@
+//! The outside of a run: the world of a host, the site through which it is seen and changed, where policies are read
+//! from, where lines are put and what builds patterns, each with an object in memory.
+#![tactic(auto)]
+
+mod errors;
+mod memory_inputs;
+mod memory_sink;
+mod memory_site;
+mod paths;
+mod regex_patterns;
+mod sinks;
+mod sites;
+mod sources;
+#[cfg(test)]
+mod tests;
+mod worlds;
+
+pub use cfa_base::Patterns;
+pub use errors::OutsideErr;
+pub use memory_inputs::MemoryInputs;
+pub use memory_sink::MemorySink;
+pub use memory_site::MemorySite;
+pub use paths::{Path, PathErr};
+pub use regex_patterns::RegexPatterns;
+pub use sinks::Sink;
+pub use sites::{Call, Change, Entry, Look, Site, keeps_parents};
+pub use sources::Inputs;
+pub use worlds::{Locks, Node, Nodes, Perms, ServiceRow, Services, World};
