@@ -1,0 +1,4 @@
+pub mod FrontTokens
+pub mod Lengths
+pub mod ScanSteps
+pub mod Symbols

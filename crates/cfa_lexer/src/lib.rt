@@ -1,0 +1,16 @@
+//! Cuts a policy's text into tokens.
+#![tactic(auto)]
+
+mod bytes;
+mod errors;
+mod fronts;
+mod laws;
+mod lexing;
+mod placing;
+#[cfg(test)]
+mod tests;
+
+pub use cfa_base::Kind;
+pub use errors::LexErr;
+pub use laws::one_lexing;
+pub use lexing::{Token, end_place, lex};
