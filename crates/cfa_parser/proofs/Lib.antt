@@ -1,0 +1,17 @@
+pub mod BundleRest
+pub mod FirstFormLemmas
+pub mod GuardRest
+pub mod GuardRuns
+pub mod GuardSteps
+pub mod Levels
+pub mod Limits
+pub mod Lists
+pub mod PolicyRest
+pub mod PolicyRuns
+pub mod Readings
+pub mod Spelled
+pub mod Stops
+pub mod TextBytes
+pub mod Uniqueness
+pub mod ValueRest
+pub mod ValueRuns

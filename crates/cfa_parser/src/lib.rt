@@ -1,0 +1,24 @@
+//! The reading of tokens into the tree of a policy, by the grammar of `cfa_tree`.
+#![tactic(auto)]
+
+mod bundles;
+mod errors;
+mod first;
+mod guards;
+mod headings;
+mod laws;
+mod reader;
+mod sections;
+mod texts;
+mod values;
+
+pub use errors::ParseErr;
+pub use first::{FirstErr, FirstPromise, read_first};
+pub use laws::reading_is_unique;
+pub use reader::parse;
+
+// The levels that a policy may open at once.
+const DEPTH_LIMIT: usize = 16;
+
+#[cfg(test)]
+mod tests;
