@@ -1,0 +1,103 @@
+-- The test of two expressions with parts, from the tests of their parts.
+use Rattle.std.proofs.Common.{◌≡◌, refl, sym, ◌∙◌, ap, ℕ, suc, ◌+◌, ◌<◌, ◌≤◌, Bool, true, false, ◌&&◌, List, [], ◌∷◌, map, length, get_or, drop, add-one, drop-cons, arith}
+use Rattle.std.specs.declared.alloc.Global.{Global}
+use Rattle.std.specs.declared.vec.Vec.{Vec}
+use Rattle.std.proofs.lemmas.List.{drop_all}
+use Rattle.cfa_tree.specs.declared.expressions.Expr.{Expr, Class, Not', And, And', Or, Or', Row_of-Expr, roll-out-Expr}
+use Rattle.cfa_tree.specs.declared.expressions.Expr as declared
+use denote.Hole.Carrier
+use Rattle.cfa_tree.specs.Plain.{plain_expr}
+use Rattle.cfa_tree.specs.Tree.{ExprTrees, all_of, one_of, expr_trees}
+use Rattle.cfa_tree.proofs.Rows.{plain_expr-And, plain_expr-Or}
+use Rattle.cfa_printer.specs.SameExpr.{same_expr, same_exprs}
+
+abbrev plain_parts : List Expr → ExprTrees
+plain_parts es = expr_trees (map plain_expr es)
+
+abbrev IsAndShape : Expr → Type 0
+IsAndShape (Class name) = ⊥
+IsAndShape (Not' p e) = ⊥
+IsAndShape (And' shape all) = Unit {0}
+IsAndShape (Or' shape all) = ⊥
+
+abbrev IsOrShape : Expr → Type 0
+IsOrShape (Class name) = ⊥
+IsOrShape (Not' p e) = ⊥
+IsOrShape (And' shape all) = ⊥
+IsOrShape (Or' shape all) = Unit {0}
+
+-- a variant as it is matched on is the variant as it is made
+is_and : (e : Expr) → IsAndShape e → (x : Vec Expr Global) × (e ≡ And x)
+unfolding declared.roll-Expr declared.out-Expr Carrier.roll Carrier.out
+is_and (And' shape all) is = (_, sym (roll-out-Expr (And' shape all)))
+is_and (Class name) is = absurd is
+is_and (Not' p e) is = absurd is
+is_and (Or' shape all) is = absurd is
+
+is_or : (e : Expr) → IsOrShape e → (x : Vec Expr Global) × (e ≡ Or x)
+unfolding declared.roll-Expr declared.out-Expr Carrier.roll Carrier.out
+is_or (Or' shape all) is = (_, sym (roll-out-Expr (Or' shape all)))
+is_or (Class name) is = absurd is
+is_or (Not' p e) is = absurd is
+is_or (And' shape all) is = absurd is
+
+no_and : (b : Expr) (es : ExprTrees) → ((x : Vec Expr Global) → b ≡ And x → ⊥) → same_expr (all_of es) (plain_expr b) ≡ false
+no_and (Class name) es not = refl
+no_and (Not' p e) es not = refl
+no_and (And' shape all) es not = let x = is_and (And' shape all) tt in absurd (not x.0 x.1)
+no_and (Or' shape all) es not = refl
+
+no_or : (b : Expr) (es : ExprTrees) → ((x : Vec Expr Global) → b ≡ Or x → ⊥) → same_expr (one_of es) (plain_expr b) ≡ false
+no_or (Class name) es not = refl
+no_or (Not' p e) es not = refl
+no_or (And' shape all) es not = refl
+no_or (Or' shape all) es not = let x = is_or (Or' shape all) tt in absurd (not x.0 x.1)
+
+pub other_than_and : (a b : Expr) (parts : Vec Expr Global) → a ≡ And parts → ((x : Vec Expr Global) → b ≡ And x → ⊥) → false ≡ same_expr (plain_expr a) (plain_expr b)
+other_than_and a b parts is not = sym (ap (λ t. same_expr t (plain_expr b)) (ap plain_expr is ∙ plain_expr-And parts) ∙ no_and b _ not)
+
+pub other_than_or : (a b : Expr) (parts : Vec Expr Global) → a ≡ Or parts → ((x : Vec Expr Global) → b ≡ Or x → ⊥) → false ≡ same_expr (plain_expr a) (plain_expr b)
+other_than_or a b parts is not = sym (ap (λ t. same_expr t (plain_expr b)) (ap plain_expr is ∙ plain_expr-Or parts) ∙ no_or b _ not)
+
+pub and_parts_test : (a b : Expr) (parts others : Vec Expr Global) (es fs : List Expr) (result : Bool) → a ≡ And parts → b ≡ And others → es ≡ parts.items → fs ≡ others.items →
+    result ≡ same_exprs (plain_parts es) (plain_parts fs) → result ≡ same_expr (plain_expr a) (plain_expr b)
+and_parts_test a b parts others es fs result is also same too tells =
+    tells ∙ (ap (λ xs. same_exprs (plain_parts xs) (plain_parts fs)) same ∙ (ap (λ xs. same_exprs (plain_parts parts.items) (plain_parts xs)) too
+    ∙ sym (ap (λ t. same_expr t (plain_expr b)) (ap plain_expr is ∙ plain_expr-And parts) ∙ ap (λ t. same_expr (all_of (plain_parts parts.items)) t) (ap plain_expr also ∙ plain_expr-And others))))
+
+pub or_parts_test : (a b : Expr) (parts others : Vec Expr Global) (es fs : List Expr) (result : Bool) → a ≡ Or parts → b ≡ Or others → es ≡ parts.items → fs ≡ others.items →
+    result ≡ same_exprs (plain_parts es) (plain_parts fs) → result ≡ same_expr (plain_expr a) (plain_expr b)
+or_parts_test a b parts others es fs result is also same too tells =
+    tells ∙ (ap (λ xs. same_exprs (plain_parts xs) (plain_parts fs)) same ∙ (ap (λ xs. same_exprs (plain_parts parts.items) (plain_parts xs)) too
+    ∙ sym (ap (λ t. same_expr t (plain_expr b)) (ap plain_expr is ∙ plain_expr-Or parts) ∙ ap (λ t. same_expr (one_of (plain_parts parts.items)) t) (ap plain_expr also ∙ plain_expr-Or others))))
+
+-- lists of two lengths
+pub other_length : (es fs : List Expr) → (length es ≡ length fs → ⊥) → false ≡ same_exprs (plain_parts es) (plain_parts fs)
+other_length [] [] not = absurd (not refl)
+other_length [] (f ∷ fs) not = refl
+other_length (e ∷ es) [] not = refl
+other_length (e ∷ es) (f ∷ fs) not = and_false (same_expr (plain_expr e) (plain_expr f)) _ (other_length es fs (λ same. not (ap suc same)))
+  where
+    and_false : (p q : Bool) → false ≡ q → false ≡ (p && q)
+    and_false true q is = is
+    and_false false q is = refl
+
+module _ (es fs : List Expr) (i : ℕ) (e f : Expr) (below : i < length es) (also : i < length fs) (is : e ≡ get_or es i e) (too : f ≡ get_or fs i f) where
+  part_apart : same_exprs (plain_parts (drop i es)) (plain_parts (drop i fs)) ≡ (same_expr (plain_expr e) (plain_expr f) && same_exprs (plain_parts (drop (i + 1) es)) (plain_parts (drop (i + 1) fs)))
+  part_apart = rw (add-one, drop-cons es i e, drop-cons fs i f, ← is, ← too) refl
+
+  -- a part that differs
+  pub part_differs : (whole : Bool) → same_expr (plain_expr e) (plain_expr f) ≡ false → same_exprs (plain_parts (drop i es)) (plain_parts (drop i fs)) ≡ whole → false ≡ whole
+  part_differs whole differs so_far = sym (ap (λ b. b && same_exprs (plain_parts (drop (i + 1) es)) (plain_parts (drop (i + 1) fs))) differs) ∙ (sym part_apart ∙ so_far)
+
+  -- a part that is the same
+  pub part_is_same : (whole : Bool) → same_expr (plain_expr e) (plain_expr f) ≡ true → same_exprs (plain_parts (drop i es)) (plain_parts (drop i fs)) ≡ whole →
+      same_exprs (plain_parts (drop (i + 1) es)) (plain_parts (drop (i + 1) fs)) ≡ whole
+  part_is_same whole same so_far = sym (ap (λ b. b && same_exprs (plain_parts (drop (i + 1) es)) (plain_parts (drop (i + 1) fs))) same) ∙ (sym part_apart ∙ so_far)
+
+-- no part is left
+pub no_part_left : (es fs : List Expr) (i : ℕ) (whole : Bool) → length es ≡ length fs → length es ≤ i → same_exprs (plain_parts (drop i es)) (plain_parts (drop i fs)) ≡ whole → true ≡ whole
+no_part_left es fs i whole same past so_far =
+    let beyond : length fs ≤ i = omega arith in
+    let none : same_exprs (plain_parts (drop i es)) (plain_parts (drop i fs)) ≡ true = rw (drop_all i es past, drop_all i fs beyond) refl in
+    sym none ∙ so_far

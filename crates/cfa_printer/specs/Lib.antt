@@ -1,0 +1,4 @@
+pub mod Guards
+pub mod Laws
+pub mod Printing
+pub mod SameExpr

@@ -1,0 +1,86 @@
+// Guards of promises.
+ghost use Rattle.std.specs.Prelude.{◌≡◌, ◌++◌, option_copied, option_map, OnOk};
+ghost use Rattle.std.specs.String.{string_bytes};
+ghost use Rattle.cfa_tree.specs.Plain.{plain_expr};
+ghost use Rattle.cfa_printer.specs.Printing.{printed_guard, guard_line};
+ghost use Rattle.cfa_printer.specs.SameExpr.{same_expr, same_guard};
+
+use crate::expressions::{Around, push_expr};
+use cfa_base::NoMemory;
+use cfa_tree::Expr;
+
+// Whether two class expressions are the same, part by part.
+fn same_expr(a: &Expr, b: &Expr) -> bool
+    ensures { result ≡ same_expr (plain_expr a.now) (plain_expr b.now) }
+{
+    match (a, b) {
+        (Expr::Class(name), Expr::Class(other)) => name.as_str() == other.as_str(),
+        (Expr::Not(inner), Expr::Not(other)) => same_expr(inner, other),
+        (Expr::And(parts), Expr::And(others)) => {
+            let (parts, others) = (parts.as_slice(), others.as_slice());
+            if parts.len() != others.len() {
+                return false;
+            }
+            for i in 0..parts.len() {
+                if !same_expr(&parts[i], &others[i]) {
+                    return false;
+                }
+            }
+            true
+        }
+        (Expr::Or(parts), Expr::Or(others)) => {
+            let (parts, others) = (parts.as_slice(), others.as_slice());
+            if parts.len() != others.len() {
+                return false;
+            }
+            for i in 0..parts.len() {
+                if !same_expr(&parts[i], &others[i]) {
+                    return false;
+                }
+            }
+            true
+        }
+        _ => false,
+    }
+}
+
+fn same_guard(a: Option<&Expr>, b: Option<&Expr>) -> bool
+    ensures { result ≡ same_guard (option_map plain_expr (option_copied a.entry)) (option_map plain_expr (option_copied b.entry)) }
+{
+    match (a, b) {
+        (None, None) => true,
+        (None, Some(_)) => false,
+        (Some(_), None) => false,
+        (Some(a), Some(b)) => same_expr(a, b),
+    }
+}
+
+fn push_guard(out: &mut String, guard: Option<&Expr>) -> Result<(), NoMemory>
+    ensures { OnOk result (string_bytes out.new ≡ string_bytes out.old ++ printed_guard (option_map plain_expr (option_copied guard.entry))) }
+{
+    match guard {
+        None => {
+            out.push_str("any")?;
+            Ok(())
+        }
+        Some(expr) => push_expr(out, expr, Around::Nothing),
+    }
+}
+
+/// Adds the line of a guard, where it differs from that of the promise before.
+pub fn push_guard_line(
+    out: &mut String,
+    before: Option<&Expr>,
+    guard: Option<&Expr>,
+) -> Result<(), NoMemory>
+    ensures { OnOk result (string_bytes out.new ≡ string_bytes out.old
+        ++ guard_line (option_map plain_expr (option_copied before.entry)) (option_map plain_expr (option_copied guard.entry))) }
+{
+    if same_guard(before, guard) {
+        return Ok(());
+    }
+    out.push_str("    ")?;
+    push_guard(out, guard)?;
+    out.push_str("::\n")?;
+    Ok(())
+}

@@ -1,0 +1,55 @@
+// Texts in quotes.
+ghost use Rattle.std.specs.Prelude.{◌≡◌, ◌++◌, [], if◌then◌else◌, ◌==◌, OnOk};
+ghost use Rattle.std.specs.List.{flat_map};
+ghost use Rattle.std.specs.Char.{encode_utf8};
+ghost use Rattle.std.specs.String.{string_bytes};
+ghost use Rattle.cfa_printer.specs.Printing.{escaped, quoted};
+
+use cfa_base::NoMemory;
+
+// Adds a character of a text in quotes.
+fn push_escaped(out: &mut String, character: char) -> Result<(), NoMemory>
+    ensures { OnOk result (string_bytes out.new ≡ string_bytes out.old ++ flat_map escaped (encode_utf8 character)) }
+{
+    if character == '"' {
+        out.push_str("\\\"")?;
+        return Ok(());
+    }
+    if character == '\\' {
+        out.push_str("\\\\")?;
+        return Ok(());
+    }
+    out.push(character)?;
+    Ok(())
+}
+
+// Adds each character of a text in quotes.
+fn push_content(out: &mut String, content: &str) -> Result<(), NoMemory>
+    ensures { OnOk result (string_bytes out.new ≡ string_bytes out.old ++ flat_map escaped content.now) }
+{
+    for character in content.chars() {
+        push_escaped(out, character)?;
+    }
+    Ok(())
+}
+
+/// Adds a text in quotes.
+pub fn push_quoted(out: &mut String, content: &str) -> Result<(), NoMemory>
+    ensures { OnOk result (string_bytes out.new ≡ string_bytes out.old ++ quoted content.now) }
+{
+    out.push_str("\"")?;
+    push_content(out, content)?;
+    out.push_str("\"")?;
+    Ok(())
+}
+
+/// Adds the separator before each text but the first.
+pub fn push_between(out: &mut String, index: usize, separator: &str) -> Result<(), NoMemory>
+    ensures { OnOk result (string_bytes out.new ≡ string_bytes out.old ++ (if index == 0 then [] else separator.now)) }
+{
+    if index == 0 {
+        return Ok(());
+    }
+    out.push_str(separator)?;
+    Ok(())
+}
