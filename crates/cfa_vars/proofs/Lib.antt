@@ -1,0 +1,8 @@
+pub mod NamedLemmas
+pub mod NameLemmas
+pub mod ReferenceLemmas
+pub mod ExpansionLemmas
+pub mod ChoiceLemmas
+mod ExpansionRows
+mod ChoiceRows
+pub mod ListReferenceLemmas

@@ -1,0 +1,5 @@
+pub mod References
+pub mod Named
+pub mod Scopes
+pub mod Expansion
+pub mod Choices

@@ -1,0 +1,17 @@
+//! Variables: the scopes that keep them, the references of a text and what they stand for, the expansion of a text,
+//! and the combinations that lists give.
+#![tactic(auto)]
+
+mod choosing;
+mod expanding;
+mod looking;
+mod references;
+mod scoping;
+#[cfg(test)]
+mod tests;
+
+pub use choosing::{Choice, ChoiceList, Choices, combinations};
+pub use expanding::{Expanded, expand};
+pub use looking::{Scopes, Variable, list_key, look_up};
+pub use references::{Reference, first_reference, list_reference};
+pub use scoping::{Datum, Scope};

@@ -1,0 +1,172 @@
+// The references of a text.
+ghost use Rattle.std.specs.Prelude.{◌≡◌, ◌+◌, ◌<◌, ℕ, true, false, [], ◌∷◌, ◌++◌, length, take, drop, map, Some, None, MatchOption, IfSome, IsTrue};
+ghost use Rattle.std.specs.List.{list_all, prefix_len, position_or_len};
+ghost use Rattle.std.specs.Option.{option_map, option_copied};
+ghost use Rattle.cfa_vars.specs.References.{is_word_byte, is_name_byte, is_dot, is_word, is_name, is_qualified, bundle_part, word_part, closing, name_before, reference_at, literal, reference, pieces, list_reference_of};
+
+fn is_word_byte(byte: u8) -> bool
+    ensures { result ≡ is_word_byte byte }
+{
+    matches!(byte, b'a'..=b'z' | b'A'..=b'Z' | b'0'..=b'9' | b'_')
+}
+
+fn is_name_byte(byte: u8) -> bool
+    ensures { result ≡ is_name_byte byte }
+{
+    is_word_byte(byte) || byte == b'.'
+}
+
+fn are_word_bytes(text: &[u8]) -> bool
+    ensures { result ≡ list_all is_word_byte text.now }
+{
+    text.iter().all(|byte| is_word_byte(*byte))
+}
+
+fn is_word(text: &[u8]) -> bool
+    ensures { result ≡ is_word text.now }
+{
+    !text.is_empty() && are_word_bytes(text)
+}
+
+// How many bytes stand before the first dot.
+fn bundle_length(name: &[u8]) -> usize
+    ensures { result ≡ position_or_len is_dot name.now }
+{
+    for (place, byte) in name.iter().enumerate() {
+        if *byte == b'.' {
+            return place;
+        }
+    }
+    name.len()
+}
+
+pub(crate) fn is_name(text: &[u8]) -> bool
+    ensures { result ≡ is_name text.now }
+{
+    if is_word(text) {
+        return true;
+    }
+    let dot = bundle_length(text);
+    dot < text.len() && is_word(&text[..dot]) && is_word(&text[dot + 1..])
+}
+
+// The bundle and the word of a qualified name.
+pub(crate) fn split_name(name: &str) -> Option<(&str, &str)>
+    ensures { MatchOption result (is_qualified name.now ≡ false)
+        (λ parts. (is_qualified name.now ≡ true) × (parts.0.now ≡ bundle_part name.now) × (parts.1.now ≡ word_part name.now)) }
+{
+    name.split_once('.')
+}
+
+// How many name bytes a text begins with.
+fn name_bytes(text: &[u8]) -> usize
+    ensures { result ≡ prefix_len is_name_byte text.now }
+{
+    for (place, byte) in text.iter().enumerate() {
+        if !is_name_byte(*byte) {
+            return place;
+        }
+    }
+    text.len()
+}
+
+fn closing(bracket: u8) -> Option<u8>
+    ensures { result ≡ closing bracket }
+{
+    match bracket {
+        b'(' => Some(b')'),
+        b'{' => Some(b'}'),
+        _ => None,
+    }
+}
+
+// The length of the name that stands before a closing bracket.
+fn name_length(rest: &[u8], close: u8) -> Option<usize>
+    requires { 0 < close }
+    ensures { result ≡ option_map length (name_before (Some close) rest.now) }
+{
+    let length = name_bytes(rest);
+    if length < rest.len() && rest[length] == close && is_name(&rest[..length]) {
+        Some(length)
+    } else {
+        None
+    }
+}
+
+// The length of the name of the reference at the front of a text.
+#[tactic(auto, unfolding(crate::specs::References::reference_at))]
+fn reference_length(text: &[u8]) -> Option<usize>
+    ensures { result ≡ option_map length (reference_at text.now) }
+{
+    if text.len() < 2 || text[0] != b'$' {
+        return None;
+    }
+    let close = closing(text[1])?;
+    name_length(&text[2..], close)
+}
+
+/// A reference in a text: what stands before it, the name between its brackets, and what stands after it.
+#[derive(Clone, Copy, Debug)]
+pub struct Reference<'a> {
+    pub before: &'a str,
+    pub name: &'a str,
+    pub after: &'a str,
+}
+
+// The reference whose `$` stands at a place.
+fn cut(text: &str, place: usize, size: usize) -> Reference<'_>
+    requires { option_map length (reference_at (drop place text.now)) ≡ Some size }
+    ensures before { result.before.now ≡ take place text.now }
+    ensures name { reference_at (drop place text.now) ≡ Some result.name.now }
+    ensures size { length result.name.now ≡ size }
+    ensures after { result.after.now ≡ drop (place + size + 3) text.now }
+{
+    Reference {
+        before: &text[..place],
+        name: &text[place + 2..place + 2 + size],
+        after: &text[place + size + 3..],
+    }
+}
+
+/// The first reference of a text, without taking memory. `None` where the text is literal bytes alone.
+pub fn first_reference(text: &str) -> Option<Reference<'_>>
+    ensures first { MatchOption result (pieces text.now ≡ map literal text.now)
+        (λ r. pieces text.now ≡ map literal r.before.now ++ reference r.name.now ∷ pieces r.after.now) }
+    ensures name { IfSome result (λ r. IsTrue (is_name r.name.now)) }
+    ensures after { IfSome result (λ r. r.after.now ≡ drop (length r.before.now + length r.name.now + 3) text.now) }
+    ensures shorter { IfSome result (λ r. length r.after.now < length text.now) }
+{
+    let bytes = text.as_bytes();
+    for place in 0..bytes.len() {
+        if let Some(size) = reference_length(&bytes[place..]) {
+            return Some(cut(text, place, size));
+        }
+    }
+    None
+}
+
+// The length of the name of a text that is wholly a list reference.
+#[tactic(auto, unfolding(crate::specs::References::list_reference_of))]
+fn list_reference_length(text: &[u8]) -> Option<usize>
+    ensures { result ≡ option_map length (list_reference_of text.now) }
+{
+    if text.len() < 2 || text[0] != b'@' {
+        return None;
+    }
+    let close = closing(text[1])?;
+    let size = name_length(&text[2..], close)?;
+    if size + 3 == text.len() {
+        Some(size)
+    } else {
+        None
+    }
+}
+
+/// The name of a text that is wholly a list reference, `@(name)` or `@{name}`, without taking memory. `None` for every
+/// other text.
+pub fn list_reference(text: &str) -> Option<&str>
+    ensures { option_copied result ≡ list_reference_of text.now }
+{
+    let size = list_reference_length(text.as_bytes())?;
+    Some(&text[2..2 + size])
+}
