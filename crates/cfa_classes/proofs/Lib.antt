@@ -1,0 +1,7 @@
+pub mod CalendarLemmas
+pub mod CalendarRows
+pub mod ClassRows
+pub mod DayLemmas
+pub mod Orders
+pub mod RaisedLemmas
+pub mod Turns

@@ -1,0 +1,15 @@
+//! Classes: the value of a class expression, the statuses that classes were raised to, and the calendar classes of a
+//! moment.
+#![tactic(auto)]
+
+mod calendar;
+mod levels;
+mod raising;
+#[cfg(test)]
+mod tests;
+mod valuing;
+
+pub use calendar::{LAST_MOMENT, hard};
+pub use levels::Status;
+pub use raising::Statuses;
+pub use valuing::value;
