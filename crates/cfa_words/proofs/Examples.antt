@@ -1,0 +1,102 @@
+-- Command lines and what they ask for, computed from the definition.
+use Rattle.std.proofs.Common.{◌≡◌, ◌∷◌, [], Option, Some, None, true, false, refl, codes, List}
+use Rattle.cfa_words.specs.Words.{Text, asked}
+use Rattle.cfa_words.specs.declared.words.Request.{Request}
+use Rattle.cfa_words.specs.declared.words.Request.TheVariants.{Run, Check, Show}
+
+abbrev a_cf : Text
+a_cf = codes "a.cf"
+
+-- `run a.cf`, and one word more
+abbrev run_with : Text → Option Request
+run_with word = asked (codes "run" ∷ a_cf ∷ word ∷ [])
+
+abbrev refused : Option Request
+refused = None
+
+abbrev with_classes : List Text → Option Request
+with_classes names = Some (Run a_cf names false false)
+
+plain_run : asked (codes "run" ∷ a_cf ∷ []) ≡ Some (Run a_cf [] false false)
+plain_run = refl
+
+lock_before : asked (codes "-K" ∷ codes "run" ∷ a_cf ∷ []) ≡ Some (Run a_cf [] true false)
+lock_before = refl
+
+lock_after : run_with (codes "--no-lock") ≡ Some (Run a_cf [] true false)
+lock_after = refl
+
+strict_run : run_with (codes "--strict") ≡ Some (Run a_cf [] false true)
+strict_run = refl
+
+attached : run_with (codes "-Da,b") ≡ with_classes (codes "a" ∷ codes "b" ∷ [])
+attached = refl
+
+after_equals_sign : run_with (codes "-D=a,b") ≡ with_classes (codes "a" ∷ codes "b" ∷ [])
+after_equals_sign = refl
+
+long_equals_sign : run_with (codes "--define=a,b") ≡ with_classes (codes "a" ∷ codes "b" ∷ [])
+long_equals_sign = refl
+
+next_word : asked (codes "run" ∷ codes "--define" ∷ codes "web,Hr10" ∷ a_cf ∷ []) ≡ with_classes (codes "web" ∷ codes "Hr10" ∷ [])
+next_word = refl
+
+bundled : run_with (codes "-KDa") ≡ Some (Run a_cf (codes "a" ∷ []) true false)
+bundled = refl
+
+ended : asked (codes "--" ∷ codes "run" ∷ codes "-K" ∷ []) ≡ Some (Run (codes "-K") [] false false)
+ended = refl
+
+dash_alone : asked (codes "show" ∷ codes "-" ∷ []) ≡ Some (Show (codes "-"))
+dash_alone = refl
+
+checked : asked (codes "check" ∷ a_cf ∷ codes "-D" ∷ codes "a" ∷ []) ≡ Some (Check a_cf (codes "a" ∷ []))
+checked = refl
+
+twice : asked (codes "run" ∷ a_cf ∷ codes "-K" ∷ codes "--no-lock" ∷ []) ≡ refused
+twice = refl
+
+two_lists : asked (codes "run" ∷ a_cf ∷ codes "-Da" ∷ codes "-Db" ∷ []) ≡ refused
+two_lists = refl
+
+no_class : run_with (codes "-Da-b") ≡ refused
+no_class = refl
+
+empty_class : run_with (codes "-Da,,b") ≡ refused
+empty_class = refl
+
+empty_list : run_with (codes "--define=") ≡ refused
+empty_list = refl
+
+no_text : run_with (codes "-D") ≡ refused
+no_text = refl
+
+dashed_text : asked (codes "run" ∷ a_cf ∷ codes "-D" ∷ codes "-K" ∷ []) ≡ refused
+dashed_text = refl
+
+flag_with_value : run_with (codes "--no-lock=x") ≡ refused
+flag_with_value = refl
+
+cut_name : run_with (codes "--stri") ≡ refused
+cut_name = refl
+
+third_word : run_with (codes "b") ≡ refused
+third_word = refl
+
+strict_check : asked (codes "check" ∷ a_cf ∷ codes "--strict" ∷ []) ≡ refused
+strict_check = refl
+
+lock_show : asked (codes "show" ∷ a_cf ∷ codes "-K" ∷ []) ≡ refused
+lock_show = refl
+
+other_command : asked (codes "start" ∷ a_cf ∷ []) ≡ refused
+other_command = refl
+
+one_word : asked (codes "run" ∷ []) ≡ refused
+one_word = refl
+
+no_words : asked [] ≡ refused
+no_words = refl
+
+help : asked (codes "run" ∷ a_cf ∷ codes "--help" ∷ []) ≡ refused
+help = refl

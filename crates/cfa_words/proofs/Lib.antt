@@ -1,0 +1,7 @@
+mod Examples
+pub mod Rows
+pub mod Walking
+pub mod Law
+pub mod Looks
+pub mod Reading
+pub mod Lines
