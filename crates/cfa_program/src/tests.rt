@@ -1,0 +1,412 @@
+// Calls of the top call over objects in memory: worlds, logs, lines and statuses.
+use crate::agent::agent_main;
+use cfa_base::{Bytes, Name};
+use cfa_outside::{MemoryInputs, MemorySink, MemorySite, World};
+use std::alloc::Global;
+use std::process::Abort;
+use std::test::Fail;
+
+const MOTD: &str = "bundle agent main\n{\n  files:\n    \"/etc/motd\" create => \"true\";\n}\n";
+
+const MOTD_REPAIRED: &str = "repaired main:1@4 1\ntotal kept 0 repaired 1 failed 0 skipped 0\n";
+
+const MOTD_KEPT: &str = "total kept 1 repaired 0 failed 0 skipped 0\n";
+
+const BENEATH_A_FILE: &str =
+    "bundle agent main\n{\n  files:\n    \"/a\" create => \"true\";\n    \"/a/b\" create => \"true\";\n}\n";
+
+const EMPTY: &str = "bundle agent main\n{\n  files:\n}\n";
+
+// A call of the program: its words, its moment, the text of `a.cf`, the call of each object that fails (0: none), and the
+// room of the sink; then what it must put and answer, and how many entries the site's log has afterwards.
+#[derive(Clone, Copy)]
+struct Case<'a> {
+    words: &'a str,
+    moment: u64,
+    text: &'a str,
+    failing_read: u32,
+    failing_call: u32,
+    failing_put: u32,
+    room: usize,
+    lines: &'a str,
+    status: u8,
+    entries: usize,
+}
+
+const PLAIN: Case<'static> = Case {
+    words: "run a.cf",
+    moment: 1_704_103_200,
+    text: MOTD,
+    failing_read: 0,
+    failing_call: 0,
+    failing_put: 0,
+    room: 4096,
+    lines: MOTD_REPAIRED,
+    status: 0,
+    entries: 1,
+};
+
+fn empty_site(alloc: Global, failing_call: u32) -> Result<MemorySite, Fail> {
+    Ok(MemorySite::new(
+        alloc,
+        World::new(alloc),
+        vec![in alloc; failing_call]?,
+        None,
+    )?)
+}
+
+fn inputs_of(alloc: Global, text: &str, failing_read: u32) -> Result<MemoryInputs, Fail> {
+    let mut texts = Vec::new(alloc);
+    texts.push((
+        Name::from_text(alloc, "a.cf")?,
+        Bytes::from_slice(alloc, text.as_bytes())?,
+    ))?;
+    Ok(MemoryInputs::new(alloc, texts, vec![in alloc; failing_read]?)?)
+}
+
+fn words_of(alloc: Global, line: &str) -> Result<Vec<Name>, Fail> {
+    let mut words = Vec::new(alloc);
+    for word in line.split(' ') {
+        words.push(Name::from_text(alloc, word)?)?;
+    }
+    Ok(words)
+}
+
+// Makes the call on this site, and compares.
+fn compare(rt: &impl Abort, alloc: Global, case: &Case, site: &mut MemorySite) -> Result<(), Fail> {
+    let words = words_of(alloc, case.words)?;
+    let mut inputs = inputs_of(alloc, case.text, case.failing_read)?;
+    let mut out = MemorySink::new(alloc, case.room, vec![in alloc; case.failing_put]?)?;
+    let status = agent_main(
+        alloc,
+        words.as_slice(),
+        case.moment,
+        &mut inputs,
+        site,
+        &mut out,
+    );
+    assert!(rt; status == case.status, "status of {}", case.words);
+    assert!(rt;
+        out.bytes() == case.lines.as_bytes(),
+        "lines of {}",
+        case.lines
+    );
+    assert!(rt;
+        site.log().len() == case.entries,
+        "entries of {}",
+        case.lines
+    );
+    Ok(())
+}
+
+#[test]
+fn a_rerun_keeps_what_a_run_made(rt: HostRuntime) -> Result<(), Fail> {
+    let mut site = empty_site(rt.alloc(), 0)?;
+    let kept = Case {
+        lines: MOTD_KEPT,
+        ..PLAIN
+    };
+    for case in &[PLAIN, kept, kept] {
+        compare(&rt, rt.alloc(), case, &mut site)?;
+    }
+    Ok(())
+}
+
+// Calls on an empty world.
+const ON_AN_EMPTY_WORLD: [Case<'static>; 17] = [
+    Case {
+        text: BENEATH_A_FILE,
+        lines: "repaired main:1@4 1\nfailed main:2@5 F3 Obstructed\ntotal kept 0 repaired 1 failed 1 skipped 0\n",
+        status: 2,
+        ..PLAIN
+    },
+    Case {
+        text: "bundle agent other\n{\n  files:\n    \"/etc/motd\" create => \"true\";\n}\n",
+        lines: "a.cf:1 form\n",
+        status: 1,
+        entries: 0,
+        ..PLAIN
+    },
+    Case {
+        failing_call: 1,
+        lines: "failed main:1@4 F11 Fault\ntotal kept 0 repaired 0 failed 1 skipped 0\n",
+        status: 2,
+        ..PLAIN
+    },
+    Case {
+        failing_call: 2,
+        lines: "failed main:1@4 F11 Fault\ntotal kept 0 repaired 0 failed 1 skipped 0\n",
+        status: 2,
+        ..PLAIN
+    },
+    Case {
+        text: EMPTY,
+        lines: "total kept 0 repaired 0 failed 0 skipped 0\n",
+        entries: 0,
+        ..PLAIN
+    },
+    Case {
+        text: "bundle agent main\n{\n  files:\n    \"/a/../b\" create => \"true\";\n}\n",
+        lines: "a.cf:4 form\n",
+        status: 1,
+        entries: 0,
+        ..PLAIN
+    },
+    Case {
+        text: "bundle agent main\n{\n  files:\n    \"/a\" create => \"true\";\n",
+        lines: "a.cf:5 form\n",
+        status: 1,
+        entries: 0,
+        ..PLAIN
+    },
+    Case {
+        words: "run b.cf",
+        lines: "stopped: outside\n",
+        status: 4,
+        entries: 0,
+        ..PLAIN
+    },
+    Case {
+        failing_read: 1,
+        lines: "stopped: outside\n",
+        status: 4,
+        entries: 0,
+        ..PLAIN
+    },
+    Case {
+        words: "check a.cf",
+        lines: "words: refused\n",
+        status: 1,
+        entries: 0,
+        ..PLAIN
+    },
+    Case {
+        words: "run",
+        lines: "words: refused\n",
+        status: 1,
+        entries: 0,
+        ..PLAIN
+    },
+    Case {
+        words: "run a.cf b.cf",
+        lines: "words: refused\n",
+        status: 1,
+        entries: 0,
+        ..PLAIN
+    },
+    Case {
+        words: "run a.cf -K -D web,Hr10 --strict",
+        ..PLAIN
+    },
+    Case {
+        words: "run a.cf -D a-b",
+        lines: "words: refused\n",
+        status: 1,
+        entries: 0,
+        ..PLAIN
+    },
+    Case {
+        moment: 253_370_764_799,
+        ..PLAIN
+    },
+    Case {
+        moment: 253_370_764_800,
+        lines: "moment: refused\n",
+        status: 1,
+        entries: 0,
+        ..PLAIN
+    },
+    Case {
+        words: "start a.cf",
+        moment: 253_370_764_800,
+        lines: "words: refused\n",
+        status: 1,
+        entries: 0,
+        ..PLAIN
+    },
+];
+
+#[test]
+fn each_call_on_an_empty_world(rt: HostRuntime) -> Result<(), Fail> {
+    for case in &ON_AN_EMPTY_WORLD {
+        let mut site = empty_site(rt.alloc(), case.failing_call)?;
+        compare(&rt, rt.alloc(), case, &mut site)?;
+    }
+    Ok(())
+}
+
+// Calls whose sink fails at a put, or is full.
+const WITH_A_FAILING_SINK: [Case<'static>; 4] = [
+    Case {
+        failing_put: 1,
+        lines: "",
+        status: 4,
+        ..PLAIN
+    },
+    Case {
+        failing_put: 2,
+        lines: "repaired main:1@4 1\n",
+        status: 4,
+        ..PLAIN
+    },
+    Case {
+        room: 25,
+        lines: "repaired main:1@4 1\ntotal",
+        status: 4,
+        ..PLAIN
+    },
+    Case {
+        words: "audit j",
+        room: 0,
+        lines: "",
+        status: 4,
+        entries: 0,
+        ..PLAIN
+    },
+];
+
+const SHOWN: Case<'static> = Case {
+    words: "show a.cf",
+    lines: "",
+    entries: 0,
+    ..PLAIN
+};
+
+// Policies that are shown, or refused at their first fault.
+const SHOWS: [Case<'static>; 11] = [
+    Case {
+        lines: MOTD,
+        ..SHOWN
+    },
+    Case { text: "", ..SHOWN },
+    Case {
+        text: "bundle agent main { files: !!!!!!!!!!!!!!!!!",
+        lines: "a.cf:1:44 P2 TooDeep\n",
+        status: 1,
+        ..SHOWN
+    },
+    Case {
+        text: "bundle agent main { files: !!!!!!!!!!!!!!!!x:: }",
+        lines: "bundle agent main\n{\n  files:\n}\n",
+        ..SHOWN
+    },
+    Case {
+        text: "%",
+        lines: "a.cf:1:1 L1 BadByte\n",
+        status: 1,
+        ..SHOWN
+    },
+    Case {
+        text: "bundle agent main\n{\n  files:\n    \"/etc/mo",
+        lines: "a.cf:4:5 L2 UnclosedText\n",
+        status: 1,
+        ..SHOWN
+    },
+    Case {
+        text: "bundle agent main\n{\n  files:\n    \"/etc/motd\" create => \"true\";\n",
+        lines: "a.cf:5:1 P1 Unexpected\n",
+        status: 1,
+        ..SHOWN
+    },
+    Case {
+        text: "bundle agent main(a) {\n files: web|(db.!old)::\n '/etc/\\\"x' -> { \"ops\", 'it' } perms=>m(\"600\"), # why\n comment=>'say \"hi\"',; any:: \"/b\"; }",
+        lines: "bundle agent main(a)\n{\n  files:\n    web|db.!old::\n    \"/etc/\\\"x\" -> { \"ops\", \"it\" } perms => m(\"600\"), comment => \"say \\\"hi\\\"\";\n    any::\n    \"/b\";\n}\n",
+        ..SHOWN
+    },
+    Case {
+        words: "show b.cf",
+        lines: "stopped: outside\n",
+        status: 4,
+        ..SHOWN
+    },
+    Case {
+        words: "show a.cf --strict",
+        lines: "words: refused\n",
+        status: 1,
+        ..SHOWN
+    },
+    Case {
+        failing_put: 1,
+        status: 4,
+        ..SHOWN
+    },
+];
+
+#[test]
+fn shows_what_reads(rt: HostRuntime) -> Result<(), Fail> {
+    for case in &SHOWS {
+        let mut site = empty_site(rt.alloc(), case.failing_call)?;
+        compare(&rt, rt.alloc(), case, &mut site)?;
+    }
+    Ok(())
+}
+
+// Makes a call on a source of any bytes, and compares what it puts.
+fn compare_source(rt: &impl Abort, alloc: Global, source: &[u8], lines: &str) -> Result<(), Fail> {
+    let mut texts = Vec::new(alloc);
+    texts.push((
+        Name::from_text(alloc, "a.cf")?,
+        Bytes::from_slice(alloc, source)?,
+    ))?;
+    let mut inputs = MemoryInputs::new(alloc, texts, Vec::new(alloc))?;
+    let mut site = empty_site(alloc, 0)?;
+    let mut out = MemorySink::new(alloc, 4096, Vec::new(alloc))?;
+    let words = words_of(alloc, "show a.cf")?;
+    let status = agent_main(alloc, words.as_slice(), 0, &mut inputs, &mut site, &mut out);
+    assert!(rt; status == 1);
+    assert!(rt; out.bytes() == lines.as_bytes());
+    Ok(())
+}
+
+#[test]
+fn a_source_is_a_text_of_a_mebibyte_at_most(rt: HostRuntime) -> Result<(), Fail> {
+    let spaces = vec![in rt.alloc(); b' '; 1_048_577]?;
+    compare_source(&rt, rt.alloc(), spaces.as_slice(), "a.cf L4 TooLong\n")?;
+    compare_source(&rt, rt.alloc(), &[255], "a.cf:1:1 L3 NotText\n")
+}
+
+// After a put that failed nothing more is put, not even the line of the stop.
+#[test]
+fn a_failing_sink_stops_the_call(rt: HostRuntime) -> Result<(), Fail> {
+    for case in &WITH_A_FAILING_SINK {
+        let mut site = empty_site(rt.alloc(), case.failing_call)?;
+        compare(&rt, rt.alloc(), case, &mut site)?;
+    }
+    Ok(())
+}
+
+// A policy of so many files, whose paths don't come in the order of their texts.
+fn policy_of_files(alloc: Global, count: u32) -> Result<String, Fail> {
+    let mut text = "bundle agent main\n{\n  files:\n".to_string(alloc)?;
+    for number in 0..count {
+        let scattered = u64::from(number) * 7919 % 10007;
+        let line = format!(in alloc;
+            "    \"/data/part-{}/f{number}\" create => \"true\";\n",
+            scattered % 100
+        )?;
+        text.push_str(line.as_str())?;
+    }
+    text.push_str("}\n")?;
+    Ok(text)
+}
+
+#[test]
+fn ten_thousand_files(rt: HostRuntime) -> Result<(), Fail> {
+    let alloc = rt.alloc();
+    let text = policy_of_files(alloc, 10_000)?;
+    let mut site = empty_site(alloc, 0)?;
+    let words = words_of(alloc, "run a.cf")?;
+    let totals = [
+        "total kept 0 repaired 10000 failed 0 skipped 0\n",
+        "total kept 10000 repaired 0 failed 0 skipped 0\n",
+    ];
+    for total in totals {
+        let mut inputs = inputs_of(alloc, text.as_str(), 0)?;
+        let mut out = MemorySink::new(alloc, 1_048_576, Vec::new(alloc))?;
+        let status = agent_main(alloc, words.as_slice(), 0, &mut inputs, &mut site, &mut out);
+        assert!(rt; status == 0);
+        assert!(rt; out.bytes().ends_with(total.as_bytes()));
+        assert!(rt; site.log().len() == 10_000);
+    }
+    Ok(())
+}
