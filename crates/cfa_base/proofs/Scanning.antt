@@ -6,8 +6,9 @@ use Rattle.std.proofs.lemmas.List.{take_at, drop_at, take-append-drop, length-ta
 use Rattle.cfa_base.specs.declared.tokens.Kind.{Kind}
 use Rattle.cfa_base.specs.declared.places.Place.{Place}
 use Rattle.cfa_base.specs.Tokens.{Token}
-use Rattle.cfa_base.specs.Lexing.{spells, is_separator, is_hash, line_of, past_line, place_past, place_after, fault_at, Fault, Takes, BeginsNone, Scans, ends, a_separator, a_comment, a_token, stops, Lexes, FirstFault}
-use Rattle.cfa_base.proofs.Spelled.{kind_at, kind_is, spelled_at, nothing_spells, separator_begins_none}
+use Rattle.cfa_base.specs.Lexing.{spells, is_separator, is_hash, line_of, past_line, place_past, place_after, Fault, Takes, BeginsNone, Scans, ends, a_separator, a_comment, a_token, stops, Lexes, FirstFault}
+use Rattle.cfa_base.specs.Scanned.{kind_at, longer_if, longest_len, Scanned, at_front, at_byte, scan}
+use Rattle.cfa_base.proofs.Spelled.{kind_is, spelled_at, nothing_spells, separator_begins_none}
 
 -- two fronts of the same bytes that are equally long are one
 pub same_front : (xs s ys t bytes : List ℕ) → xs ++ s ≡ bytes → ys ++ t ≡ bytes → length xs ≡ length ys → (xs ≡ ys) × (s ≡ t)
@@ -81,15 +82,6 @@ scans_same (stops neither none) (stops also none_too) = (refl, refl)
 
 -- The bytes scan in some way.
 
--- the length of the longest front of at most n bytes that spells a token, and 0 where there is none
-abbrev pub longer_if : Bool → ℕ → ℕ → ℕ
-longer_if true longer shorter = longer
-longer_if false longer shorter = shorter
-
-abbrev pub longest_len : List ℕ → ℕ → ℕ
-longest_len bytes zero = 0
-longest_len bytes (suc n) = longer_if (spells (kind_at (take (suc n) bytes)) (take (suc n) bytes)) (suc n) (longest_len bytes n)
-
 -- what a length of the longest front says
 abbrev pub Found : List ℕ → ℕ → Type 0
 Found bytes zero = BeginsNone bytes
@@ -123,32 +115,6 @@ found bytes (suc n) within none = found_by bytes n within none (found bytes n (o
 -- the longest token at the front of the bytes, or none
 pub found_in : (bytes : List ℕ) → Found bytes (longest_len bytes (length bytes))
 found_in bytes = found bytes (length bytes) (omega arith) (λ kind front after cut spelled. omega (arith, length-append front after, ap length cut))
-
--- the tokens and the first fault that some bytes scan to
-pub record Scanned : Type 0 where
-  pub tokens : List Token
-  pub fault : Option Fault
-
-abbrev pub with_token : Token → Scanned → Scanned
-with_token token scanned = record { tokens = token ∷ scanned.tokens; fault = scanned.fault }
-
-module _ (later : Place → List ℕ → Scanned) where
-  abbrev pub at_front : ℕ → Place → ℕ → List ℕ → Scanned
-  at_front zero place b rest = record { tokens = []; fault = Some (fault_at place b) }
-  at_front (suc n) place b rest =
-      let text = take (suc n) (b ∷ rest) in
-      with_token (record { kind = kind_at text; text = text; place = place }) (later (place_after place text) (drop (suc n) (b ∷ rest)))
-
-  abbrev pub at_byte : (separates begins_comment : Bool) → Place → ℕ → List ℕ → Scanned
-  at_byte true begins_comment place b rest = later (place_past place b) rest
-  at_byte false true place b rest = later (place_after (place_past place b) (line_of rest)) (past_line rest)
-  at_byte false false place b rest = at_front (longest_len (b ∷ rest) (length (b ∷ rest))) place b rest
-
--- what bytes from a place on scan to, at most n of them
-abbrev pub scan : ℕ → Place → List ℕ → Scanned
-scan zero place bytes = record { tokens = []; fault = None }
-scan (suc n) place [] = record { tokens = []; fault = None }
-scan (suc n) place (b ∷ rest) = at_byte (scan n) (is_separator b) (is_hash b) place b rest
 
 abbrev pub ScansTo : Place → List ℕ → Scanned → Type 0
 ScansTo place bytes scanned = Scans place bytes scanned.tokens scanned.fault

@@ -1,38 +1,13 @@
 -- What a token's spelling tells: its first byte, and with `:` whether more follows, determines its kind.
 use Rattle.std.proofs.Common.{◌≡◌, ℕ, true, false, ◌||◌, List, [], ◌∷◌, ◌++◌, refl, ap, sym, ◌∙◌, subst, ⊎_elim}
-use Rattle.std.specs.Prelude.{IsTrue, if◌then◌else◌, ◌==◌}
+use Rattle.std.specs.Prelude.{IsTrue, ◌==◌}
 use Rattle.std.specs.Str.{bytes_eq}
 use Rattle.std.specs.Cmp.Lexicographic.{same_text}
 use Rattle.std.proofs.lemmas.Bool.{false≢true, eqb-true, and_parts, or_cases, cond-true}
 use Rattle.cfa_base.specs.declared.tokens.Kind.{Kind}
 use Rattle.cfa_base.specs.declared.tokens.Kind.TheVariants.{Word, Text, Ref, ListRef, FatArrow, ThinArrow, DoubleColon, Colon, Comma, Semicolon, OpenBrace, CloseBrace, OpenParen, CloseParen, Bang, Dot, And, Or}
-use Rattle.cfa_base.specs.Lexing.{is_word_byte, is_nothing, is_quote, is_name, name_of, is_reference, is_separator, is_hash, spells}
-
--- the only kind that a text with this first byte and these further bytes may spell
-abbrev pub kind_from : ℕ → List ℕ → Kind
-kind_from b bs =
-    if is_word_byte b then Word
-    else (if is_quote b then Text
-    else (if b == 36 then Ref
-    else (if b == 64 then ListRef
-    else (if b == 61 then FatArrow
-    else (if b == 45 then ThinArrow
-    else (if b == 58 then (if is_nothing bs then Colon else DoubleColon)
-    else (if b == 44 then Comma
-    else (if b == 59 then Semicolon
-    else (if b == 123 then OpenBrace
-    else (if b == 125 then CloseBrace
-    else (if b == 40 then OpenParen
-    else (if b == 41 then CloseParen
-    else (if b == 33 then Bang
-    else (if b == 46 then Dot
-    else (if b == 38 then And
-    else Or)))))))))))))))
-
--- the only kind that a text may spell
-abbrev pub kind_at : List ℕ → Kind
-kind_at [] = Word
-kind_at (b ∷ bs) = kind_from b bs
+use Rattle.cfa_base.specs.Lexing.{is_word_byte, is_quote, is_name, name_of, is_reference, is_separator, is_hash, spells}
+use Rattle.cfa_base.specs.Scanned.{kind_at}
 
 pub same_bytes : (xs ys : List ℕ) → IsTrue (bytes_eq xs ys) → xs ≡ ys
 same_bytes xs ys same = same_text xs ys (sym same)

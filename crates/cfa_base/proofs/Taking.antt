@@ -1,16 +1,17 @@
 -- Where a text that spells a token stands at the front of some bytes, what follows it tells whether it is the longest.
-use Rattle.std.proofs.Common.{◌≡◌, ℕ, ◌+◌, ◌≤◌, ◌<◌, Bool, true, false, ◌&&◌, ◌||◌, List, [], ◌∷◌, ◌++◌, length, take, ◌-◌, get_or, refl, ap, sym, ◌∙◌, subst, ◌⊎◌, inl, inr, ⊎_elim, arith}
+use Rattle.std.proofs.Common.{◌≡◌, ℕ, suc, ◌+◌, ◌≤◌, ◌<◌, Bool, true, false, ◌&&◌, ◌||◌, List, [], ◌∷◌, ◌++◌, length, take, drop, ◌-◌, get_or, refl, ap, sym, ◌∙◌, subst, ◌⊎◌, inl, inr, ⊎_elim, arith}
 use Rattle.std.specs.Prelude.{IsTrue, not, if◌then◌else◌, ◌==◌}
-use Rattle.std.specs.List.{list_all, before_first, after_first, position_or_len}
+use Rattle.std.specs.List.{list_all, before_first, after_first, position_or_len, prefix_len, take_while}
 use Rattle.std.specs.Str.{bytes_eq}
-use Rattle.std.proofs.lemmas.Bool.{false≢true, both_ways, or_left, or_right, or_cases, and_parts, not-true, cond-true, eq-eqb, and_from, not_from_false, cases_lt}
+use Rattle.std.proofs.lemmas.Bool.{false≢true, both_ways, or_left, or_right, or_cases, and_parts, not-true, cond-true, eq-eqb, and_from, not_from_false, cases_lt, cases_Bool, cond-false}
 use Rattle.std.proofs.lemmas.List.{append_assoc, length-append, drop_all, take_at}
 use Rattle.std.proofs.lemmas.List.Sums.{split_at_first, passes_at_first}
 use Rattle.std.proofs.lemmas.List.Folds.{list_all-append}
 use Rattle.cfa_base.specs.declared.tokens.Kind.{Kind}
 use Rattle.cfa_base.specs.declared.tokens.Kind.TheVariants.{Word, Text, Ref, ListRef, FatArrow, ThinArrow, DoubleColon, Colon, Comma, Semicolon, OpenBrace, CloseBrace, OpenParen, CloseParen, Bang, Dot, And, Or}
 use Rattle.cfa_base.specs.Lexing.{is_word_byte, is_word, is_dot, is_nothing, is_quote, is_quoted, closes, is_name, name_of, is_reference, spells, Takes}
-use Rattle.cfa_base.proofs.Spelled.{kind_from, spelled_at, same_bytes, quote_is}
+use Rattle.cfa_base.specs.Scanned.{kind_from}
+use Rattle.cfa_base.proofs.Spelled.{spelled_at, same_bytes, quote_is}
 use Rattle.cfa_base.proofs.Scanning.{front_first}
 
 -- a front that spells a token has the first byte of the bytes, and the kind that this byte gives
@@ -88,6 +89,13 @@ bars_within tail spelled =
     (λ two. let same = same_bytes (124 ∷ tail) (124 ∷ 124 ∷ []) two in inr (cc))
     (or_cases (bytes_eq (124 ∷ tail) (124 ∷ [])) (bytes_eq (124 ∷ tail) (124 ∷ 124 ∷ [])) spelled)
 
+pub bar_first : (b : ℕ) (tail : List ℕ) → IsTrue (spells Or (b ∷ tail)) → b ≡ 124
+bar_first b tail spelled =
+    ⊎_elim
+    (λ one. let same = same_bytes (b ∷ tail) (124 ∷ []) one in cc)
+    (λ two. let same = same_bytes (b ∷ tail) (124 ∷ 124 ∷ []) two in cc)
+    (or_cases (bytes_eq (b ∷ tail) (124 ∷ [])) (bytes_eq (b ∷ tail) (124 ∷ 124 ∷ [])) spelled)
+
 -- a tail that is empty or the one byte, where the byte doesn't follow, is empty
 one_within : (b : ℕ) (tail after rest : List ℕ) → IsTrue (begins_other b rest) → tail ++ after ≡ rest → (tail ≡ []) ⊎ (tail ≡ b ∷ []) → length tail ≤ 0
 one_within b tail after rest other cut is =
@@ -117,6 +125,22 @@ takes_bar rest other = takes_by Or 124 [] rest refl (λ tail after cut spelled. 
 abbrev pub begins_failing : (ℕ → Bool) → List ℕ → Bool
 begins_failing p [] = true
 begins_failing p (b ∷ bs) = not (p b)
+
+-- what passes from the front on passes, and what stands behind it fails
+pub prefix_passes : (p : ℕ → Bool) (xs : List ℕ) → IsTrue (list_all p (take_while p xs)) × IsTrue (begins_failing p (drop (prefix_len p xs) xs))
+prefix_passes p [] = (refl, refl)
+prefix_passes p (x ∷ xs) =
+    ⊎_elim
+    (λ passes. let later = prefix_passes p xs in
+    let longer : prefix_len p (x ∷ xs) ≡ suc (prefix_len p xs) = cond-true (p x) _ _ passes ∙ omega arith in (
+      subst (λ (n : ℕ). IsTrue (list_all p (take n (x ∷ xs)))) (sym longer) (and_from (p x) (list_all p (take_while p xs)) passes later.0),
+      subst (λ (n : ℕ). IsTrue (begins_failing p (drop n (x ∷ xs)))) (sym longer) later.1,
+    ))
+    (λ fails. let stops : prefix_len p (x ∷ xs) ≡ 0 = cond-false (p x) _ _ fails in (
+      subst (λ (n : ℕ). IsTrue (list_all p (take n (x ∷ xs)))) (sym stops) refl,
+      subst (λ (n : ℕ). IsTrue (begins_failing p (drop n (x ∷ xs)))) (sym stops) (not_from_false (p x) fails),
+    ))
+    (cases_Bool (p x))
 
 -- of what passes a test no more stands at the front of the bytes than what passes up to a byte that fails
 pub passes_within : (p : ℕ → Bool) (xs after text rest : List ℕ) → IsTrue (list_all p xs) → IsTrue (begins_failing p rest) →

@@ -4,3 +4,4 @@ pub mod Lexing
 pub mod Tokens
 pub mod Patterns
 pub mod CompiledPatterns
+pub mod Scanned

@@ -1,17 +1,18 @@
 -- A front that the first byte's kind spells is the longest token, and where no front does none begins there.
-use Rattle.std.proofs.Common.{◌≡◌, ℕ, zero, suc, ◌+◌, ◌≤◌, ◌<◌, Bool, true, false, List, [], ◌∷◌, ◌++◌, length, get_or, take, drop, refl, ap, sym, ◌∙◌, subst, ⊎_elim, arith, add-one}
+use Rattle.std.proofs.Common.{◌≡◌, ℕ, zero, suc, ◌+◌, ◌≤◌, ◌<◌, true, false, List, [], ◌∷◌, ◌++◌, length, get_or, take, drop, refl, ap, sym, ◌∙◌, subst, arith, add-one}
 use Rattle.std.specs.Prelude.{IsTrue}
 use Rattle.std.specs.List.{list_all, prefix_len, take_while}
-use Rattle.std.proofs.lemmas.Bool.{both_ways, and_from, and_right, cases_Bool, cond-true, cond-false, not_from_false}
+use Rattle.std.proofs.lemmas.Bool.{both_ways, and_from, and_right, cond-true}
 use Rattle.std.proofs.lemmas.List.{take-append-drop, take_at}
 use Rattle.std.proofs.lemmas.List.Sums.{prefix_len-le-length}
 use Rattle.std.proofs.lemmas.List.Folds.{length-prefix_len}
 use Rattle.cfa_base.specs.declared.tokens.Kind.{Kind}
 use Rattle.cfa_base.specs.declared.tokens.Kind.TheVariants.{Word, Text, Ref, ListRef}
 use Rattle.cfa_base.specs.Lexing.{is_word_byte, is_word, is_quote, is_quoted, closes, is_reference, spells, Takes, BeginsNone}
-use Rattle.cfa_base.proofs.Spelled.{kind_at, kind_from, kind_is, quote_is}
+use Rattle.cfa_base.specs.Scanned.{kind_at, kind_from}
+use Rattle.cfa_base.proofs.Spelled.{kind_is, quote_is}
 use Rattle.cfa_base.proofs.Scanning.{front_first}
-use Rattle.cfa_base.proofs.Taking.{begins_failing, takes_word, takes_text, takes_ref, takes_list_ref}
+use Rattle.cfa_base.proofs.Taking.{prefix_passes, takes_word, takes_text, takes_ref, takes_list_ref}
 use Rattle.cfa_lexer.specs.Fronts.{IsFront}
 
 front_of : (kind : Kind) (bytes : List ℕ) (n : ℕ) → n ≤ length bytes → IsTrue (spells kind (take n bytes)) →
@@ -29,21 +30,6 @@ none_of kind b bs there none other front after cut spelled =
     both_ways (spells kind front) (subst (λ (x : List ℕ). spells kind x ≡ false) same (none (length front))) (subst (λ (k : Kind). IsTrue (spells k front)) only spelled)
 
 -- Words.
-
-prefix_passes : (p : ℕ → Bool) (xs : List ℕ) → IsTrue (list_all p (take_while p xs)) × IsTrue (begins_failing p (drop (prefix_len p xs) xs))
-prefix_passes p [] = (refl, refl)
-prefix_passes p (x ∷ xs) =
-    ⊎_elim
-    (λ passes. let later = prefix_passes p xs in
-    let longer : prefix_len p (x ∷ xs) ≡ suc (prefix_len p xs) = cond-true (p x) _ _ passes ∙ omega arith in (
-      subst (λ (n : ℕ). IsTrue (list_all p (take n (x ∷ xs)))) (sym longer) (and_from (p x) (list_all p (take_while p xs)) passes later.0),
-      subst (λ (n : ℕ). IsTrue (begins_failing p (drop n (x ∷ xs)))) (sym longer) later.1,
-    ))
-    (λ fails. let stops : prefix_len p (x ∷ xs) ≡ 0 = cond-false (p x) _ _ fails in (
-      subst (λ (n : ℕ). IsTrue (list_all p (take n (x ∷ xs)))) (sym stops) refl,
-      subst (λ (n : ℕ). IsTrue (begins_failing p (drop n (x ∷ xs)))) (sym stops) (not_from_false (p x) fails),
-    ))
-    (cases_Bool (p x))
 
 word_in : (b : ℕ) (xs : List ℕ) → IsTrue (list_all is_word_byte (b ∷ xs)) → IsTrue (is_word (b ∷ xs))
 word_in b xs passes = passes

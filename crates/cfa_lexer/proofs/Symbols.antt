@@ -1,13 +1,13 @@
 -- The symbol that two bytes begin with is the longest token at the front.
-use Rattle.std.proofs.Common.{◌≡◌, ℕ, ◌<◌, true, false, List, [], ◌∷◌, ◌++◌, length, get_or, refl, ap, sym, ◌∙◌, subst, ⊎_elim, arith, Option, Some, None}
+use Rattle.std.proofs.Common.{◌≡◌, ℕ, ◌<◌, true, false, List, [], ◌∷◌, ◌++◌, length, get_or, refl, ap, sym, ◌∙◌, subst, arith, Option, Some, None}
 use Rattle.std.specs.Prelude.{IsTrue, if◌then◌else◌, ◌==◌}
-use Rattle.std.specs.Str.{bytes_eq}
-use Rattle.std.proofs.lemmas.Bool.{both_ways, eqb-true, eq-eqb, ne_eqb, or_cases, not_from_false, cond-false, cond_both}
+use Rattle.std.proofs.lemmas.Bool.{both_ways, eqb-true, eq-eqb, ne_eqb, not_from_false, cond-false, cond_both}
 use Rattle.cfa_base.specs.declared.tokens.Kind.{Kind}
 use Rattle.cfa_base.specs.declared.tokens.Kind.TheVariants.{FatArrow, ThinArrow, DoubleColon, Colon, Comma, Semicolon, OpenBrace, CloseBrace, OpenParen, CloseParen, Bang, Dot, And, Or}
 use Rattle.cfa_base.specs.Lexing.{is_word_byte, is_quote, spells, Takes, BeginsNone}
-use Rattle.cfa_base.proofs.Spelled.{kind_from, same_bytes}
-use Rattle.cfa_base.proofs.Taking.{fronted, takes_fat_arrow, takes_thin_arrow, takes_double_colon, takes_colon, takes_double_bar, takes_bar, takes_comma, takes_semicolon, takes_open_brace, takes_close_brace, takes_open_paren, takes_close_paren, takes_bang, takes_dot, takes_and}
+use Rattle.cfa_base.specs.Scanned.{kind_from}
+use Rattle.cfa_base.proofs.Spelled.{same_bytes}
+use Rattle.cfa_base.proofs.Taking.{fronted, bar_first, takes_fat_arrow, takes_thin_arrow, takes_double_colon, takes_colon, takes_double_bar, takes_bar, takes_comma, takes_semicolon, takes_open_brace, takes_close_brace, takes_open_paren, takes_close_paren, takes_bang, takes_dot, takes_and}
 use Rattle.cfa_lexer.specs.Fronts.{symbol_of, TellsFront}
 
 -- the byte that follows, where one does
@@ -50,13 +50,6 @@ bars [] = record { within = omega arith; takes = takes_bar [] refl }
 bars (x ∷ xs) = cond_both (x == 124) (Some (Or, 2)) (Some (Or, 1)) (TellsFront (124 ∷ x ∷ xs))
     (λ is. subst (λ (b : ℕ). TellsFront (124 ∷ b ∷ xs) (Some (Or, 2))) (sym (eqb-true x 124 is)) (record { within = omega arith; takes = takes_double_bar xs }))
     (λ isnt. record { within = omega arith; takes = takes_bar (x ∷ xs) (not_from_false (x == 124) isnt) })
-
-bar_first : (b : ℕ) (tail : List ℕ) → IsTrue (spells Or (b ∷ tail)) → b ≡ 124
-bar_first b tail spelled =
-    ⊎_elim
-    (λ one. let same = same_bytes (b ∷ tail) (124 ∷ []) one in cc)
-    (λ two. let same = same_bytes (b ∷ tail) (124 ∷ 124 ∷ []) two in cc)
-    (or_cases (bytes_eq (b ∷ tail) (124 ∷ [])) (bytes_eq (b ∷ tail) (124 ∷ 124 ∷ [])) spelled)
 
 module _ (b : ℕ) (bs : List ℕ) where
   -- what holds at a byte holds at one that equals it
