@@ -1,5 +1,5 @@
-//! Classes: the value of a class expression, the statuses that classes were raised to, and the calendar classes of a
-//! moment.
+//! Classes: the reading and the value of class expressions, the statuses that classes were raised to, and the calendar
+//! classes of a moment.
 #![tactic(auto)]
 
 mod calendar;
@@ -10,6 +10,7 @@ mod tests;
 mod valuing;
 
 pub use calendar::{LAST_MOMENT, hard};
+pub use cfa_tree::{ExprErr, read_expr};
 pub use levels::Status;
 pub use raising::Statuses;
 pub use valuing::value;

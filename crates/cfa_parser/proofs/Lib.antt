@@ -1,11 +1,6 @@
 pub mod BundleRest
 pub mod FirstFormLemmas
-pub mod GuardRest
-pub mod GuardRuns
-pub mod GuardSteps
-pub mod Levels
 pub mod Limits
-pub mod Lists
 pub mod PolicyRest
 pub mod PolicyRuns
 pub mod Readings

@@ -6,8 +6,8 @@ use Rattle.cfa_base.specs.declared.tokens.Kind.TheVariants.{Word, CloseBrace, Co
 use Rattle.cfa_base.specs.Tokens.{Token}
 use Rattle.cfa_tree.specs.Tree.{PolicyTree, SectionTree}
 use Rattle.cfa_tree.specs.Grammar.{Levels, unlimited}
-use Rattle.cfa_parser.specs.Room.{has_room, only_if}
-use Rattle.cfa_parser.specs.Guards.{GuardState, wants_atom, has_atom, guard_start, guard_step, empty_level, with_negation, more_levels, level_count, going_on as guard_going_on}
+use Rattle.cfa_tree.specs.Room.{has_room, only_if}
+use Rattle.cfa_tree.specs.Guards.{GuardState, wants_atom, has_atom, guard_start, guard_step, empty_level, with_negation, more_levels, level_count, going_on as guard_going_on}
 use Rattle.cfa_parser.specs.Values.{ValueState, wants_value, has_word as has_value_word, has_paren, has_item, has_argument, has_value, value_step, new_call, going_on as value_going_on}
 use Rattle.cfa_parser.specs.Machine.{OpenSection, SectionState, between_promises, has_word, in_guard, has_promiser, in_promisee, wants_attribute, has_name, in_value, BundleState, no_section, has_section_word, in_section, between_attributes, has_body_name, in_body_value, State, in_bundle, in_body, Machine, section_step, guard_next, guard_word, promisee_next, value_next, within, in_section_step, bundle_step, body_value_next, bundle_next, body_next, state_step, step, run}
 

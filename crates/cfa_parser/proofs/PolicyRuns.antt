@@ -6,12 +6,12 @@ use Rattle.cfa_base.specs.Tokens.{Token}
 use Rattle.cfa_base.specs.Lexing.{content_of}
 use Rattle.cfa_tree.specs.Tree.{ExprTree, ValueTree, AttributeTree, PromiseTree, SectionTree, NamedTree, BlockTree, PolicyTree}
 use Rattle.cfa_tree.specs.Grammar.{token, Levels, dot, ampersand, not_atom, in_parentheses, class_name, Atoms, no_atom, next_atom, conj, Conjs, no_conj, next_conj, Guard, guard, Attribute, attribute, Attributes, no_attribute, last_attribute, next_attribute, Promisee, no_promisee, a_promisee, Promises, no_promise, new_guard, a_promise, Sections, no_section, a_section, Words, last_word, next_word, Params, no_params, empty_params, some_params, BodyAttributes, no_more, one_more, Policy, no_block, a_bundle, a_body, ReadsWithin}
-use Rattle.cfa_parser.specs.Guards.{guard_start}
+use Rattle.cfa_tree.specs.Guards.{guard_start}
 use Rattle.cfa_parser.specs.Values.{ValueState, ended, value_step}
 use Rattle.cfa_parser.specs.Machine.{OpenSection, OpenPromise, SectionState, between_promises, has_word, in_guard, has_promiser, in_promisee, wants_attribute, in_value, no_section as no_section_yet, in_section, between_attributes, in_body_value, Heading, State, between_blocks, has_block_name, has_param, wants_first_param, wants_param, in_bundle, in_body, Machine, start, BlockWord, bundle_word, body_word, guard_next, with_guard, new_promise, with_attribute, with_promise, closed_section, guard_word, within, promisee_next, value_next, body_value_next, machine, named, with_param, new_heading, block_opened, closed_bundle, closed_body, bundle_next, body_next, step, run}
-use Rattle.cfa_parser.proofs.Lists.{append_one}
-use Rattle.cfa_parser.proofs.Levels.{left_of-none}
-use Rattle.cfa_parser.proofs.GuardRuns.{guard_run}
+use Rattle.cfa_tree.proofs.Lists.{append_one}
+use Rattle.cfa_tree.proofs.Levels.{left_of-none}
+use Rattle.cfa_tree.proofs.GuardRuns.{guard_run}
 use Rattle.cfa_parser.proofs.ValueRuns.{Behind, taken, word_behind, value_run}
 
 -- a token other than an open parenthesis ends a whole value
@@ -98,7 +98,7 @@ module _ (limit : Levels) (blocks : PolicyTree) (h : Heading) where
       (g, ap (λ z. run limit (Some (at blocks h ss (section kind place z g) between_promises)) rest) (sym (append-nil promises)))
   promises_run (new_guard {x = x} {p = p} {us = us} {g = g} {e = e} one others) ss kind place promises =
       let s = section kind place promises g in
-      let r = guard_run limit (λ w. at blocks h ss s (in_guard w)) (λ w next k y q e. ap (λ z. bundle_next blocks h (within ss (guard_next s z k))) e) one [] (left_of-none limit) in
+      let r = guard_run limit (λ w us. run limit (Some (at blocks h ss s (in_guard w))) us) (λ w next k y q us e. ap (λ z. run limit (bundle_next blocks h (within ss (guard_next s z k))) us) e) one [] (left_of-none limit) in
       let later = promises_run others ss kind place promises in
       (later.0, guard_begins one ss s ∙ (r.3 ∙ (ap (λ z. run limit (Some (at blocks h ss (with_guard s z) between_promises)) us) r.2 ∙ later.1)))
   promises_run (a_promise {x = x} {p = p} {vs = vs} {rest = rest} {g = g} {v = v} {attributes = attrs} {more = more} promisee attributes others) ss kind place promises =

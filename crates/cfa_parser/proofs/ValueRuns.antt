@@ -7,11 +7,11 @@ use Rattle.cfa_base.specs.Tokens.{Token}
 use Rattle.cfa_base.specs.Lexing.{content_of, name_of}
 use Rattle.cfa_tree.specs.Tree.{ValueTree, text, word, reference, list_reference, list, call, value_trees}
 use Rattle.cfa_tree.specs.Grammar.{token, Levels, Value, a_list, an_item, Item, a_text, a_reference, a_list_reference, a_word, a_call, Args, no_args, some_args, MoreArgs, args_end, next_arg, Items, no_items, some_items, MoreItems, items_end, comma_end, next_item}
-use Rattle.cfa_parser.specs.Room.{left_of, only_if}
+use Rattle.cfa_tree.specs.Room.{left_of, only_if}
 use Rattle.cfa_parser.specs.Values.{OpenList, OpenCall, ValueState, wants_value, has_word, has_paren, goes_on, with_item, with_argument, value_taken, list_closed, call_closed, going_on, new_call, value_step}
 use Rattle.cfa_parser.specs.Machine.{Machine, step, run}
-use Rattle.cfa_parser.proofs.Lists.{append_one}
-use Rattle.cfa_parser.proofs.Levels.{opens_room}
+use Rattle.cfa_tree.proofs.Lists.{append_one}
+use Rattle.cfa_tree.proofs.Levels.{opens_room}
 
 -- a value within a policy: its steps are steps of the whole
 abbrev pub ValueLifts : Levels → (ValueState → Machine) → Type 0

@@ -1,10 +1,8 @@
 pub mod FirstForm
 pub mod FirstReading
-pub mod Guards
 pub mod Laws
 pub mod Machine
 pub mod Reading
 pub mod Refused
-pub mod Room
 pub mod Seen
 pub mod Values

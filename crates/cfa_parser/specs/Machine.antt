@@ -9,7 +9,7 @@ use Rattle.cfa_base.specs.Tokens.{Token}
 use Rattle.cfa_base.specs.Lexing.{content_of}
 use Rattle.cfa_tree.specs.Tree.{ExprTree, class, ValueTree, AttributeTree, PromiseTree, SectionTree, NamedTree, BlockTree, bundle, body, PolicyTree}
 use Rattle.cfa_tree.specs.Grammar.{Levels}
-use Rattle.cfa_parser.specs.Guards.{GuardState, has_atom, guard_start, GuardProgress, goes_on as guard_goes_on, ended as guard_ended, guard_step}
+use Rattle.cfa_tree.specs.Guards.{GuardState, has_atom, guard_start, GuardProgress, goes_on as guard_goes_on, ended as guard_ended, guard_step}
 use Rattle.cfa_parser.specs.Values.{ValueState, value_start, ValueProgress, goes_on as value_goes_on, ended as value_ended, value_step}
 
 -- a section that is open: its word, the promises so far, and the guard that holds

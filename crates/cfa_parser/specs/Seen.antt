@@ -1,11 +1,7 @@
 -- The state that a reader of the program is in, without where it lies in memory. A stack stands innermost first.
 use Rattle.std.specs.Prelude.{List, map, reverse, option_map}
+use Rattle.cfa_tree.specs.SeenGuards.{seen_guard}
 use Rattle.cfa_tree.specs.Plain.{plain_expr, plain_value, plain_attribute, plain_promise, plain_section, plain_named, plain_block}
-use Rattle.cfa_parser.specs.declared.guards.GuardLevel.{GuardLevel}
-use Rattle.cfa_parser.specs.declared.guards.GuardState.{GuardState}
-use Rattle.cfa_parser.specs.declared.guards.GuardState.TheVariants.{WantsAtom, HasAtom}
-use Rattle.cfa_parser.specs.declared.guards.GuardProgress.{GuardProgress}
-use Rattle.cfa_parser.specs.declared.guards.GuardProgress.TheVariants.{GoesOn as GuardGoesOn, Ended as GuardEnded}
 use Rattle.cfa_parser.specs.declared.values.OpenList.{OpenList}
 use Rattle.cfa_parser.specs.declared.values.OpenCall.{OpenCall}
 use Rattle.cfa_parser.specs.declared.values.ValueState.{ValueState}
@@ -35,23 +31,8 @@ use Rattle.cfa_parser.specs.declared.sections.OpenPromise.{OpenPromise}
 use Rattle.cfa_parser.specs.declared.sections.SectionState.{SectionState}
 use Rattle.cfa_parser.specs.declared.sections.SectionState.TheVariants.{BetweenPromises, HasWord as SectionHasWord, InGuard, HasPromiser, InPromisee, WantsAttribute, HasName, InValue}
 use Rattle.cfa_parser.specs.declared.sections.StandingSection.{StandingSection}
-use Rattle.cfa_parser.specs.Guards as guards
 use Rattle.cfa_parser.specs.Machine as machine
 use Rattle.cfa_parser.specs.Values as values
-
-abbrev pub seen_level : GuardLevel → guards.GuardLevel
-seen_level l = record { conjs = map plain_expr l.conjs.items; atoms = map plain_expr l.atoms.items; negations = l.negations }
-
-abbrev pub seen_levels : List GuardLevel → List guards.GuardLevel
-seen_levels levels = map seen_level (reverse levels)
-
-abbrev pub seen_guard : GuardState → guards.GuardState
-seen_guard (WantsAtom level outer) = guards.wants_atom (seen_level level) (seen_levels outer.items)
-seen_guard (HasAtom conjs atoms outer) = guards.has_atom (map plain_expr conjs.items) (map plain_expr atoms.items) (seen_levels outer.items)
-
-abbrev pub seen_guard_progress : GuardProgress → guards.GuardProgress
-seen_guard_progress (GuardGoesOn g) = guards.goes_on (seen_guard g)
-seen_guard_progress (GuardEnded e) = guards.ended (plain_expr e)
 
 abbrev pub seen_list : OpenList → values.OpenList
 seen_list l = record { items = map plain_value l.items.items; place = l.place }

@@ -6,7 +6,7 @@ use Rattle.cfa_base.specs.declared.tokens.Kind.TheVariants.{Word, Text, Ref, Lis
 use Rattle.cfa_base.specs.Lexing.{content_of, name_of}
 use Rattle.cfa_tree.specs.Tree.{ValueTree, text, word, reference, list_reference, list, call, value_trees}
 use Rattle.cfa_tree.specs.Grammar.{Levels}
-use Rattle.cfa_parser.specs.Room.{has_room, only_if}
+use Rattle.cfa_tree.specs.Room.{has_room, only_if}
 
 -- a list that is open: the items so far, and its place
 pub record OpenList : Type 0 where

@@ -4,7 +4,6 @@
 mod bundles;
 mod errors;
 mod first;
-mod guards;
 mod headings;
 mod laws;
 mod reader;
@@ -16,9 +15,6 @@ pub use errors::ParseErr;
 pub use first::{FirstErr, FirstPromise, read_first};
 pub use laws::reading_is_unique;
 pub use reader::parse;
-
-// The levels that a policy may open at once.
-const DEPTH_LIMIT: usize = 16;
 
 #[cfg(test)]
 mod tests;

@@ -3,19 +3,22 @@ ghost use Rattle.std.specs.Prelude.{◌≡◌, [], Some, None, IfOk, IfErr, IsTr
 ghost use Rattle.cfa_base.specs.Lexing.{spells};
 ghost use Rattle.cfa_tree.specs.Grammar.{unlimited, depth_limit};
 ghost use Rattle.cfa_tree.specs.Plain.{plain_expr, plain_value};
-ghost use Rattle.cfa_parser.specs.Guards.{guard_step};
+ghost use Rattle.cfa_tree.specs.Guards.{guard_step};
+ghost use Rattle.cfa_tree.specs.SeenGuards.{seen_guard, seen_guard_progress};
 ghost use Rattle.cfa_parser.specs.Machine.{with_guard, new_section, new_promise, with_attribute, with_promise, stands, guard_next, attribute_next, promisee_next, attribute_end, value_next, promiser_next, arrow_next, between_next, guard_word, section_step, between_promises, in_value};
-ghost use Rattle.cfa_parser.specs.Refused.{Refused, OnlyMemory};
-ghost use Rattle.cfa_parser.specs.Seen.{seen_guard, seen_guard_progress, seen_value_progress, seen_open_section, seen_open_promise, seen_section_state, seen_section};
+ghost use Rattle.cfa_parser.specs.Refused.{Refused, OnlyMemory, at_place};
+ghost use Rattle.cfa_parser.specs.Seen.{seen_value_progress, seen_open_section, seen_open_promise, seen_section_state, seen_section};
 ghost use Rattle.cfa_parser.specs.Values.{value_step};
 
 use crate::ParseErr;
-use crate::guards::{GuardProgress, GuardState, guard_start, take_in_guard};
 use crate::texts::content;
 use crate::values::{ValueProgress, ValueState, take_in_value, value_start};
 use cfa_base::{Kind, Name, Place};
 use cfa_lexer::Token;
-use cfa_tree::{Attribute, Attributes, Expr, Promise, Value};
+use cfa_tree::{
+    Attribute, Attributes, Expr, GuardErr, GuardProgress, GuardState, Promise, Value, guard_start,
+    guard_with_class, take_in_guard,
+};
 use std::alloc::Global;
 
 // A section that is open: its word, the promises so far, and the guard that holds.
@@ -163,6 +166,17 @@ fn take_behind_guard(
     }
 }
 
+// The fault of a token that can't continue a guard.
+fn at_place(error: GuardErr, place: Place) -> ParseErr
+    ensures { result ≡ at_place error place }
+{
+    match error {
+        GuardErr::Unexpected => ParseErr::Unexpected(place),
+        GuardErr::TooDeep => ParseErr::TooDeep(place),
+        GuardErr::NoMemory => ParseErr::NoMemory,
+    }
+}
+
 // A token within a guard, or behind it.
 fn take_guard_token(
     alloc: Global,
@@ -176,8 +190,10 @@ fn take_guard_token(
         (Refused token.now.place (guard_next (seen_open_section section) (guard_step depth_limit (seen_guard guard) token.now.kind token.now.text.now) token.now.kind)
         (guard_next (seen_open_section section) (guard_step unlimited (seen_guard guard) token.now.kind token.now.text.now) token.now.kind)) }
 {
-    let progress = take_in_guard(alloc, guard, token)?;
-    take_behind_guard(section, progress, token)
+    match take_in_guard(alloc, guard, token.kind, token.text) {
+        Ok(progress) => take_behind_guard(section, progress, token),
+        Err(error) => Err(at_place(error, token.place)),
+    }
 }
 
 // A token that may begin an attribute or end the promise.
@@ -407,16 +423,6 @@ fn take_between(
     }
 }
 
-// A guard whose first atom is this word.
-fn guard_word(alloc: Global, name: Name) -> Result<GuardState, ParseErr>
-    ensures ok { IfOk result (λ g. seen_guard g ≡ guard_word name) }
-    ensures memory { IfErr result OnlyMemory }
-{
-    let mut atoms = Vec::new(alloc);
-    atoms.push(Expr::Class(name))?;
-    Ok(GuardState::HasAtom(Vec::new(alloc), atoms, Vec::new(alloc)))
-}
-
 /// What one more token makes of a section, where it stays in it.
 pub fn take_in_section(
     alloc: Global,
@@ -434,7 +440,7 @@ pub fn take_in_section(
     match state {
         SectionState::BetweenPromises => take_between(alloc, section, token),
         SectionState::HasWord(name, _) => {
-            take_guard_token(alloc, section, guard_word(alloc, name)?, token)
+            take_guard_token(alloc, section, guard_with_class(alloc, name)?, token)
         }
         SectionState::InGuard(guard) => take_guard_token(alloc, section, guard, token),
         SectionState::HasPromiser(promiser, place) => {

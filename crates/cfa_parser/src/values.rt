@@ -7,11 +7,11 @@ ghost use Rattle.cfa_parser.specs.Refused.{Refused, OnlyMemory};
 ghost use Rattle.cfa_parser.specs.Seen.{seen_list, seen_call, seen_calls, seen_value, seen_value_progress};
 ghost use Rattle.cfa_parser.specs.Values.{value_taken, list_closed, call_closed, list_opened, list_ended, wants_step, paren_step, behind_step, word_step, value_step, value_start, has_item, has_argument};
 
+use crate::ParseErr;
 use crate::texts::{content, referred_name};
-use crate::{DEPTH_LIMIT, ParseErr};
 use cfa_base::{Kind, Name, Place};
 use cfa_lexer::Token;
-use cfa_tree::Value;
+use cfa_tree::{DEPTH_LIMIT, Value};
 use std::alloc::Global;
 
 // A list that is open: the items so far, and its place.

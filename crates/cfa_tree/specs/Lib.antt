@@ -1,4 +1,11 @@
+pub mod ClassErrs
+pub mod ClassFronts
+pub mod ClassTexts
 pub mod Grammar
+pub mod Guards
+pub mod Laws
 pub mod Plain
+pub mod Room
+pub mod SeenGuards
 pub mod Tree
 pub mod Unplaced

@@ -1,7 +1,0 @@
-use Rattle.std.proofs.Common.{◌≡◌, ◌-◌, take}
-use Rattle.cfa_parser.specs.Guards.{level_count}
-use Rattle.cfa_parser.specs.Seen.{seen_levels}
-use Rattle.cfa_parser.proofs.guards.has_room.Given as goal
-
-abbrev pub invariant-loop-level : goal.invariant-loop-level
-invariant-loop-level l = l.left ≡ 16 - level_count (seen_levels (take l.level-index l.outer))
