@@ -13,5 +13,5 @@ mod tests;
 pub use choosing::{Choice, ChoiceList, Choices, combinations};
 pub use expanding::{Expanded, expand};
 pub use looking::{Scopes, Variable, list_key, look_up};
-pub use references::{Reference, first_reference, list_reference};
+pub use references::{Reference, first_reference, list_reference, split_name};
 pub use scoping::{Datum, Scope};

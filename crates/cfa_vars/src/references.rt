@@ -50,8 +50,9 @@ pub(crate) fn is_name(text: &[u8]) -> bool
     dot < text.len() && is_word(&text[..dot]) && is_word(&text[dot + 1..])
 }
 
-// The bundle and the word of a qualified name.
-pub(crate) fn split_name(name: &str) -> Option<(&str, &str)>
+/// The bundle and the word of a qualified name: what stands before its first dot, and what stands behind it, as they
+/// are. `None` where the name has no dot.
+pub fn split_name(name: &str) -> Option<(&str, &str)>
     ensures { MatchOption result (is_qualified name.now ≡ false)
         (λ parts. (is_qualified name.now ≡ true) × (parts.0.now ≡ bundle_part name.now) × (parts.1.now ≡ word_part name.now)) }
 {

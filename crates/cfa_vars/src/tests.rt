@@ -1,7 +1,7 @@
 // Worked rows: what texts expand to, and the combinations that their lists give.
 use crate::{
     Choice, ChoiceList, Choices, Datum, Expanded, Scope, Scopes, Variable, combinations, expand,
-    first_reference, list_key, look_up,
+    first_reference, list_key, look_up, split_name,
 };
 use cfa_base::{Name, Names, NoMemory};
 use std::alloc::Global;
@@ -216,6 +216,7 @@ fn parts(rt: HostRuntime) -> Result<(), Fail> {
     assert!(rt; matches!(look_up(&scopes, "const.n"), Some(Variable::Text("\n"))));
     assert!(rt; list_key(&scopes, "main.l") == "l");
     assert!(rt; first_reference("a$$(x)b").is_some());
+    assert!(rt; matches!(split_name("b.x"), Some(("b", "x"))));
     let none = ChoiceList::from_vec(Vec::new(rt.alloc()));
     assert!(rt; none.as_slice().is_empty());
     Ok(())
