@@ -1,0 +1,24 @@
+use Rattle.std.proofs.Common.{◌∙◌}
+use Rattle.std.proofs.lemmas.Result.{err_from_is_err_and}
+use Rattle.cfa_schema.proofs.CollectedLemmas.{bad_stands, refused_stands, good_more, all_good}
+use Rattle.cfa_schema.proofs.patterns.build_all.Goals as goal
+
+pub returns-in_err-build_one-clause-bad : goal.returns-in_err-build_one-clause-bad
+returns-in_err-build_one-clause-bad g c =
+    let gives = err_from_is_err_and c.from_residual.result c.from_residual.ensures.1 in
+    rw (gives.1, gives.2) (bad_stands c.args.patterns.now c.loop-pattern.pattern-index _ c.loop-pattern-test.true c.loop-pattern.invariant.good c.in_err-build_one.field-0.0 c.in_err-build_one.ensures.bad)
+
+pub returns-in_err-build_one-clause-too_big : goal.returns-in_err-build_one-clause-too_big
+returns-in_err-build_one-clause-too_big g c =
+    let gives = err_from_is_err_and c.from_residual.result c.from_residual.ensures.1 in
+    rw (gives.1, gives.2) (refused_stands c.args.patterns.now c.loop-pattern.pattern-index _ c.loop-pattern-test.true c.loop-pattern.invariant.good c.in_err-build_one.field-0.0 c.in_err-build_one.ensures.too_big)
+
+pub loop-pattern-preserved : goal.loop-pattern-preserved
+loop-pattern-preserved g c = record {
+  good = good_more c.args.patterns.now c.loop-pattern.pattern-index _ c.loop-pattern-test.true c.loop-pattern.invariant.good c.in_ok-build_one.ensures.good;
+  told = c.in_ok-build_one.ensures.ok_told ∙ c.loop-pattern.invariant.told;
+  count = c.in_ok-build_one.ensures.ok_count ∙ c.loop-pattern.invariant.count;
+}
+
+pub returns-clause-good : goal.returns-clause-good
+returns-clause-good g c = all_good c.args.patterns.now c.loop-pattern.pattern-index c.loop-pattern-test.false c.loop-pattern.invariant.good

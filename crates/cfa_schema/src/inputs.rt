@@ -1,0 +1,50 @@
+// The files that are read with a policy.
+ghost use Rattle.std.specs.Prelude.{◌≡◌, IfOk, map, take};
+ghost use Rattle.cfa_tree.specs.Plain.{plain_policy, plain_value};
+ghost use Rattle.cfa_schema.specs.Collected.{item_name};
+ghost use Rattle.cfa_schema.specs.Known.{inputs_of, names_listed};
+
+use crate::controls::{control_attributes, listed_names, value_named};
+use crate::repeating::Item;
+use cfa_base::{Name, Names, NoMemory};
+use cfa_tree::{Policy, Value};
+use std::alloc::Global;
+
+/// How many files a policy may have beside the main file.
+const INPUT_LIMIT: usize = 16;
+
+fn copy_names(alloc: Global, items: &[Item<'_>]) -> Result<Names, NoMemory>
+    ensures { IfOk result (λ names. names ≡ map item_name items.now) }
+{
+    let mut names = Names::new(alloc);
+    for item in items {
+        names.push(Name::from_text(alloc, item.name)?)?;
+    }
+    Ok(names)
+}
+
+fn first_items<'a>(items: &'a [Item<'a>]) -> &'a [Item<'a>]
+    ensures { result.now ≡ take 16 items.now }
+{
+    &items[..items.len().min(INPUT_LIMIT)]
+}
+
+fn first_listed(alloc: Global, value: &Value) -> Result<Names, NoMemory>
+    ensures { IfOk result (λ names. names ≡ take 16 (names_listed (plain_value value.now))) }
+{
+    let listed = listed_names(alloc, value)?;
+    copy_names(alloc, first_items(&listed))
+}
+
+/// The names of the files that are read with a main file: the first 16 that its first `body common control` lists in
+/// `inputs` as words or as texts without references.
+#[tactic(auto, unfolding(crate::specs::Known::inputs_of))]
+pub fn input_names(alloc: Global, policy: &Policy) -> Result<Names, NoMemory>
+    ensures { IfOk result (λ names. names ≡ inputs_of (plain_policy policy.now)) }
+{
+    let control = control_attributes(policy.blocks.as_slice());
+    match value_named(control, "inputs") {
+        Some(value) => first_listed(alloc, value),
+        None => Ok(Names::new(alloc)),
+    }
+}

@@ -1,0 +1,135 @@
+// What a policy defines.
+ghost use Rattle.std.specs.Prelude.{◌≡◌, ◌++◌, [], ◌∷◌, OnOk, option_map, slice_get};
+ghost use Rattle.cfa_schema.specs.Known.{bundle_named, body_named, is_one_of, is_shared};
+ghost use Rattle.cfa_schema.specs.Settings.{seen_bundle, seen_body};
+
+use crate::index::{NameIndex, PairIndex};
+use crate::kinds::BundleType;
+use cfa_base::{NoMemory, Place};
+use std::alloc::Global;
+use std::marker::Model;
+
+/// A bundle by its type, where that is one of the profile, its name with its place, and how many parameters it has.
+#[derive(Clone, Copy, Debug)]
+pub(crate) struct BundleEntry<'a> {
+    pub bundle_type: Option<BundleType>,
+    pub name: &'a str,
+    pub params: usize,
+    pub place: Place,
+}
+
+/// A body by the word of its type, its name, and how many parameters it has.
+#[derive(Clone, Copy, Debug)]
+pub(crate) struct BodyEntry<'a> {
+    pub kind: &'a str,
+    pub name: &'a str,
+    pub params: usize,
+}
+
+/// The bundles and bodies of a policy, and the sequence of bundles that are activated, with look-ups by name.
+#[derive(Drop)]
+pub(crate) struct Definitions<'a> {
+    bundles: Vec<BundleEntry<'a>>,
+    bundle_names: NameIndex<'a>,
+    bodies: Vec<BodyEntry<'a>>,
+    body_names: PairIndex<'a>,
+    sequence: NameIndex<'a>,
+}
+
+impl<'a> Model for Definitions<'a> {
+    ghost use Rattle.std.specs.Prelude.{◌≡◌, map};
+    ghost use Rattle.cfa_schema.specs.Known.{Known};
+    ghost use Rattle.cfa_schema.specs.Settings.{seen_bundle, seen_body, bundle_key, body_key};
+
+    ghost Value = { Known };
+
+    ghost view = { λ d. record { bundles = map seen_bundle d.bundles.items; bodies = map seen_body d.bodies.items; sequence = d.sequence } };
+
+    ghost invariant = { λ d. (d.bundle_names ≡ map bundle_key (map seen_bundle d.bundles.items)) × (d.body_names ≡ map body_key (map seen_body d.bodies.items)) };
+}
+
+fn bundle_at<'a>(bundles: &[BundleEntry<'a>], place: usize) -> Option<BundleEntry<'a>>
+    ensures { result ≡ slice_get bundles.now place }
+{
+    bundles.get(place).copied()
+}
+
+fn body_at<'a>(bodies: &[BodyEntry<'a>], place: usize) -> Option<BodyEntry<'a>>
+    ensures { result ≡ slice_get bodies.now place }
+{
+    bodies.get(place).copied()
+}
+
+impl<'a> Definitions<'a> {
+    /// Nothing is defined, and this is the sequence.
+    pub(crate) fn new(alloc: Global, sequence: NameIndex<'a>) -> Definitions<'a>
+        ensures { result ≡ record { bundles = []; bodies = []; sequence = sequence.entry } }
+    {
+        Definitions {
+            bundles: Vec::new(alloc),
+            bundle_names: NameIndex::new(alloc),
+            bodies: Vec::new(alloc),
+            body_names: PairIndex::new(alloc),
+            sequence,
+        }
+    }
+
+    pub(crate) fn add_bundle(&mut self, entry: BundleEntry<'a>) -> Result<(), NoMemory>
+        ensures { OnOk result (self.new ≡ record self.old { bundles = self.old.bundles ++ seen_bundle entry.entry ∷ [] }) }
+    {
+        self.bundles.reserve(1)?;
+        self.bundle_names.add(entry.name)?;
+        self.bundles.push(entry).unwrap();
+        Ok(())
+    }
+
+    pub(crate) fn add_body(&mut self, entry: BodyEntry<'a>) -> Result<(), NoMemory>
+        ensures { OnOk result (self.new ≡ record self.old { bodies = self.old.bodies ++ seen_body entry.entry ∷ [] }) }
+    {
+        self.bodies.reserve(1)?;
+        self.body_names.add(entry.kind, entry.name)?;
+        self.bodies.push(entry).unwrap();
+        Ok(())
+    }
+
+    /// The first bundle of a name.
+    pub(crate) fn find_bundle(&self, name: &str) -> Option<BundleEntry<'a>>
+        ensures { option_map seen_bundle result ≡ bundle_named self.now name.now }
+    {
+        match self.bundle_names.find(name) {
+            Some(place) => bundle_at(&self.bundles, place),
+            None => None,
+        }
+    }
+
+    /// The first body of a type and name.
+    pub(crate) fn find_body(&self, kind: &str, name: &str) -> Option<BodyEntry<'a>>
+        ensures { option_map seen_body result ≡ body_named self.now kind.now name.now }
+    {
+        match self.body_names.find(kind, name) {
+            Some(place) => body_at(&self.bodies, place),
+            None => None,
+        }
+    }
+
+    fn is_in_sequence(&self, name: &str) -> bool
+        ensures { result ≡ is_one_of name.now self.now.sequence }
+    {
+        self.sequence.find(name).is_some()
+    }
+
+    /// Whether every text may refer to the variables of the bundle of a name.
+    pub(crate) fn is_shared(&self, name: &str) -> bool
+        ensures { result ≡ is_shared self.now name.now }
+    {
+        match self.find_bundle(name) {
+            Some(entry) => match entry.bundle_type {
+                Some(BundleType::Common) => true,
+                Some(BundleType::Agent) => self.is_in_sequence(name),
+                Some(BundleType::EditLine) => false,
+                None => false,
+            },
+            None => false,
+        }
+    }
+}

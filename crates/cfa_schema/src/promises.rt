@@ -1,0 +1,130 @@
+// Promises and sections of them.
+ghost use Rattle.std.specs.Prelude.{◌≡◌, OnOk, map, count_by, option_map, option_copied};
+ghost use Rattle.std.specs.List.{list_all, flat_map};
+ghost use Rattle.cfa_base.specs.Lexing.{is_word_byte, is_word};
+ghost use Rattle.cfa_tree.specs.Plain.{plain_attribute, plain_value, plain_promise};
+ghost use Rattle.cfa_schema.specs.Contexts.{seen_context};
+ghost use Rattle.cfa_schema.specs.Kinds.{choices};
+ghost use Rattle.cfa_schema.specs.Refusals.{noted};
+ghost use Rattle.cfa_schema.specs.Valid.{has_attribute, lacks_choice, is_wrong_promiser, promisee_refusals, promise_refusals};
+
+use crate::attributes::{Table, has_attribute, note_attributes};
+use crate::kinds::{Kind, PromiseType, choices};
+use crate::refusals::{Refusal, WRONG_VALUE, note_if};
+use crate::settings::{Context, note_text_scope};
+use crate::values::note_value;
+use crate::wanting::note_item;
+use cfa_base::NoMemory;
+use cfa_tree::{Attribute, Promise, Value};
+use cfa_vars::list_reference;
+use std::alloc::Global;
+
+fn is_word_byte(byte: u8) -> bool
+    ensures { result ≡ is_word_byte byte }
+{
+    matches!(byte, b'0'..=b'9' | b'A'..=b'Z' | b'_' | b'a'..=b'z')
+}
+
+fn are_word_bytes(text: &[u8]) -> bool
+    ensures { result ≡ list_all is_word_byte text.now }
+{
+    text.iter().all(|byte| is_word_byte(*byte))
+}
+
+fn is_word(text: &[u8]) -> bool
+    ensures { result ≡ is_word text.now }
+{
+    !text.is_empty() && are_word_bytes(text)
+}
+
+// The promiser of a vars promise is a word, and no other is wholly a list reference.
+fn is_wrong_promiser(promise_type: PromiseType, promiser: &str) -> bool
+    ensures { result ≡ is_wrong_promiser promise_type promiser.now }
+{
+    match promise_type {
+        PromiseType::Vars => !is_word(promiser.as_bytes()),
+        _ => list_reference(promiser).is_some(),
+    }
+}
+
+// How many of the names are those of attributes.
+fn count_present(names: &[&str], attributes: &[Attribute]) -> usize
+    ensures { result ≡ count_by (λ name. has_attribute (map plain_attribute attributes.now) name.now) names.now }
+{
+    names
+        .iter()
+        .filter(|name| has_attribute(attributes, name))
+        .count()
+}
+
+// Whether a promise has none of the attributes of which its type asks for one, or several of them.
+fn lacks_choice(promise_type: PromiseType, attributes: &[Attribute]) -> bool
+    ensures { result ≡ lacks_choice (choices promise_type) (map plain_attribute attributes.now) }
+{
+    let names = choices(promise_type);
+    !names.is_empty() && count_present(names, attributes) != 1
+}
+
+fn note_promisee(
+    alloc: Global,
+    context: &Context<'_>,
+    promisee: Option<&Value>,
+    first: &mut Option<Refusal>,
+) -> Result<(), NoMemory>
+    ensures { OnOk result (first.new ≡ noted first.old (promisee_refusals (seen_context context.now) (option_map plain_value (option_copied promisee.entry)))) }
+{
+    match promisee {
+        Some(list @ Value::List(_, _)) => note_value(alloc, context, Kind::List, list, first),
+        Some(item) => {
+            note_item(context, item, first);
+            Ok(())
+        }
+        None => Ok(()),
+    }
+}
+
+fn note_promise(
+    alloc: Global,
+    context: &Context<'_>,
+    promise_type: PromiseType,
+    promise: &Promise,
+    first: &mut Option<Refusal>,
+) -> Result<(), NoMemory>
+    ensures { OnOk result (first.new ≡ noted first.old (promise_refusals (seen_context context.now) promise_type (plain_promise promise.now))) }
+{
+    let place = promise.place;
+    let promiser = promise.promiser.as_str();
+    let attributes = promise.attributes.as_slice();
+    let table = Table::OfPromise(promise_type);
+    note_if(
+        first,
+        is_wrong_promiser(promise_type, promiser),
+        WRONG_VALUE,
+        place,
+    );
+    note_text_scope(context, promiser, place, first);
+    note_if(
+        first,
+        lacks_choice(promise_type, attributes),
+        WRONG_VALUE,
+        place,
+    );
+    note_promisee(alloc, context, promise.promisee.as_ref(), first)?;
+    note_attributes(alloc, context, table, attributes, first)
+}
+
+/// Notes the refusals of promises of a type.
+pub(crate) fn note_promises(
+    alloc: Global,
+    context: &Context<'_>,
+    promise_type: PromiseType,
+    promises: &[Promise],
+    first: &mut Option<Refusal>,
+) -> Result<(), NoMemory>
+    ensures { OnOk result (first.new ≡ noted first.old (flat_map (promise_refusals (seen_context context.now) promise_type) (map plain_promise promises.now))) }
+{
+    for promise in promises {
+        note_promise(alloc, context, promise_type, promise, first)?;
+    }
+    Ok(())
+}
