@@ -1,3 +1,5 @@
 pub mod CallLemmas
+pub mod CheckLemmas
+pub mod InputLemmas
 pub mod RunLemmas
-pub mod ShowLemmas
+pub mod SourceLemmas

@@ -21,6 +21,14 @@ pub record Stands (does : Done → Type 0) (before : Told) (out_before : Option 
   pub out_is : out_after ≡ option_map (adds_bytes done.lines) out_before
   pub status_is : status ≡ done.status
 
+-- what was to be done without the site was put, with its status
+pub record Puts (does : Done → Type 0) (out_before out_after : Option (List ℕ)) (status : ℕ) : Type 0 where
+  pub done : Done
+  pub does_is : does done
+  pub no_entries : done.entries ≡ []
+  pub out_is : out_after ≡ option_map (adds_bytes done.lines) out_before
+  pub status_is : status ≡ done.status
+
 -- the status of a refusal, unless its line can't be put or memory ends
 abbrev pub IsRefusal : ℕ → Type 0
 IsRefusal status = (status ≡ 1) ⊎ ((status ≡ 4) ⊎ (status ≡ 5))

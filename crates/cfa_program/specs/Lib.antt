@@ -1,6 +1,9 @@
 pub mod Calls
+pub mod Checks
 pub mod Done
+pub mod Failures
 pub mod Lines
 pub mod Runs
 pub mod Shows
+pub mod Sources
 pub mod Steps

@@ -1,5 +1,5 @@
 -- The lines that a call puts, each ended by a newline.
-use Rattle.std.specs.Prelude.{ℕ, List, ◌++◌, codes}
+use Rattle.std.specs.Prelude.{ℕ, ◌==◌, List, ◌++◌, codes, if◌then◌else◌}
 use Rattle.std.specs.Fmt.{decimal}
 use Rattle.cfa_base.specs.declared.places.Place.{Place}
 use Rattle.cfa_acts.specs.declared.acts.Reason.{Reason}
@@ -48,3 +48,22 @@ refusal_line policy place code = policy ++ (codes ":" ++ (decimal place.line ++ 
 -- `NAME L4 TooLong`
 unfoldable pub too_long_line : List ℕ → List ℕ
 too_long_line policy = policy ++ codes " L4 TooLong\n"
+
+-- the code and word of a line of the table of refusals, which is numbered from 1 to 13
+unfoldable pub schema_words : ℕ → List ℕ
+schema_words number =
+    if number == 1 then codes "S1 UnknownType" else (
+    if number == 2 then codes "S2 TypeOutOfScope" else (
+    if number == 3 then codes "S3 UnknownAttribute" else (
+    if number == 4 then codes "S4 WrongValue" else (
+    if number == 5 then codes "S5 UnknownBody" else (
+    if number == 6 then codes "S6 UnknownBundle" else (
+    if number == 7 then codes "S7 ArgumentCount" else (
+    if number == 8 then codes "S8 Duplicate" else (
+    if number == 9 then codes "S9 CallCycle" else (
+    if number == 10 then codes "S10 NoSequence" else (
+    if number == 11 then codes "S11 BadClassText" else (
+    if number == 12 then codes "S12 ReferenceOutOfScope" else codes "S13 BadPattern")))))))))))
+
+abbrev pub valid_line : List ℕ
+valid_line = codes "valid\n"

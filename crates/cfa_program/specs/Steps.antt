@@ -55,3 +55,4 @@ abbrev pub IsStopOf : ℕ → ℕ → Stop → Type 0
 IsStopOf before now stop.Inputs = ⊥
 IsStopOf before now stop.Sink = Rose before now
 IsStopOf before now stop.Memory = Unit {0}
+IsStopOf before now stop.Pattern = ⊥

@@ -1,38 +1,25 @@
 // The top call.
-ghost use Rattle.std.specs.Prelude.{◌≡◌, ◌≢◌, ◌≤◌, ◌<◌, ◌^◌, ◌-◌, None, Some, option_map, IfOk, IfErr, IfSome, IsErrOf, length, ◌⊎◌, List, ℕ};
+ghost use Rattle.std.specs.Prelude.{◌≡◌, ◌≢◌, ◌≤◌, ◌<◌, ◌^◌, ◌-◌, None, Some, IfOk, IfErr, IfSome, IsErrOf, length, ◌⊎◌, List, ℕ};
 ghost use Rattle.cfa_base.specs.Causes.{Rose};
-ghost use Rattle.cfa_outside.specs.Inputs.{fails};
+ghost use Rattle.cfa_outside.specs.declared.worlds.World as declared;
 ghost use Rattle.cfa_parser.specs.FirstForm.{IsOfForm};
-ghost use Rattle.cfa_program.specs.Done.{Stands, IsRefusal, Untouched};
+ghost use Rattle.cfa_program.specs.Done.{Puts, Stands, IsRefusal, Untouched};
 ghost use Rattle.cfa_program.specs.Runs.{run_of};
 ghost use Rattle.cfa_program.specs.Steps.{IsStopOf};
-ghost use Rattle.cfa_program.specs.Calls.{task_asked, policy_of, last_moment, source_of, ran, RunsSource, Follows, IsTaken, Attends, Does, RefusesSource, RefusesPolicy, IsRefused, OnlyFails, OnlyPolicyFails};
+ghost use Rattle.cfa_program.specs.Sources.{OnlyFails, IsNamed};
+ghost use Rattle.cfa_program.specs.Calls.{task_asked, last_moment, ran, RunsSource, OfSource, Follows, Attends, Does, IsOther, RefusesTask, RefusesPolicy, IsRefused, IsNextOf, OnlyNextFails, StopsForSize, CheckStops};
 
+use crate::checking::check_policy;
 use crate::lines;
 use crate::running::{Stop, put_all, run_promises};
-use crate::showing::show_source;
-use crate::tasks::{Task, policy_of, read_task};
-use cfa_base::{Bytes, Name};
+use crate::showing::show_policy;
+use crate::sources::read_source;
+use crate::tasks::{Task, read_task};
+use cfa_base::{Name, Patterns};
 use cfa_classes::LAST_MOMENT;
-use cfa_outside::{Inputs, OutsideErr, Sink, Site};
+use cfa_outside::{Inputs, Sink, Site};
 use cfa_parser::{FirstErr, FirstPromise, read_first};
 use std::alloc::Global;
-
-// One byte more than a policy may have, so that a longer one shows.
-const SOURCE_LIMIT: u32 = 1_048_577;
-
-fn read_source<I: Inputs>(alloc: Global, policy: &Name, inputs: &mut I) -> Result<Bytes, Stop>
-    ensures read { IfOk result (λ source. IfSome (I.told inputs.old) (λ lib. source_of lib.texts policy.now ≡ Some source)) }
-    ensures failed { IsErrOf result Stop.Inputs → Rose (I.faults inputs.old) (I.faults inputs.new) }
-    ensures no_sink { IsErrOf result Stop.Sink → ⊥ }
-    ensures names { (I.told inputs.new ≡ I.told inputs.old) ⊎ (I.told inputs.new ≡ option_map (fails policy.now) (I.told inputs.old)) }
-{
-    match inputs.read(alloc, policy, SOURCE_LIMIT) {
-        Ok(source) => Ok(source),
-        Err(OutsideErr::Failed) => Err(Stop::Inputs),
-        Err(OutsideErr::NoMemory) => Err(Stop::Memory),
-    }
-}
 
 // Runs the promises and puts the total.
 fn run_all<S: Site, O: Sink>(
@@ -78,124 +65,181 @@ fn run_source<S: Site, O: Sink>(
     }
 }
 
-// Does what a task says with the source of its policy.
-fn follow<S: Site, O: Sink>(
+// Runs a policy of the form, or refuses it.
+fn run_policy<I: Inputs, S: Site, O: Sink>(
     alloc: Global,
-    task: &Task,
-    source: &[u8],
+    policy: &Name,
+    inputs: &mut I,
     site: &mut S,
     out: &mut O,
 ) -> Result<u8, Stop>
-    ensures exact { IfOk result (λ status. ¬ (Rose (S.faults site.old) (S.faults site.new)) → IfSome (S.told site.old) (λ t. Stands (Follows task.now source.now t.world) t (O.told out.old) (S.told site.new) (O.told out.new) status)) }
+    ensures exact { IfOk result (λ status. ¬ (Rose (S.faults site.old) (S.faults site.new)) → IfSome (I.told inputs.old) (λ lib. IfSome (S.told site.old) (λ t. Stands (OfSource lib.texts policy.now (λ source. RunsSource policy.now source t.world)) t (O.told out.old) (S.told site.new) (O.told out.new) status))) }
     ensures range { IfOk result (λ status. status ≤ 2) }
-    ensures refused { IfOk result (λ status. status ≡ 1 → ¬ (IsTaken task.now source.now)) }
-    ensures taken { IfOk result (λ status. ¬ (IsTaken task.now source.now) → status ≡ 1) }
-    ensures untouched { ¬ (IsTaken task.now source.now) → Untouched (S.told site.old) (S.faults site.old) (S.told site.new) (S.faults site.new) }
+    ensures refused { IfOk result (λ status. status ≡ 1 → IfSome (I.told inputs.old) (λ lib. IsOther IsOfForm lib.texts policy.now)) }
+    ensures refused_untouched { IfOk result (λ status. status ≡ 1 → Untouched (S.told site.old) (S.faults site.old) (S.told site.new) (S.faults site.new)) }
+    ensures other { IfSome (I.told inputs.old) (λ lib. IsOther IsOfForm lib.texts policy.now → IfOk result (λ status. status ≡ 1) × Untouched (S.told site.old) (S.faults site.old) (S.told site.new) (S.faults site.new)) }
+    ensures inputs_failed { IsErrOf result Stop.Inputs → Rose (I.faults inputs.old) (I.faults inputs.new) × Untouched (S.told site.old) (S.faults site.old) (S.told site.new) (S.faults site.new) }
+    ensures sink_failed { IsErrOf result Stop.Sink → Rose (O.faults out.old) (O.faults out.new) }
+    ensures no_pattern { IsErrOf result Stop.Pattern → ⊥ }
+    ensures names { OnlyFails (IsNamed policy.now) (I.told inputs.old) (I.told inputs.new) }
+{
+    let source = read_source(alloc, policy, inputs)?;
+    run_source(alloc, policy, source.as_slice(), site, out)
+}
+
+// Does a task.
+fn follow<I: Inputs, S: Site, O: Sink, P: Patterns>(
+    alloc: Global,
+    task: &Task,
+    inputs: &mut I,
+    site: &mut S,
+    out: &mut O,
+    pats: &mut P,
+) -> Result<u8, Stop>
+    ensures exact { IfOk result (λ status. ¬ (Rose (S.faults site.old) (S.faults site.new)) → IfSome (I.told inputs.old) (λ lib. IfSome (S.told site.old) (λ t. Stands (Follows task.now lib.texts t.world) t (O.told out.old) (S.told site.new) (O.told out.new) status))) }
+    ensures checked { (policy : List ℕ) → task.now ≡ Task.Check policy → IfOk result (λ status. IfSome (I.told inputs.old) (λ lib. (world : declared.World) → Puts (Follows task.now lib.texts world) (O.told out.old) (O.told out.new) status)) }
+    ensures range { IfOk result (λ status. status ≤ 2) }
+    ensures failed { IfOk result (λ status. status ≡ 2 → (policy : List ℕ) × (task.now ≡ Task.Run policy)) }
+    ensures refused { IfOk result (λ status. status ≡ 1 → IfSome (I.told inputs.old) (λ lib. RefusesTask task.now lib.texts)) }
+    ensures refused_untouched { IfOk result (λ status. status ≡ 1 → Untouched (S.told site.old) (S.faults site.old) (S.told site.new) (S.faults site.new)) }
+    ensures policy_refused { IfSome (I.told inputs.old) (λ lib. RefusesTask task.now lib.texts → IfOk result (λ status. status ≡ 1) × Untouched (S.told site.old) (S.faults site.old) (S.told site.new) (S.faults site.new)) }
     ensures show_untouched { (policy : List ℕ) → task.now ≡ Task.Show policy → Untouched (S.told site.old) (S.faults site.old) (S.told site.new) (S.faults site.new) }
-    ensures stopped { IfErr result (λ stop. IsStopOf (O.faults out.old) (O.faults out.new) stop) }
+    ensures check_untouched { (policy : List ℕ) → task.now ≡ Task.Check policy → Untouched (S.told site.old) (S.faults site.old) (S.told site.new) (S.faults site.new) }
+    ensures inputs_failed { IsErrOf result Stop.Inputs → Rose (I.faults inputs.old) (I.faults inputs.new) × Untouched (S.told site.old) (S.faults site.old) (S.told site.new) (S.faults site.new) }
+    ensures sink_failed { IsErrOf result Stop.Sink → Rose (O.faults out.old) (O.faults out.new) }
+    ensures names { OnlyFails (IsNextOf task.now) (I.told inputs.old) (I.told inputs.new) }
+    ensures pattern { IsErrOf result Stop.Pattern → Rose (P.refusals pats.old) (P.refusals pats.new) × ((policy : List ℕ) × (task.now ≡ Task.Check policy) × StopsForSize policy (I.told inputs.old) (P.told pats.old) (P.told pats.new)) }
+    ensures patterns_kept { ¬ IsErrOf result Stop.Pattern → Untouched (P.told pats.old) (P.refusals pats.old) (P.told pats.new) (P.refusals pats.new) }
 {
     match task {
-        Task::Run(policy) => run_source(alloc, policy, source, site, out),
-        Task::Show(policy) => show_source(alloc, policy, source, out),
+        Task::Run(policy) => run_policy(alloc, policy, inputs, site, out),
+        Task::Show(policy) => show_policy(alloc, policy, inputs, out),
+        Task::Check(policy) => check_policy(alloc, policy, inputs, out, pats),
     }
 }
 
 // Does a task, unless the moment is too late.
-fn attend_task<I: Inputs, S: Site, O: Sink>(
+fn attend_task<I: Inputs, S: Site, O: Sink, P: Patterns>(
     alloc: Global,
     task: &Task,
     moment: u64,
     inputs: &mut I,
     site: &mut S,
     out: &mut O,
+    pats: &mut P,
 ) -> Result<u8, Stop>
     ensures exact { IfOk result (λ status. ¬ (Rose (S.faults site.old) (S.faults site.new)) → IfSome (I.told inputs.old) (λ lib. IfSome (S.told site.old) (λ t. Stands (Attends task.now moment lib.texts t.world) t (O.told out.old) (S.told site.new) (O.told out.new) status))) }
+    ensures checked { (policy : List ℕ) → task.now ≡ Task.Check policy → IfOk result (λ status. IfSome (I.told inputs.old) (λ lib. (world : declared.World) → Puts (Attends task.now moment lib.texts world) (O.told out.old) (O.told out.new) status)) }
     ensures range { IfOk result (λ status. status ≤ 2) }
-    ensures refused { IfOk result (λ status. status ≡ 1 → (last_moment < moment) ⊎ IfSome (I.told inputs.old) (λ lib. RefusesSource task.now lib.texts)) }
+    ensures failed { IfOk result (λ status. status ≡ 2 → (policy : List ℕ) × (task.now ≡ Task.Run policy)) }
+    ensures refused { IfOk result (λ status. status ≡ 1 → (last_moment < moment) ⊎ IfSome (I.told inputs.old) (λ lib. RefusesTask task.now lib.texts)) }
     ensures refused_untouched { IfOk result (λ status. status ≡ 1 → Untouched (S.told site.old) (S.faults site.old) (S.told site.new) (S.faults site.new)) }
-    ensures moment_refused { last_moment < moment → IfOk result (λ status. status ≡ 1) × Untouched (S.told site.old) (S.faults site.old) (S.told site.new) (S.faults site.new) × Untouched (I.told inputs.old) (I.faults inputs.old) (I.told inputs.new) (I.faults inputs.new) }
-    ensures source_refused { IfSome (I.told inputs.old) (λ lib. RefusesSource task.now lib.texts → IfOk result (λ status. status ≡ 1) × Untouched (S.told site.old) (S.faults site.old) (S.told site.new) (S.faults site.new)) }
+    ensures moment_refused { last_moment < moment → IfOk result (λ status. status ≡ 1) × Untouched (S.told site.old) (S.faults site.old) (S.told site.new) (S.faults site.new) × Untouched (I.told inputs.old) (I.faults inputs.old) (I.told inputs.new) (I.faults inputs.new) × ¬ IsErrOf result Stop.Pattern }
+    ensures policy_refused { IfSome (I.told inputs.old) (λ lib. RefusesTask task.now lib.texts → IfOk result (λ status. status ≡ 1) × Untouched (S.told site.old) (S.faults site.old) (S.told site.new) (S.faults site.new)) }
     ensures show_untouched { (policy : List ℕ) → task.now ≡ Task.Show policy → Untouched (S.told site.old) (S.faults site.old) (S.told site.new) (S.faults site.new) }
+    ensures check_untouched { (policy : List ℕ) → task.now ≡ Task.Check policy → Untouched (S.told site.old) (S.faults site.old) (S.told site.new) (S.faults site.new) }
     ensures inputs_failed { IsErrOf result Stop.Inputs → Rose (I.faults inputs.old) (I.faults inputs.new) × Untouched (S.told site.old) (S.faults site.old) (S.told site.new) (S.faults site.new) }
     ensures sink_failed { IsErrOf result Stop.Sink → Rose (O.faults out.old) (O.faults out.new) }
-    ensures names { OnlyFails (policy_of task.now) (I.told inputs.old) (I.told inputs.new) }
+    ensures names { OnlyFails (IsNextOf task.now) (I.told inputs.old) (I.told inputs.new) }
+    ensures pattern { IsErrOf result Stop.Pattern → Rose (P.refusals pats.old) (P.refusals pats.new) × ((policy : List ℕ) × (task.now ≡ Task.Check policy) × StopsForSize policy (I.told inputs.old) (P.told pats.old) (P.told pats.new)) }
+    ensures patterns_kept { ¬ IsErrOf result Stop.Pattern → Untouched (P.told pats.old) (P.refusals pats.old) (P.told pats.new) (P.refusals pats.new) }
 {
     if moment > LAST_MOMENT {
         put_all(out, b"moment: refused\n")?;
         return Ok(1);
     }
-    let source = read_source(alloc, policy_of(task), inputs)?;
-    follow(alloc, task, source.as_slice(), site, out)
+    follow(alloc, task, inputs, site, out, pats)
 }
 
 // Does what the words say up to its end, or tells what stopped it.
-fn attend<I: Inputs, S: Site, O: Sink>(
+fn attend<I: Inputs, S: Site, O: Sink, P: Patterns>(
     alloc: Global,
     words: &[Name],
     moment: u64,
     inputs: &mut I,
     site: &mut S,
     out: &mut O,
+    pats: &mut P,
 ) -> Result<u8, Stop>
     ensures exact { IfOk result (λ status. ¬ (Rose (S.faults site.old) (S.faults site.new)) → IfSome (I.told inputs.old) (λ lib. IfSome (S.told site.old) (λ t. Stands (Does words.now moment lib.texts t.world) t (O.told out.old) (S.told site.new) (O.told out.new) status))) }
+    ensures checked { (policy : List ℕ) → task_asked words.now ≡ Some (Task.Check policy) → IfOk result (λ status. IfSome (I.told inputs.old) (λ lib. (world : declared.World) → Puts (Does words.now moment lib.texts world) (O.told out.old) (O.told out.new) status)) }
     ensures range { IfOk result (λ status. status ≤ 2) }
+    ensures failed { IfOk result (λ status. status ≡ 2 → (policy : List ℕ) × (task_asked words.now ≡ Some (Task.Run policy))) }
     ensures refused { IfOk result (λ status. status ≡ 1 → IsRefused words.now moment (I.told inputs.old)) }
     ensures refused_untouched { IfOk result (λ status. status ≡ 1 → Untouched (S.told site.old) (S.faults site.old) (S.told site.new) (S.faults site.new)) }
-    ensures words_refused { task_asked words.now ≡ None → IfOk result (λ status. status ≡ 1) × Untouched (S.told site.old) (S.faults site.old) (S.told site.new) (S.faults site.new) × Untouched (I.told inputs.old) (I.faults inputs.old) (I.told inputs.new) (I.faults inputs.new) }
-    ensures moment_refused { last_moment < moment → IfOk result (λ status. status ≡ 1) × Untouched (S.told site.old) (S.faults site.old) (S.told site.new) (S.faults site.new) × Untouched (I.told inputs.old) (I.faults inputs.old) (I.told inputs.new) (I.faults inputs.new) }
+    ensures words_refused { task_asked words.now ≡ None → IfOk result (λ status. status ≡ 1) × Untouched (S.told site.old) (S.faults site.old) (S.told site.new) (S.faults site.new) × Untouched (I.told inputs.old) (I.faults inputs.old) (I.told inputs.new) (I.faults inputs.new) × ¬ IsErrOf result Stop.Pattern }
+    ensures moment_refused { last_moment < moment → IfOk result (λ status. status ≡ 1) × Untouched (S.told site.old) (S.faults site.old) (S.told site.new) (S.faults site.new) × Untouched (I.told inputs.old) (I.faults inputs.old) (I.told inputs.new) (I.faults inputs.new) × ¬ IsErrOf result Stop.Pattern }
     ensures policy_refused { IfSome (I.told inputs.old) (λ lib. RefusesPolicy words.now lib.texts → IfOk result (λ status. status ≡ 1) × Untouched (S.told site.old) (S.faults site.old) (S.told site.new) (S.faults site.new)) }
     ensures show_untouched { (policy : List ℕ) → task_asked words.now ≡ Some (Task.Show policy) → Untouched (S.told site.old) (S.faults site.old) (S.told site.new) (S.faults site.new) }
+    ensures check_untouched { (policy : List ℕ) → task_asked words.now ≡ Some (Task.Check policy) → Untouched (S.told site.old) (S.faults site.old) (S.told site.new) (S.faults site.new) }
     ensures inputs_failed { IsErrOf result Stop.Inputs → Rose (I.faults inputs.old) (I.faults inputs.new) × Untouched (S.told site.old) (S.faults site.old) (S.told site.new) (S.faults site.new) }
     ensures sink_failed { IsErrOf result Stop.Sink → Rose (O.faults out.old) (O.faults out.new) }
-    ensures names { OnlyPolicyFails words.now (I.told inputs.old) (I.told inputs.new) }
+    ensures names { OnlyNextFails words.now (I.told inputs.old) (I.told inputs.new) }
+    ensures pattern { IsErrOf result Stop.Pattern → Rose (P.refusals pats.old) (P.refusals pats.new) × CheckStops words.now (I.told inputs.old) (P.told pats.old) (P.told pats.new) }
+    ensures patterns_kept { ¬ IsErrOf result Stop.Pattern → Untouched (P.told pats.old) (P.refusals pats.old) (P.told pats.new) (P.refusals pats.new) }
 {
     match read_task(alloc, words)? {
         None => {
             put_all(out, b"words: refused\n")?;
             Ok(1)
         }
-        Some(task) => attend_task(alloc, &task, moment, inputs, site, out),
+        Some(task) => attend_task(alloc, &task, moment, inputs, site, out, pats),
     }
 }
 
 /// Does what the words say, and answers the status of the process: 0 where the work came to its end, 1 where the words, the
 /// moment or the policy are refused, 2 where a run ended with a failed promise, 4 where the inputs or the sink failed, 5
-/// where memory ended.
+/// where memory ended, 6 where a pattern was refused for its size.
 ///
-/// The words come without the program's name, as `cfa_words` reads them; `run POLICY` and `show POLICY` are built so far.
-/// POLICY names a text of the inputs. `moment` is the time in seconds since 1970-01-01T00:00:00Z; one after the year 9998
-/// is refused.
+/// The words come without the program's name, as `cfa_words` reads them; `run POLICY`, `show POLICY` and `check POLICY`
+/// are built so far. POLICY names a text of the inputs, and so do the inputs that a checked policy lists. `moment` is the
+/// time in seconds since 1970-01-01T00:00:00Z; one after the year 9998 is refused.
 ///
 /// Each line is put as soon as it stands. After a put that failed nothing more is put; after a failed reading the last
-/// line is `stopped: outside`, and after want of memory it is `stopped: memory`.
-pub fn agent_main<I: Inputs, S: Site, O: Sink>(
+/// line is `stopped: outside`, after want of memory it is `stopped: memory`, and after a pattern that was refused for its
+/// size it is `stopped: pattern`.
+pub fn agent_main<I: Inputs, S: Site, O: Sink, P: Patterns>(
     alloc: Global,
     words: &[Name],
     moment: u64,
     inputs: &mut I,
     site: &mut S,
     out: &mut O,
+    pats: &mut P,
 ) -> u8
     // Where no call on the site failed, a call that isn't stopped does exactly what its definition says.
-    ensures exact { result ≢ 4 → result ≢ 5 → ¬ (Rose (S.faults site.old) (S.faults site.new)) → IfSome (I.told inputs.old) (λ lib. IfSome (S.told site.old) (λ t. Stands (Does words.now moment lib.texts t.world) t (O.told out.old) (S.told site.new) (O.told out.new) result)) }
-    ensures range { (result ≤ 2) ⊎ ((result ≡ 4) ⊎ (result ≡ 5)) }
+    ensures exact { result ≢ 4 → result ≢ 5 → result ≢ 6 → ¬ (Rose (S.faults site.old) (S.faults site.new)) → IfSome (I.told inputs.old) (λ lib. IfSome (S.told site.old) (λ t. Stands (Does words.now moment lib.texts t.world) t (O.told out.old) (S.told site.new) (O.told out.new) result)) }
 
-    // Status 1 comes exactly for refused words, a refused moment and a refused policy, and then nothing was done on the
-    // site, nor anything read where the words or the moment are refused.
+    // A check does so on any site.
+    ensures checked { result ≢ 4 → result ≢ 5 → result ≢ 6 → (policy : List ℕ) → task_asked words.now ≡ Some (Task.Check policy) → IfSome (I.told inputs.old) (λ lib. (world : declared.World) → Puts (Does words.now moment lib.texts world) (O.told out.old) (O.told out.new) result) }
+    ensures range { (result ≤ 2) ⊎ ((result ≡ 4) ⊎ ((result ≡ 5) ⊎ (result ≡ 6))) }
+
+    // Status 1 comes exactly for refused words, a refused moment and a refused policy, unless a pattern is too big, and
+    // then nothing was done on the site, nor anything read where the words or the moment are refused.
     ensures refused { result ≡ 1 → IsRefused words.now moment (I.told inputs.old) }
     ensures refused_untouched { result ≡ 1 → Untouched (S.told site.old) (S.faults site.old) (S.told site.new) (S.faults site.new) }
     ensures words_refused { task_asked words.now ≡ None → IsRefusal result × Untouched (S.told site.old) (S.faults site.old) (S.told site.new) (S.faults site.new) × Untouched (I.told inputs.old) (I.faults inputs.old) (I.told inputs.new) (I.faults inputs.new) }
     ensures moment_refused { last_moment < moment → IsRefusal result × Untouched (S.told site.old) (S.faults site.old) (S.told site.new) (S.faults site.new) × Untouched (I.told inputs.old) (I.faults inputs.old) (I.told inputs.new) (I.faults inputs.new) }
-    ensures policy_refused { IfSome (I.told inputs.old) (λ lib. RefusesPolicy words.now lib.texts → IsRefusal result × Untouched (S.told site.old) (S.faults site.old) (S.told site.new) (S.faults site.new)) }
+    ensures policy_refused { IfSome (I.told inputs.old) (λ lib. RefusesPolicy words.now lib.texts → (IsRefusal result ⊎ (result ≡ 6)) × Untouched (S.told site.old) (S.faults site.old) (S.told site.new) (S.faults site.new)) }
 
-    // To show a policy touches no site.
+    // To show or to check a policy touches no site.
     ensures show_untouched { (policy : List ℕ) → task_asked words.now ≡ Some (Task.Show policy) → Untouched (S.told site.old) (S.faults site.old) (S.told site.new) (S.faults site.new) }
+    ensures check_untouched { (policy : List ℕ) → task_asked words.now ≡ Some (Task.Check policy) → Untouched (S.told site.old) (S.faults site.old) (S.told site.new) (S.faults site.new) }
 
-    // Status 4 comes only where a put failed, or the reading of the policy did, before anything was done on the site.
+    // Status 2 comes only for a run.
+    ensures failed { result ≡ 2 → (policy : List ℕ) × (task_asked words.now ≡ Some (Task.Run policy)) }
+
+    // Status 4 comes only where a put failed, or the reading of a file of the policy did, before anything was done on the
+    // site; and no reading fails but that of the file that is read next.
     ensures outside { result ≡ 4 → Rose (O.faults out.old) (O.faults out.new) ⊎ (Rose (I.faults inputs.old) (I.faults inputs.new) × Untouched (S.told site.old) (S.faults site.old) (S.told site.new) (S.faults site.new)) }
-    ensures names { OnlyPolicyFails words.now (I.told inputs.old) (I.told inputs.new) }
+    ensures names { OnlyNextFails words.now (I.told inputs.old) (I.told inputs.new) }
+
+    // Status 6 comes only where a pattern of a policy that is checked was refused for its size, after all its files were
+    // read and nothing else was refused. Otherwise no pattern was.
+    ensures pattern { result ≡ 6 → Rose (P.refusals pats.old) (P.refusals pats.new) × CheckStops words.now (I.told inputs.old) (P.told pats.old) (P.told pats.new) }
+    ensures patterns_kept { result ≢ 6 → Untouched (P.told pats.old) (P.refusals pats.old) (P.told pats.new) (P.refusals pats.new) }
 {
-    match attend(alloc, words, moment, inputs, site, out) {
+    match attend(alloc, words, moment, inputs, site, out, pats) {
         Ok(status) => status,
         Err(Stop::Inputs) => {
             let _ = put_all(out, b"stopped: outside\n");
@@ -205,6 +249,10 @@ pub fn agent_main<I: Inputs, S: Site, O: Sink>(
         Err(Stop::Memory) => {
             let _ = put_all(out, b"stopped: memory\n");
             5
+        }
+        Err(Stop::Pattern) => {
+            let _ = put_all(out, b"stopped: pattern\n");
+            6
         }
     }
 }

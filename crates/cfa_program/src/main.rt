@@ -1,18 +1,21 @@
-//! The agent: runs and shows policies by the words of its command line.
+//! The agent: runs, shows and checks policies by the words of its command line.
 #![tactic(auto)]
 
 mod agent;
+mod checking;
 mod host;
 mod lines;
+mod refusing;
 mod running;
 mod showing;
+mod sources;
 mod tasks;
 #[cfg(test)]
 mod tests;
 
 use agent::agent_main;
 use cfa_base::{Name, NoMemory};
-use cfa_outside::{MemorySite, World};
+use cfa_outside::{MemorySite, RegexPatterns, World};
 use host::{HostInputs, HostSink};
 use std::alloc::Global;
 use std::env;
@@ -51,6 +54,7 @@ fn start(rt: &HostRuntime) -> Result<u8, NoMemory> {
     let mut site = MemorySite::new(alloc, World::new(alloc), Vec::new(alloc), None)?;
     let mut inputs = HostInputs::new(rt.clone()?);
     let mut out = HostSink::new(rt.clone()?);
+    let mut pats = RegexPatterns::new(alloc, Vec::new(alloc));
     Ok(agent_main(
         alloc,
         words.as_slice(),
@@ -58,6 +62,7 @@ fn start(rt: &HostRuntime) -> Result<u8, NoMemory> {
         &mut inputs,
         &mut site,
         &mut out,
+        &mut pats,
     ))
 }
 

@@ -23,12 +23,14 @@ pub struct SinkFailed;
 /// What stops a call before its end.
 #[derive(Clone, Copy, Debug, PartialEq, Eq)]
 pub enum Stop {
-    /// The policy couldn't be read from the inputs.
+    /// A file of the policy couldn't be read from the inputs.
     Inputs,
     /// A put on the sink failed.
     Sink,
     /// No memory was left.
     Memory,
+    /// A pattern was refused for its size.
+    Pattern,
 }
 
 impl From<SinkFailed> for Stop {

@@ -1,6 +1,6 @@
 // What a call is asked for.
 ghost use Rattle.std.specs.Prelude.{◌≡◌, IfOk};
-ghost use Rattle.cfa_program.specs.Calls.{task_asked, policy_of};
+ghost use Rattle.cfa_program.specs.Calls.{task_asked};
 
 use cfa_base::{Name, NoMemory};
 use cfa_words::{Request, read_words};
@@ -11,6 +11,7 @@ use std::alloc::Global;
 pub enum Task {
     Run(Name),
     Show(Name),
+    Check(Name),
 }
 
 /// The task that the words ask for. `None` where they are refused.
@@ -27,22 +28,7 @@ pub fn read_task(alloc: Global, words: &[Name]) -> Result<Option<Task>, NoMemory
             },
         ) => Ok(Some(Task::Run(policy))),
         Some(Request::Show { policy }) => Ok(Some(Task::Show(policy))),
-        Some(
-            Request::Check {
-                policy: _,
-                classes: _,
-            },
-        ) => Ok(None),
+        Some(Request::Check { policy, classes: _ }) => Ok(Some(Task::Check(policy))),
         None => Ok(None),
-    }
-}
-
-/// The name of a task's policy.
-pub fn policy_of(task: &Task) -> &Name
-    ensures { result.now ≡ policy_of task.now }
-{
-    match task {
-        Task::Run(policy) => policy,
-        Task::Show(policy) => policy,
     }
 }

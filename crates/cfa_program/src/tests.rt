@@ -1,7 +1,7 @@
 // Calls of the top call over objects in memory: worlds, logs, lines and statuses.
 use crate::agent::agent_main;
 use cfa_base::{Bytes, Name};
-use cfa_outside::{MemoryInputs, MemorySink, MemorySite, World};
+use cfa_outside::{MemoryInputs, MemorySink, MemorySite, RegexPatterns, World};
 use std::alloc::Global;
 use std::process::Abort;
 use std::test::Fail;
@@ -17,8 +17,8 @@ const BENEATH_A_FILE: &str =
 
 const EMPTY: &str = "bundle agent main\n{\n  files:\n}\n";
 
-// A call of the program: its words, its moment, the text of `a.cf`, the call of each object that fails (0: none), and the
-// room of the sink; then what it must put and answer, and how many entries the site's log has afterwards.
+// A call of the program: its words, its moment, the text of `a.cf`, the call of each object that fails or is refused (0:
+// none), and the room of the sink; then what it must put and answer, and how many entries the site's log has afterwards.
 #[derive(Clone, Copy)]
 struct Case<'a> {
     words: &'a str,
@@ -27,6 +27,7 @@ struct Case<'a> {
     failing_read: u32,
     failing_call: u32,
     failing_put: u32,
+    refused_build: u32,
     room: usize,
     lines: &'a str,
     status: u8,
@@ -40,6 +41,7 @@ const PLAIN: Case<'static> = Case {
     failing_read: 0,
     failing_call: 0,
     failing_put: 0,
+    refused_build: 0,
     room: 4096,
     lines: MOTD_REPAIRED,
     status: 0,
@@ -55,12 +57,18 @@ fn empty_site(alloc: Global, failing_call: u32) -> Result<MemorySite, Fail> {
     )?)
 }
 
-fn inputs_of(alloc: Global, text: &str, failing_read: u32) -> Result<MemoryInputs, Fail> {
+fn inputs_of(
+    alloc: Global,
+    files: &[(&str, &[u8])],
+    failing_read: u32,
+) -> Result<MemoryInputs, Fail> {
     let mut texts = Vec::new(alloc);
-    texts.push((
-        Name::from_text(alloc, "a.cf")?,
-        Bytes::from_slice(alloc, text.as_bytes())?,
-    ))?;
+    for file in files {
+        texts.push((
+            Name::from_text(alloc, file.0)?,
+            Bytes::from_slice(alloc, file.1)?,
+        ))?;
+    }
     Ok(MemoryInputs::new(alloc, texts, vec![in alloc; failing_read]?)?)
 }
 
@@ -72,18 +80,25 @@ fn words_of(alloc: Global, line: &str) -> Result<Vec<Name>, Fail> {
     Ok(words)
 }
 
-// Makes the call on this site, and compares.
-fn compare(rt: &impl Abort, alloc: Global, case: &Case, site: &mut MemorySite) -> Result<(), Fail> {
+// Makes the call on these inputs and this site, and compares.
+fn compare_on(
+    rt: &impl Abort,
+    alloc: Global,
+    case: &Case,
+    inputs: &mut MemoryInputs,
+    site: &mut MemorySite,
+) -> Result<(), Fail> {
     let words = words_of(alloc, case.words)?;
-    let mut inputs = inputs_of(alloc, case.text, case.failing_read)?;
     let mut out = MemorySink::new(alloc, case.room, vec![in alloc; case.failing_put]?)?;
+    let mut pats = RegexPatterns::new(alloc, vec![in alloc; case.refused_build]?);
     let status = agent_main(
         alloc,
         words.as_slice(),
         case.moment,
-        &mut inputs,
+        inputs,
         site,
         &mut out,
+        &mut pats,
     );
     assert!(rt; status == case.status, "status of {}", case.words);
     assert!(rt;
@@ -97,6 +112,12 @@ fn compare(rt: &impl Abort, alloc: Global, case: &Case, site: &mut MemorySite) -
         case.lines
     );
     Ok(())
+}
+
+fn compare(rt: &impl Abort, alloc: Global, case: &Case, site: &mut MemorySite) -> Result<(), Fail> {
+    let files = [("a.cf", case.text.as_bytes())];
+    let mut inputs = inputs_of(alloc, &files, case.failing_read)?;
+    compare_on(rt, alloc, case, &mut inputs, site)
 }
 
 #[test]
@@ -113,7 +134,7 @@ fn a_rerun_keeps_what_a_run_made(rt: HostRuntime) -> Result<(), Fail> {
 }
 
 // Calls on an empty world.
-const ON_AN_EMPTY_WORLD: [Case<'static>; 17] = [
+const ON_AN_EMPTY_WORLD: [Case<'static>; 16] = [
     Case {
         text: BENEATH_A_FILE,
         lines: "repaired main:1@4 1\nfailed main:2@5 F3 Obstructed\ntotal kept 0 repaired 1 failed 1 skipped 0\n",
@@ -170,13 +191,6 @@ const ON_AN_EMPTY_WORLD: [Case<'static>; 17] = [
         failing_read: 1,
         lines: "stopped: outside\n",
         status: 4,
-        entries: 0,
-        ..PLAIN
-    },
-    Case {
-        words: "check a.cf",
-        lines: "words: refused\n",
-        status: 1,
         entries: 0,
         ..PLAIN
     },
@@ -341,21 +355,311 @@ fn shows_what_reads(rt: HostRuntime) -> Result<(), Fail> {
     Ok(())
 }
 
-// Makes a call on a source of any bytes, and compares what it puts.
-fn compare_source(rt: &impl Abort, alloc: Global, source: &[u8], lines: &str) -> Result<(), Fail> {
-    let mut texts = Vec::new(alloc);
-    texts.push((
-        Name::from_text(alloc, "a.cf")?,
-        Bytes::from_slice(alloc, source)?,
-    ))?;
-    let mut inputs = MemoryInputs::new(alloc, texts, Vec::new(alloc))?;
-    let mut site = empty_site(alloc, 0)?;
-    let mut out = MemorySink::new(alloc, 4096, Vec::new(alloc))?;
-    let words = words_of(alloc, "show a.cf")?;
-    let status = agent_main(alloc, words.as_slice(), 0, &mut inputs, &mut site, &mut out);
-    assert!(rt; status == 1);
-    assert!(rt; out.bytes() == lines.as_bytes());
+const CHECKED: Case<'static> = Case {
+    words: "check a.cf",
+    lines: "valid\n",
+    entries: 0,
+    ..PLAIN
+};
+
+const INVALID: Case<'static> = Case {
+    status: 1,
+    ..CHECKED
+};
+
+const DELETES_MATCHING: &str =
+    "bundle agent main\n{\n  files:\n    \"/a\" edit_line => e;\n}\nbundle edit_line e\n{\n  delete_lines:\n    \".*\";\n}\n";
+
+// Policies of one file that are valid, or refused at their first fault.
+const CHECKS: [Case<'static>; 27] = [
+    CHECKED,
+    Case {
+        words: "check a.cf -D web,Hr10",
+        ..CHECKED
+    },
+    Case {
+        text: DELETES_MATCHING,
+        ..CHECKED
+    },
+    Case {
+        text: DELETES_MATCHING,
+        refused_build: 1,
+        lines: "stopped: pattern\n",
+        status: 6,
+        ..CHECKED
+    },
+    Case {
+        words: "check a.cf -K",
+        lines: "words: refused\n",
+        ..INVALID
+    },
+    Case {
+        words: "check a.cf --strict",
+        lines: "words: refused\n",
+        ..INVALID
+    },
+    Case {
+        moment: 253_370_764_800,
+        lines: "moment: refused\n",
+        ..INVALID
+    },
+    Case {
+        text: "%",
+        lines: "a.cf:1:1 L1 BadByte\n",
+        ..INVALID
+    },
+    Case {
+        text: "bundle agent main\n{\n  files:\n    \"/a\" create => \"true\";\n",
+        lines: "a.cf:5:1 P1 Unexpected\n",
+        ..INVALID
+    },
+    Case {
+        text: "bundle agent main { files: !!!!!!!!!!!!!!!!!",
+        lines: "a.cf:1:44 P2 TooDeep\n",
+        ..INVALID
+    },
+    Case {
+        text: "bundle agent main\n{\n  filez:\n    \"/a\" create => \"true\";\n}\n",
+        lines: "a.cf:3:3 S1 UnknownType\n",
+        ..INVALID
+    },
+    Case {
+        text: "bundle agent main\n{\n  commands:\n    \"/a\" create => \"true\";\n}\n",
+        lines: "a.cf:3:3 S2 TypeOutOfScope\n",
+        ..INVALID
+    },
+    Case {
+        text: "bundle agent main\n{\n  files:\n    \"/a\" creat => \"true\";\n}\n",
+        lines: "a.cf:4:10 S3 UnknownAttribute\n",
+        ..INVALID
+    },
+    Case {
+        text: "bundle agent main\n{\n  files:\n    \"/a\" create => \"maybe\";\n}\n",
+        lines: "a.cf:4:20 S4 WrongValue\n",
+        ..INVALID
+    },
+    Case {
+        text: "bundle agent main\n{\n  files:\n    \"/a\" perms => m(\"600\");\n}\n",
+        lines: "a.cf:4:19 S5 UnknownBody\n",
+        ..INVALID
+    },
+    Case {
+        text: "bundle agent main\n{\n  files:\n    \"/a\" edit_line => add(\"x\");\n}\n",
+        lines: "a.cf:4:23 S6 UnknownBundle\n",
+        ..INVALID
+    },
+    Case {
+        text: "bundle agent main\n{\n  files:\n    \"/a\" perms => m;\n}\nbody perms m(x)\n{\n  mode => \"$(x)\";\n}\n",
+        lines: "a.cf:4:19 S7 ArgumentCount\n",
+        ..INVALID
+    },
+    Case {
+        text: "bundle agent main\n{\n  files:\n    \"/a\" create => \"true\", create => \"true\";\n}\n",
+        lines: "a.cf:4:28 S8 Duplicate\n",
+        ..INVALID
+    },
+    Case {
+        text: "bundle agent main\n{\n  methods:\n    \"m\" usebundle => main;\n}\n",
+        lines: "a.cf:4:22 S9 CallCycle\n",
+        ..INVALID
+    },
+    Case {
+        text: "bundle agent other\n{\n  files:\n    \"/a\" create => \"true\";\n}\n",
+        lines: "a.cf:1:1 S10 NoSequence\n",
+        ..INVALID
+    },
+    Case {
+        text: "bundle agent main\n{\n  classes:\n    \"c\" expression => \"a..b\";\n}\n",
+        lines: "a.cf:4:23 S11 BadClassText\n",
+        ..INVALID
+    },
+    Case {
+        text: "bundle agent main\n{\n  files:\n    \"$(sys.host)\" create => \"true\";\n}\n",
+        lines: "a.cf:4:5 S12 ReferenceOutOfScope\n",
+        ..INVALID
+    },
+    Case {
+        text: "bundle agent main\n{\n  files:\n    \"/a\" edit_line => e;\n}\nbundle edit_line e\n{\n  delete_lines:\n    \"(\";\n}\n",
+        lines: "a.cf:9:5 S13 BadPattern\n",
+        ..INVALID
+    },
+    Case {
+        words: "check b.cf",
+        lines: "stopped: outside\n",
+        status: 4,
+        ..CHECKED
+    },
+    Case {
+        failing_read: 1,
+        lines: "stopped: outside\n",
+        status: 4,
+        ..CHECKED
+    },
+    Case {
+        failing_put: 1,
+        lines: "",
+        status: 4,
+        ..CHECKED
+    },
+    Case {
+        text: "%",
+        failing_put: 1,
+        lines: "",
+        status: 4,
+        ..CHECKED
+    },
+];
+
+#[test]
+fn checks_a_file(rt: HostRuntime) -> Result<(), Fail> {
+    for case in &CHECKS {
+        let mut site = empty_site(rt.alloc(), case.failing_call)?;
+        compare(&rt, rt.alloc(), case, &mut site)?;
+    }
     Ok(())
+}
+
+const WITH_INPUTS: &str =
+    "body common control\n{\n  inputs => { \"b.cf\", \"c.cf\" };\n}\nbundle agent main\n{\n  files:\n    \"/a\" create => \"true\";\n}\n";
+
+const INPUT_B: &str = "bundle agent b\n{\n  files:\n}\n";
+
+const INPUT_C: &str = "bundle agent c\n{\n  files:\n    \"/c\" create => \"true\";\n}\n";
+
+const MISSPELLED: &str = "bundle agent c\n{\n  files:\n    \"/c\" creat => \"true\";\n}\n";
+
+// The files that are read as the main file's inputs, with the lines and the status of a check.
+#[derive(Clone, Copy)]
+struct InputsCase<'a> {
+    main: &'a str,
+    files: [(&'a str, &'a str); 2],
+    lines: &'a str,
+    status: u8,
+}
+
+const OF_INPUTS: InputsCase<'static> = InputsCase {
+    main: WITH_INPUTS,
+    files: [("b.cf", INPUT_B), ("c.cf", INPUT_C)],
+    lines: "valid\n",
+    status: 0,
+};
+
+const INVALID_INPUTS: InputsCase<'static> = InputsCase {
+    status: 1,
+    ..OF_INPUTS
+};
+
+// Policies of three files. Files are refused in the order in which they are read, and only then the policy as a whole.
+const CHECKS_OF_INPUTS: [InputsCase<'static>; 12] = [
+    OF_INPUTS,
+    InputsCase {
+        files: [("b.cf", "%"), ("c.cf", INPUT_C)],
+        lines: "b.cf:1:1 L1 BadByte\n",
+        ..INVALID_INPUTS
+    },
+    InputsCase {
+        files: [
+            ("b.cf", "bundle agent b\n{\n  files:\n    \"/"),
+            ("c.cf", INPUT_C),
+        ],
+        lines: "b.cf:4:5 L2 UnclosedText\n",
+        ..INVALID_INPUTS
+    },
+    InputsCase {
+        files: [("b.cf", INPUT_B), ("c.cf", "bundle agent c\n{\n  files:\n")],
+        lines: "c.cf:4:1 P1 Unexpected\n",
+        ..INVALID_INPUTS
+    },
+    InputsCase {
+        files: [("b.cf", INPUT_B), ("c.cf", MISSPELLED)],
+        lines: "c.cf:4:10 S3 UnknownAttribute\n",
+        ..INVALID_INPUTS
+    },
+    InputsCase {
+        files: [("b.cf", INPUT_B), ("c.cf", INPUT_B)],
+        lines: "c.cf:1:14 S8 Duplicate\n",
+        ..INVALID_INPUTS
+    },
+    InputsCase {
+        files: [("b.cf", "}"), ("c.cf", "%")],
+        lines: "b.cf:1:1 P1 Unexpected\n",
+        ..INVALID_INPUTS
+    },
+    InputsCase {
+        files: [("b.cf", MISSPELLED), ("c.cf", MISSPELLED)],
+        lines: "b.cf:4:10 S3 UnknownAttribute\n",
+        ..INVALID_INPUTS
+    },
+    InputsCase {
+        files: [("b.cf", MISSPELLED), ("c.cf", "%")],
+        lines: "c.cf:1:1 L1 BadByte\n",
+        ..INVALID_INPUTS
+    },
+    InputsCase {
+        files: [("d.cf", INPUT_B), ("c.cf", "%")],
+        lines: "stopped: outside\n",
+        status: 4,
+        ..OF_INPUTS
+    },
+    InputsCase {
+        files: [("b.cf", "%"), ("d.cf", INPUT_C)],
+        lines: "b.cf:1:1 L1 BadByte\n",
+        ..INVALID_INPUTS
+    },
+    InputsCase {
+        main: "body common control\n{\n  inputs => { \"c.cf\", \"b.cf\" };\n}\nbundle agent other\n{\n  files:\n}\n",
+        lines: "a.cf:1:1 S10 NoSequence\n",
+        ..INVALID_INPUTS
+    },
+];
+
+// Checks a policy of these three files, and compares.
+fn compare_files(
+    rt: &impl Abort,
+    alloc: Global,
+    files: &[(&str, &[u8])],
+    lines: &str,
+    status: u8,
+) -> Result<(), Fail> {
+    let case = Case {
+        lines,
+        status,
+        ..CHECKED
+    };
+    let mut inputs = inputs_of(alloc, files, 0)?;
+    let mut site = empty_site(alloc, 0)?;
+    compare_on(rt, alloc, &case, &mut inputs, &mut site)
+}
+
+#[test]
+fn checks_inputs(rt: HostRuntime) -> Result<(), Fail> {
+    for row in &CHECKS_OF_INPUTS {
+        let files = [
+            ("a.cf", row.main.as_bytes()),
+            (row.files[0].0, row.files[0].1.as_bytes()),
+            (row.files[1].0, row.files[1].1.as_bytes()),
+        ];
+        compare_files(&rt, rt.alloc(), &files, row.lines, row.status)?;
+    }
+    Ok(())
+}
+
+#[test]
+fn an_input_is_a_text(rt: HostRuntime) -> Result<(), Fail> {
+    let files = [("a.cf", WITH_INPUTS.as_bytes()), ("b.cf", [255].as_slice())];
+    compare_files(&rt, rt.alloc(), &files, "b.cf:1:1 L3 NotText\n", 1)
+}
+
+// Shows a source of any bytes, which is refused with these lines.
+fn compare_source(rt: &impl Abort, alloc: Global, source: &[u8], lines: &str) -> Result<(), Fail> {
+    let case = Case {
+        lines,
+        status: 1,
+        ..SHOWN
+    };
+    let mut inputs = inputs_of(alloc, &[("a.cf", source)], 0)?;
+    let mut site = empty_site(alloc, 0)?;
+    compare_on(rt, alloc, &case, &mut inputs, &mut site)
 }
 
 #[test]
@@ -401,9 +705,18 @@ fn ten_thousand_files(rt: HostRuntime) -> Result<(), Fail> {
         "total kept 10000 repaired 0 failed 0 skipped 0\n",
     ];
     for total in totals {
-        let mut inputs = inputs_of(alloc, text.as_str(), 0)?;
+        let mut inputs = inputs_of(alloc, &[("a.cf", text.as_str().as_bytes())], 0)?;
         let mut out = MemorySink::new(alloc, 1_048_576, Vec::new(alloc))?;
-        let status = agent_main(alloc, words.as_slice(), 0, &mut inputs, &mut site, &mut out);
+        let mut pats = RegexPatterns::new(alloc, Vec::new(alloc));
+        let status = agent_main(
+            alloc,
+            words.as_slice(),
+            0,
+            &mut inputs,
+            &mut site,
+            &mut out,
+            &mut pats,
+        );
         assert!(rt; status == 0);
         assert!(rt; out.bytes().ends_with(total.as_bytes()));
         assert!(rt; site.log().len() == 10_000);
