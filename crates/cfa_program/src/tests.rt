@@ -1,4 +1,14 @@
 // Calls of the top call over objects in memory: worlds, logs, lines and statuses.
+mod blocks;
+mod bodies;
+mod frames;
+mod functions;
+mod inputs;
+mod ordering;
+mod promises;
+mod references;
+mod sequences;
+
 use crate::agent::agent_main;
 use cfa_base::{Bytes, Name};
 use cfa_outside::{MemoryInputs, MemorySink, MemorySite, RegexPatterns, World};
