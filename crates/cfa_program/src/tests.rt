@@ -623,11 +623,11 @@ const CHECKS_OF_INPUTS: [InputsCase<'static>; 12] = [
     },
 ];
 
-// Checks a policy of these three files, and compares.
-fn compare_files(
+// Checks the policy of these inputs, and compares.
+fn compare_inputs(
     rt: &impl Abort,
     alloc: Global,
-    files: &[(&str, &[u8])],
+    inputs: &mut MemoryInputs,
     lines: &str,
     status: u8,
 ) -> Result<(), Fail> {
@@ -636,9 +636,20 @@ fn compare_files(
         status,
         ..CHECKED
     };
-    let mut inputs = inputs_of(alloc, files, 0)?;
     let mut site = empty_site(alloc, 0)?;
-    compare_on(rt, alloc, &case, &mut inputs, &mut site)
+    compare_on(rt, alloc, &case, inputs, &mut site)
+}
+
+// Checks a policy of these files, and compares.
+fn compare_files(
+    rt: &impl Abort,
+    alloc: Global,
+    files: &[(&str, &[u8])],
+    lines: &str,
+    status: u8,
+) -> Result<(), Fail> {
+    let mut inputs = inputs_of(alloc, files, 0)?;
+    compare_inputs(rt, alloc, &mut inputs, lines, status)
 }
 
 #[test]

@@ -1,5 +1,7 @@
 // Policies of several files: which inputs are read, and in which file the first refusal stands.
-use super::compare_files;
+use super::{compare_files, compare_inputs};
+use cfa_base::{Bytes, Name};
+use cfa_outside::MemoryInputs;
 use std::alloc::Global;
 use std::process::Abort;
 use std::test::Fail;
@@ -216,7 +218,24 @@ const OF_MANY_FILES: [(&str, &str, &str); 6] = [
     ),
 ];
 
-// The files `i1` to `i16` are there, and `i17` isn't.
+// The main file, and the files `i1` to `i16`, of which the last alone has a text.
+fn sixteen_inputs(alloc: Global, main: &str, last: &str) -> Result<MemoryInputs, Fail> {
+    let mut texts = Vec::new(alloc);
+    texts.push((
+        Name::from_text(alloc, "a.cf")?,
+        Bytes::from_slice(alloc, main.as_bytes())?,
+    ))?;
+    for number in 1..17 {
+        let name = format!(in alloc; "i{number}")?;
+        let text = if number == 16 { last } else { "" };
+        texts.push((
+            Name::from_text(alloc, name.as_str())?,
+            Bytes::from_slice(alloc, text.as_bytes())?,
+        ))?;
+    }
+    Ok(MemoryInputs::new(alloc, texts, Vec::new(alloc))?)
+}
+
 fn check_many_files(
     rt: &impl Abort,
     alloc: Global,
@@ -225,33 +244,19 @@ fn check_many_files(
     answer: &str,
 ) -> Result<(), Fail> {
     let main = format!(in alloc;
-        "body common control {{ inputs => {items}; }}\nbundle agent main {{ }}\n"
+        "body common control {{ inputs => {items}; }}
+bundle agent main {{ }}
+"
     )?;
-    let empty = b"".as_slice();
-    let files = [
-        ("a.cf", main.as_str().as_bytes()),
-        ("i1", empty),
-        ("i2", empty),
-        ("i3", empty),
-        ("i4", empty),
-        ("i5", empty),
-        ("i6", empty),
-        ("i7", empty),
-        ("i8", empty),
-        ("i9", empty),
-        ("i10", empty),
-        ("i11", empty),
-        ("i12", empty),
-        ("i13", empty),
-        ("i14", empty),
-        ("i15", empty),
-        ("i16", last.as_bytes()),
-    ];
-    let lines = format!(in alloc; "{answer}\n")?;
-    compare_files(
+    let mut inputs = sixteen_inputs(alloc, main.as_str(), last)?;
+    let lines = format!(in alloc;
+        "{answer}
+"
+    )?;
+    compare_inputs(
         rt,
         alloc,
-        &files,
+        &mut inputs,
         lines.as_str(),
         u8::from(answer != "valid"),
     )

@@ -328,7 +328,7 @@ fn checks_files(rt: HostRuntime) -> Result<(), Fail> {
 }
 
 // A methods promise names an agent bundle, a services promise may give a policy.
-const OTHER_PROMISES: [Row<'static>; 41] = [
+const OTHER_PROMISES: [Row<'static>; 43] = [
     (
         "methods: 'm' usebundle => plain; 'n' usebundle => 'plain'; 'o' usebundle => plain(); 'p' usebundle => sub('x'); 'q' usebundle => sub(@(l)), classes => r('c'), action => now, comment => 'c', handle => 'h', meta => { };",
         "valid",
@@ -379,6 +379,14 @@ const OTHER_PROMISES: [Row<'static>; 41] = [
     (
         "methods: 'm' usebundle => plain, service_policy => 'start';",
         "3:34 S3 UnknownAttribute",
+    ),
+    (
+        "methods: 'm' usebundle => plain, classes => nosuch;",
+        "3:45 S5 UnknownBody",
+    ),
+    (
+        "methods: 'm' usebundle => plain, action => 'now';",
+        "3:44 S4 WrongValue",
     ),
     (
         "services: 's'; 's' service_policy => 'start'; 's' service_policy => stop; 's' service_policy => 'enable'; 's' service_policy => 'disable'; 's' service_policy => 'restart'; 's' service_policy => $(p), classes => r('c'), action => now, comment => 'c', handle => 'h', meta => { };",

@@ -86,7 +86,7 @@ fn checks_the_default_sequence(rt: HostRuntime) -> Result<(), Fail> {
 }
 
 // A call is refused where the called bundle reaches the caller; a call into a cycle from outside isn't.
-const CYCLES: [Row<'static>; 15] = [
+const CYCLES: [Row<'static>; 16] = [
     (
         "bundle agent main { methods: 'm0' usebundle => 'main'; }\n",
         "1:48 S9 CallCycle",
@@ -138,6 +138,10 @@ const CYCLES: [Row<'static>; 15] = [
     (
         "bundle agent main { methods: 'm' usebundle => main('x'); }",
         "1:47 S7 ArgumentCount",
+    ),
+    (
+        "bundle agent main { methods: 'm0' usebundle => b; }\nbundle agent b { methods: 'm' usebundle => main('x'); }\n",
+        "1:48 S9 CallCycle",
     ),
     (
         "bundle agent main { methods: 'm0' usebundle => nosuch; 'm1' usebundle => main; }\n",
