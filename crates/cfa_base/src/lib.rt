@@ -8,6 +8,7 @@ mod places;
 mod texts;
 mod tokens;
 mod want_of_memory;
+mod words;
 
 pub use byte_strings::Bytes;
 pub use keys::Key;
@@ -16,6 +17,7 @@ pub use places::{Place, PromiseId};
 pub use texts::{Name, Names};
 pub use tokens::Kind;
 pub use want_of_memory::NoMemory;
+pub use words::{is_name, is_word, is_word_byte, word_len};
 
 #[cfg(test)]
 mod tests {

@@ -7,7 +7,7 @@ use Rattle.std.specs.Str.{bytes_eq, all_ascii_digits}
 use Rattle.std.specs.Str.Parse.{digits_value}
 use Rattle.cfa_base.specs.Patterns.{is_pattern, matches_in, pattern_of}
 use Rattle.cfa_base.specs.declared.patterns.How.TheVariants.{Whole}
-use Rattle.cfa_vars.specs.References.{is_word_byte}
+use Rattle.cfa_base.specs.Lexing.{is_word_byte}
 use Rattle.cfa_vars.specs.Scopes.{InScope, look}
 use Rattle.cfa_functions.specs.declared.answering.Answer.{Answer}
 use Rattle.cfa_functions.specs.declared.answering.Answer.TheVariants.{Text, Class, Unresolved, TooLong}

@@ -3,7 +3,6 @@ ghost use Rattle.std.specs.Prelude.{◌≡◌, ◌++◌, ◌<◌, ◌==◌, [], 
 ghost use Rattle.std.specs.List.{flat_map};
 ghost use Rattle.std.specs.Fmt.{decimal};
 ghost use Rattle.std.specs.Str.{bytes_eq, all_ascii_digits};
-ghost use Rattle.cfa_vars.specs.References.{is_word_byte};
 ghost use Rattle.cfa_vars.specs.Scopes.{in_scope, look};
 ghost use Rattle.cfa_functions.specs.Functions.{as_text, as_list, one_text, one_list, two_texts, text_and_list, list_and_text, text_in, canonical_byte, canonified, joined, is_number, number_of, item_at, text_made};
 ghost use Rattle.cfa_functions.specs.Calls.{argument_of};
@@ -12,7 +11,7 @@ ghost use Rattle.cfa_functions.specs.declared.naming.TextFunction.TheVariants.{N
 use crate::answering::{Answer, limited};
 use crate::naming::TextFunction;
 use crate::reading::Given;
-use cfa_base::{Name, Names, NoMemory};
+use cfa_base::{Name, Names, NoMemory, is_word_byte};
 use std::alloc::Global;
 
 fn as_text<'g>(argument: &'g Given<'_>) -> Option<&'g Name>
@@ -80,12 +79,6 @@ pub(crate) fn two_texts<'g>(arguments: &'g [Given<'_>]) -> Option<(&'g Name, &'g
         [first, second] => Some((as_text(first)?, as_text(second)?)),
         _ => None,
     }
-}
-
-fn is_word_byte(byte: u8) -> bool
-    ensures { result ≡ is_word_byte byte }
-{
-    matches!(byte, b'a'..=b'z' | b'A'..=b'Z' | b'0'..=b'9' | b'_')
 }
 
 fn canonical_byte(byte: u8) -> u8

@@ -4,8 +4,8 @@ ghost use Rattle.std.specs.List.{take_while};
 ghost use Rattle.cfa_base.specs.Lexing.{is_word_byte, is_reference, closes};
 ghost use Rattle.cfa_lexer.specs.Fronts.{gap_len, IsPassingLen, closing_of, symbol_of, TellsFront};
 
-use crate::bytes::{is_name, is_quote, is_separator, is_word_byte, len_before};
-use cfa_base::Kind;
+use crate::bytes::{is_quote, is_separator, len_before};
+use cfa_base::{Kind, is_name, is_word_byte, word_len};
 
 /// How many bytes the separator or the comment at the front has, 0 where there is none.
 pub fn gap_len(bytes: &[u8]) -> usize
@@ -20,13 +20,6 @@ pub fn gap_len(bytes: &[u8]) -> usize
     } else {
         0
     }
-}
-
-// How many bytes of a word stand at the front.
-fn word_len(bytes: &[u8]) -> usize
-    ensures { result ≡ length (take_while is_word_byte bytes.now) }
-{
-    bytes.iter().take_while(|byte| is_word_byte(**byte)).count()
 }
 
 // How many bytes there are through the closing quote, behind an opening one.

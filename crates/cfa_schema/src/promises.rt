@@ -1,7 +1,6 @@
 // Promises and sections of them.
 ghost use Rattle.std.specs.Prelude.{◌≡◌, OnOk, map, count_by, option_map, option_copied};
-ghost use Rattle.std.specs.List.{list_all, flat_map};
-ghost use Rattle.cfa_base.specs.Lexing.{is_word_byte, is_word};
+ghost use Rattle.std.specs.List.{flat_map};
 ghost use Rattle.cfa_tree.specs.Plain.{plain_attribute, plain_value, plain_promise};
 ghost use Rattle.cfa_schema.specs.Contexts.{seen_context};
 ghost use Rattle.cfa_schema.specs.Kinds.{choices};
@@ -14,28 +13,10 @@ use crate::refusals::{Refusal, WRONG_VALUE, note_if};
 use crate::settings::{Context, note_text_scope};
 use crate::values::note_value;
 use crate::wanting::note_item;
-use cfa_base::NoMemory;
+use cfa_base::{NoMemory, is_word};
 use cfa_tree::{Attribute, Promise, Value};
 use cfa_vars::list_reference;
 use std::alloc::Global;
-
-fn is_word_byte(byte: u8) -> bool
-    ensures { result ≡ is_word_byte byte }
-{
-    matches!(byte, b'0'..=b'9' | b'A'..=b'Z' | b'_' | b'a'..=b'z')
-}
-
-fn are_word_bytes(text: &[u8]) -> bool
-    ensures { result ≡ list_all is_word_byte text.now }
-{
-    text.iter().all(|byte| is_word_byte(*byte))
-}
-
-fn is_word(text: &[u8]) -> bool
-    ensures { result ≡ is_word text.now }
-{
-    !text.is_empty() && are_word_bytes(text)
-}
 
 // The promiser of a vars promise is a word, and no other is wholly a list reference.
 fn is_wrong_promiser(promise_type: PromiseType, promiser: &str) -> bool

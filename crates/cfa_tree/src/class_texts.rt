@@ -14,7 +14,7 @@ ghost use Rattle.cfa_tree.specs.Tree.{ExprTree};
 use crate::guards::level_expr;
 use crate::{Expr, GuardErr, GuardProgress, GuardState, guard_start, take_in_guard};
 use cfa_base as base;
-use cfa_base::{Kind, Name};
+use cfa_base::{Kind, Name, is_word_byte, word_len};
 use std::alloc::Global;
 use thiserror::Error;
 
@@ -55,19 +55,6 @@ fn is_blank(byte: u8) -> bool
     ensures { result ≡ is_blank byte }
 {
     byte == b' ' || byte == b'\t'
-}
-
-fn is_word_byte(byte: u8) -> bool
-    ensures { result ≡ is_word_byte byte }
-{
-    matches!(byte, b'0'..=b'9' | b'A'..=b'Z' | b'_' | b'a'..=b'z')
-}
-
-// How many bytes of a word stand at the front.
-fn word_len(bytes: &[u8]) -> usize
-    ensures { result ≡ length (take_while is_word_byte bytes.now) }
-{
-    bytes.iter().take_while(|byte| is_word_byte(**byte)).count()
 }
 
 // The longest symbol of a guard that two bytes begin with, and how many bytes it has.

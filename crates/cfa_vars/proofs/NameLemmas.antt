@@ -2,7 +2,8 @@
 use Rattle.std.proofs.Common.{◌≡◌, ◌<◌, ◌+◌, ℕ, Bool, true, false, cond, eqb, not, ◌||◌, suc, List, [], ◌∷◌, length, Option, Some, None, MatchOption, refl, arith}
 use Rattle.std.specs.List.{position_or_len, list_any, before_first, after_first}
 use denote.Ref.{Bor}
-use Rattle.cfa_vars.specs.References.{is_dot, is_qualified, bundle_part, word_part}
+use Rattle.cfa_base.specs.Lexing.{is_dot}
+use Rattle.cfa_vars.specs.References.{is_qualified, bundle_part, word_part}
 
 module _ {X : Type 0} (p : X → Bool) where
   none_at_front : (t : Bool) (n m : ℕ) (rest : Bool) → cond (not t) (1 + n) 0 ≡ suc m → (n ≡ m → rest ≡ false) → (t || rest) ≡ false

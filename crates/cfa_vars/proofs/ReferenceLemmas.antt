@@ -9,7 +9,8 @@ use Rattle.std.specs.Str.{IsUtf8, IsCharBoundary}
 use Rattle.std.proofs.lemmas.Str.{IsCharBoundary-before_ascii, IsCharBoundary-after_ascii}
 use Rattle.std.proofs.lemmas.Bool.{false≢true, eqb-true, cases_lt}
 use Rattle.std.proofs.lemmas.Bool.Decides.{nat_tests}
-use Rattle.cfa_vars.specs.References.{is_name_byte, is_name, closing, name_before, reference_at, literal, reference, Piece, begun_by, pieces}
+use Rattle.cfa_base.specs.Lexing.{is_name}
+use Rattle.cfa_vars.specs.References.{is_name_byte, closing, name_before, reference_at, literal, reference, Piece, begun_by, pieces}
 
 both : (s t : Bool) → (s && t) ≡ true → (s ≡ true) × (t ≡ true)
 both true t h = (refl, h)

@@ -1,20 +1,12 @@
 -- A text is literal bytes and references. A reference is `$(name)` or `${name}`, where a name is a word, or two words
 -- with a dot between them; a `$` that begins no reference is itself.
-use Rattle.std.specs.Prelude.{ℕ, ◌+◌, Bool, ◌&&◌, ◌||◌, ◌==◌, nat_le, nat_lt, List, [], ◌∷◌, length, drop, slice_index, take_while, Option, Some, None, if◌then◌else◌}
-use Rattle.std.specs.List.{list_all, list_any, before_first, after_first, filter_map}
+use Rattle.std.specs.Prelude.{ℕ, ◌+◌, Bool, ◌&&◌, ◌||◌, ◌==◌, List, [], ◌∷◌, length, drop, slice_index, take_while, Option, Some, None, if◌then◌else◌}
+use Rattle.std.specs.List.{list_any, before_first, after_first, filter_map}
+use Rattle.cfa_base.specs.Lexing.{is_word_byte, is_dot, is_name}
 
--- an ASCII letter, digit or underscore
-abbrev pub is_word_byte : ℕ → Bool
-is_word_byte b = (nat_le 97 b && nat_le b 122) || (nat_le 65 b && nat_le b 90) || (nat_le 48 b && nat_le b 57) || (b == 95)
-
-abbrev pub is_dot : ℕ → Bool
-is_dot b = b == 46
-
+-- a byte of a word, or the dot between two
 abbrev pub is_name_byte : ℕ → Bool
 is_name_byte b = is_word_byte b || is_dot b
-
-abbrev pub is_word : List ℕ → Bool
-is_word text = nat_lt 0 (length text) && list_all is_word_byte text
 
 -- whether a name is qualified, as `bundle.word` is
 abbrev pub is_qualified : List ℕ → Bool
@@ -25,9 +17,6 @@ bundle_part name = before_first is_dot name
 
 abbrev pub word_part : List ℕ → List ℕ
 word_part name = after_first is_dot name
-
-abbrev pub is_name : List ℕ → Bool
-is_name text = is_word text || (is_word (bundle_part text) && is_word (word_part text))
 
 -- the bracket that closes a reference which this one opens
 abbrev pub closing : ℕ → Option ℕ

@@ -7,7 +7,8 @@ use Rattle.cfa_vars.specs.declared.scoping.Datum.TheVariants.{Text as text_of, L
 use Rattle.cfa_vars.specs.declared.looking.Scopes.{Scopes}
 use Rattle.cfa_vars.specs.declared.looking.Variable.{Variable}
 use Rattle.cfa_vars.specs.declared.looking.Variable.TheVariants.{Text as seen_text, List as seen_list}
-use Rattle.cfa_vars.specs.References.{is_name, is_qualified, bundle_part, word_part}
+use Rattle.cfa_base.specs.Lexing.{is_name}
+use Rattle.cfa_vars.specs.References.{is_qualified, bundle_part, word_part}
 use Rattle.cfa_vars.specs.Named.{thing_at}
 
 abbrev pub Table : Type 0

@@ -3,9 +3,9 @@ ghost use Rattle.std.specs.Prelude.{◌≡◌, option_copied, option_map};
 ghost use Rattle.cfa_vars.specs.Named.{thing_at};
 ghost use Rattle.cfa_vars.specs.Scopes.{in_scope, datum_of, constant, is_own, look_in, look, key_of};
 
-use crate::references::{is_name, split_name};
+use crate::references::split_name;
 use crate::{Datum, Scope};
-use cfa_base::{Name, Names};
+use cfa_base::{Name, Names, is_name};
 
 /// What a text can refer to: the scope of its own bundle with the bundle's name, and the scopes of other bundles, each
 /// under its bundle's name. For the texts of a body `own` holds its parameters and `own_name` is empty. Where two

@@ -2,52 +2,15 @@
 ghost use Rattle.std.specs.Prelude.{◌≡◌, ◌+◌, ◌<◌, ℕ, true, false, [], ◌∷◌, ◌++◌, length, take, drop, map, Some, None, MatchOption, IfSome, IsTrue};
 ghost use Rattle.std.specs.List.{list_all, prefix_len, position_or_len};
 ghost use Rattle.std.specs.Option.{option_map, option_copied};
-ghost use Rattle.cfa_vars.specs.References.{is_word_byte, is_name_byte, is_dot, is_word, is_name, is_qualified, bundle_part, word_part, closing, name_before, reference_at, literal, reference, pieces, list_reference_of};
+ghost use Rattle.cfa_base.specs.Lexing.{is_name};
+ghost use Rattle.cfa_vars.specs.References.{is_name_byte, is_qualified, bundle_part, word_part, closing, name_before, reference_at, literal, reference, pieces, list_reference_of};
 
-fn is_word_byte(byte: u8) -> bool
-    ensures { result ≡ is_word_byte byte }
-{
-    matches!(byte, b'a'..=b'z' | b'A'..=b'Z' | b'0'..=b'9' | b'_')
-}
+use cfa_base::{is_name, is_word_byte};
 
 fn is_name_byte(byte: u8) -> bool
     ensures { result ≡ is_name_byte byte }
 {
     is_word_byte(byte) || byte == b'.'
-}
-
-fn are_word_bytes(text: &[u8]) -> bool
-    ensures { result ≡ list_all is_word_byte text.now }
-{
-    text.iter().all(|byte| is_word_byte(*byte))
-}
-
-fn is_word(text: &[u8]) -> bool
-    ensures { result ≡ is_word text.now }
-{
-    !text.is_empty() && are_word_bytes(text)
-}
-
-// How many bytes stand before the first dot.
-fn bundle_length(name: &[u8]) -> usize
-    ensures { result ≡ position_or_len is_dot name.now }
-{
-    for (place, byte) in name.iter().enumerate() {
-        if *byte == b'.' {
-            return place;
-        }
-    }
-    name.len()
-}
-
-pub(crate) fn is_name(text: &[u8]) -> bool
-    ensures { result ≡ is_name text.now }
-{
-    if is_word(text) {
-        return true;
-    }
-    let dot = bundle_length(text);
-    dot < text.len() && is_word(&text[..dot]) && is_word(&text[dot + 1..])
 }
 
 /// The bundle and the word of a qualified name: what stands before its first dot, and what stands behind it, as they
@@ -84,7 +47,8 @@ fn closing(bracket: u8) -> Option<u8>
 // The length of the name that stands before a closing bracket.
 fn name_length(rest: &[u8], close: u8) -> Option<usize>
     requires { 0 < close }
-    ensures { result ≡ option_map length (name_before (Some close) rest.now) }
+    ensures value { result ≡ option_map length (name_before (Some close) rest.now) }
+    ensures within { IfSome result (λ size. size < length rest.now) }
 {
     let length = name_bytes(rest);
     if length < rest.len() && rest[length] == close && is_name(&rest[..length]) {

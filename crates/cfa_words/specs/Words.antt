@@ -1,8 +1,9 @@
 -- How a command line is read. Its words are taken from left to right: each gives words of its own, flags and the classes
 -- of `-D`, each flag and `-D` may be given once, and the command that the first word names says which of them it takes.
-use Rattle.std.specs.Prelude.{ℕ, Bool, true, false, ◌==◌, ◌||◌, ◌&&◌, List, [], ◌∷◌, ◌++◌, Option, Some, None, codes, if◌then◌else◌, is_some, option_and_then, option_map, nat_le, length}
+use Rattle.std.specs.Prelude.{ℕ, Bool, true, false, ◌==◌, ◌||◌, List, [], ◌∷◌, ◌++◌, Option, Some, None, codes, if◌then◌else◌, is_some, option_and_then, option_map}
 use Rattle.std.specs.List.{list_all, list_any, before_first, after_first, slice_split}
 use Rattle.std.specs.Str.{bytes_eq}
+use Rattle.cfa_base.specs.Lexing.{is_word}
 use Rattle.cfa_words.specs.declared.words.Request.{Request}
 use Rattle.cfa_words.specs.declared.words.Request.TheVariants.{Run, Check, Show}
 
@@ -140,12 +141,9 @@ given words = option_and_then whole (with_pieces nothing_given (pieces any words
 
 -- ---- what is asked for
 
--- an ASCII letter, a digit or an underscore
-abbrev pub is_class_byte : ℕ → Bool
-is_class_byte b = (nat_le 97 b && nat_le b 122) || ((nat_le 65 b && nat_le b 90) || ((nat_le 48 b && nat_le b 57) || b == 95))
-
+-- one or more ASCII letters, digits or underscores
 abbrev pub is_class : Text → Bool
-is_class text = nat_le 1 (length text) && list_all is_class_byte text
+is_class text = is_word text
 
 -- the classes between commas (44)
 abbrev pub class_list : Text → Option (List Text)

@@ -4,11 +4,11 @@ ghost use Rattle.std.specs.List.{list_all, slice_split};
 ghost use Rattle.std.specs.Str.{is_utf8};
 ghost use Rattle.clap.specs.Words.{app_of, first_value, found_of, one_text};
 ghost use Rattle.clap.specs.Values.{bool_text};
-ghost use Rattle.cfa_words.specs.Words.{asked, asked_of, class_list, class_names, given, is_class as class_test, is_class_byte as class_byte_test, words_asked, check_asked, run_asked, show_asked};
+ghost use Rattle.cfa_words.specs.Words.{asked, asked_of, class_list, class_names, given, is_class as class_test, words_asked, check_asked, run_asked, show_asked};
 ghost use Rattle.cfa_words.specs.Lines.{given_of, lines_given, text_in};
 ghost use Rattle.cfa_words.specs.Options.{command_line as command_line_app};
 
-use cfa_base::{Name, Names, NoMemory};
+use cfa_base::{Name, Names, NoMemory, is_word};
 use clap::error::ErrorKind;
 use clap::{Arg, ArgAction, ArgMatches, Command};
 use std::alloc::{AllocError, Global};
@@ -225,17 +225,5 @@ fn parts_of<'a>(alloc: Global, list: &'a str) -> Result<Vec<&'a str>, AllocError
 fn is_class(text: &str) -> bool
     ensures { result ≡ class_test text.now }
 {
-    !text.is_empty() && has_class_bytes(text.as_bytes())
-}
-
-fn has_class_bytes(bytes: &[u8]) -> bool
-    ensures { result ≡ list_all class_byte_test bytes.now }
-{
-    bytes.iter().all(|byte| is_class_byte(*byte))
-}
-
-fn is_class_byte(byte: u8) -> bool
-    ensures { result ≡ class_byte_test byte }
-{
-    byte.is_ascii_alphanumeric() || byte == b'_'
+    is_word(text.as_bytes())
 }
