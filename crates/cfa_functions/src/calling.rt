@@ -1,7 +1,7 @@
 // Calls of functions.
-ghost use Rattle.std.specs.Prelude.{◌≡◌, IfOk, IfErr, OnOk, IsErrOf, Some, map, option_map};
+ghost use Rattle.std.specs.Prelude.{◌≡◌, IfOk, IfErr, OnOk, IsErrOf, IsTrue, Some, map, option_map};
 ghost use Rattle.cfa_base.specs.Causes.{Rose};
-ghost use Rattle.cfa_base.specs.Patterns.{refuses};
+ghost use Rattle.cfa_base.specs.Patterns.{is_pattern, refuses};
 ghost use Rattle.cfa_tree.specs.Plain.{plain_value};
 ghost use Rattle.cfa_tree.specs.Tree.{value_trees};
 ghost use Rattle.cfa_vars.specs.Scopes.{in_scope};
@@ -86,6 +86,7 @@ fn match_built<P: Patterns>(
 ) -> Result<Answer, CallErr>
     ensures answer { IfOk result (λ a. a ≡ class_answer (matched pattern.now text.now)) }
     ensures pattern { IfErr result (λ e. IfTooBig e (λ t. t ≡ pattern.now)) }
+    ensures reads { IfErr result (λ e. IfTooBig e (λ t. IsTrue (is_pattern How.Whole t))) }
     ensures refused { IfErr result (λ e. IfTooBig e (λ t. P.told pats.new ≡ option_map (refuses t) (P.told pats.old))) }
     ensures rose { IfErr result (λ e. IfTooBig e (λ t. Rose (P.refusals pats.old) (P.refusals pats.new))) }
     ensures ok_told { OnOk result (P.told pats.new ≡ P.told pats.old) }
@@ -110,6 +111,7 @@ fn match_pattern<P: Patterns>(
 ) -> Result<Answer, CallErr>
     ensures answer { IfOk result (λ a. a ≡ settled (map argument_of arguments.now) (class_made (in_scope scopes.now) Regcmp (map argument_of arguments.now))) }
     ensures pattern { IfErr result (λ e. IfTooBig e (λ t. pattern_in (OfClass Regcmp) (map argument_of arguments.now) ≡ Some t)) }
+    ensures reads { IfErr result (λ e. IfTooBig e (λ t. IsTrue (is_pattern How.Whole t))) }
     ensures refused { IfErr result (λ e. IfTooBig e (λ t. P.told pats.new ≡ option_map (refuses t) (P.told pats.old))) }
     ensures rose { IfErr result (λ e. IfTooBig e (λ t. Rose (P.refusals pats.old) (P.refusals pats.new))) }
     ensures ok_told { OnOk result (P.told pats.new ≡ P.told pats.old) }
@@ -145,6 +147,7 @@ fn apply<P: Patterns>(
 ) -> Result<Answer, CallErr>
     ensures answer { IfOk result (λ a. a ≡ settled (map argument_of arguments.now) (made (in_scope scopes.now) function (map argument_of arguments.now))) }
     ensures pattern { IfErr result (λ e. IfTooBig e (λ t. pattern_in function (map argument_of arguments.now) ≡ Some t)) }
+    ensures reads { IfErr result (λ e. IfTooBig e (λ t. IsTrue (is_pattern How.Whole t))) }
     ensures refused { IfErr result (λ e. IfTooBig e (λ t. P.told pats.new ≡ option_map (refuses t) (P.told pats.old))) }
     ensures rose { IfErr result (λ e. IfTooBig e (λ t. Rose (P.refusals pats.old) (P.refusals pats.new))) }
     ensures ok_told { OnOk result (P.told pats.new ≡ P.told pats.old) }
@@ -176,8 +179,8 @@ fn apply<P: Patterns>(
 /// is `Unresolved`; a text `@(x)` where a text is wanted stands for itself.
 ///
 /// A pattern is built only where every argument of `regcmp` is resolved and within the limit; `Unresolved` is then also
-/// the answer for a pattern that doesn't read. `PatternTooBig` comes only where this build answered so. After every
-/// other answer nothing was refused for its size.
+/// the answer for a pattern that doesn't read. `PatternTooBig` comes only where this build answered so, for a text that is
+/// a pattern. After every other answer nothing was refused for its size.
 #[tactic(auto, unfolding(crate::specs::Calls::answer_of, crate::specs::Builds::pattern_of_call))]
 pub fn call<P: Patterns>(
     alloc: Global,
@@ -191,6 +194,7 @@ pub fn call<P: Patterns>(
         ≡ answer_of (in_scope scopes.now) choice.now name.now (value_trees (map plain_value args.now))) }
     ensures pattern { IfErr result (λ e. IfTooBig e (λ t.
         pattern_of_call (in_scope scopes.now) choice.now name.now (value_trees (map plain_value args.now)) ≡ Some t)) }
+    ensures reads { IfErr result (λ e. IfTooBig e (λ t. IsTrue (is_pattern How.Whole t))) }
     ensures refused { IfErr result (λ e. IfTooBig e (λ t.
         P.told pats.new ≡ option_map (refuses t) (P.told pats.old))) }
     ensures rose { IfErr result (λ e. IfTooBig e (λ t. Rose (P.refusals pats.old) (P.refusals pats.new))) }
