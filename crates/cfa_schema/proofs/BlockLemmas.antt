@@ -4,10 +4,10 @@ use Rattle.std.specs.Prelude.{◌||◌}
 use Rattle.std.specs.List.{flat_map, list_any}
 use Rattle.std.proofs.lemmas.List.{drop_more, map-append}
 use Rattle.cfa_tree.specs.Tree.{AttributeTree, SectionTree, NamedTree}
-use Rattle.cfa_schema.specs.declared.kinds.BundleType.{BundleType}
-use Rattle.cfa_schema.specs.declared.kinds.BodyType.{BodyType}
+use Rattle.cfa_kinds.specs.declared.kinds.BundleType.{BundleType}
+use Rattle.cfa_kinds.specs.declared.kinds.BodyType.{BodyType}
 use Rattle.cfa_schema.specs.declared.refusals.Refusal.{Refusal}
-use Rattle.cfa_schema.specs.Kinds.{bundle_type, body_type}
+use Rattle.cfa_kinds.specs.Kinds.{bundle_type, body_type}
 use Rattle.cfa_schema.specs.Known.{Known}
 use Rattle.cfa_schema.specs.Referring.{in_bundle, in_body}
 use Rattle.cfa_schema.specs.Refusals.{noted}

@@ -12,8 +12,8 @@ use Rattle.cfa_tree.specs.declared.sections.Section.{Section}
 use Rattle.cfa_tree.specs.declared.values.Value.{Value}
 use Rattle.cfa_tree.specs.Plain.{plain_value, plain_promise, plain_section}
 use Rattle.cfa_tree.specs.Tree.{ValueTree, list, value_trees, PromiseTree, bundle, body, PolicyTree}
-use Rattle.cfa_schema.specs.declared.kinds.PromiseType.{PromiseType}
-use Rattle.cfa_schema.specs.declared.kinds.PromiseType.TheVariants as promises
+use Rattle.cfa_kinds.specs.declared.kinds.PromiseType.{PromiseType}
+use Rattle.cfa_kinds.specs.declared.kinds.PromiseType.TheVariants as promises
 use Rattle.cfa_schema.specs.declared.patterns.KnownPattern.{KnownPattern as FoundPattern}
 use Rattle.cfa_schema.specs.declared.patterns.PatternFault.{PatternFault}
 use Rattle.cfa_schema.specs.declared.patterns.PatternFault.TheVariants.{Bad, TooBig, NoMemory}

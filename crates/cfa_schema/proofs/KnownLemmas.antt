@@ -9,7 +9,7 @@ use Rattle.std.proofs.lemmas.List.{length-map}
 use Rattle.std.proofs.lemmas.Option.{slice_get_past, slice_get-map}
 use Rattle.std.proofs.lemmas.Bool.Decides.{nat_tests}
 use Rattle.cfa_vars.proofs.NameLemmas.{list_any-some, list_any-none}
-use Rattle.cfa_schema.specs.Index.{place_of}
+use Rattle.cfa_calls.specs.Index.{place_of}
 use Rattle.cfa_schema.specs.Known.{is_one_of}
 
 module _ {X Y : Type 0} (key : X → Y) (p : Y → Bool) where

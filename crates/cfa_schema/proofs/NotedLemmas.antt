@@ -5,7 +5,7 @@ use Rattle.std.specs.List.{flat_map}
 use Rattle.std.proofs.lemmas.List.{drop_more, drop_all}
 use Rattle.cfa_schema.specs.declared.refusals.Refusal.{Refusal}
 use Rattle.cfa_schema.specs.declared.repeating.Item.{Item}
-use Rattle.cfa_schema.specs.Index.{place_of}
+use Rattle.cfa_calls.specs.Index.{place_of}
 use Rattle.cfa_schema.specs.Known.{is_one_of}
 use Rattle.cfa_schema.specs.Refusals.{sooner, noted, only_if}
 use Rattle.cfa_schema.specs.Settings.{seen_item}

@@ -8,7 +8,8 @@ use Rattle.std.proofs.lemmas.List.Sums.{prefix_len-le-length}
 use Rattle.cfa_vars.proofs.NameLemmas.{list_any-some, list_any-none}
 use Rattle.cfa_tree.specs.Tree.{AttributeTree, NamedTree, PolicyTree}
 use Rattle.cfa_schema.specs.declared.refusals.Refusal.{Refusal}
-use Rattle.cfa_schema.specs.Index.{Text, same_pair, pair_place_of}
+use Rattle.cfa_calls.specs.Index.{Text}
+use Rattle.cfa_schema.specs.Pairs.{same_pair, pair_place_of}
 use Rattle.cfa_schema.specs.Known.{Known, known_of, control_of, value_of}
 use Rattle.cfa_schema.specs.Refusals.{noted, only_if}
 use Rattle.cfa_schema.specs.Valid.{BodyName, bundle_name, body_name, is_same_body, repeated_bodies_after, default_refusals, block_refusals, refusals}

@@ -4,9 +4,9 @@ use Rattle.std.specs.Prelude.{◌==◌, not, count_by}
 use Rattle.std.proofs.lemmas.List.Folds.{fold-map}
 use denote.Ref.{Bor}
 use Rattle.cfa_tree.specs.Tree.{ValueTree, AttributeTree, PromiseTree}
-use Rattle.cfa_schema.specs.declared.kinds.PromiseType.{PromiseType}
+use Rattle.cfa_kinds.specs.declared.kinds.PromiseType.{PromiseType}
 use Rattle.cfa_schema.specs.declared.refusals.Refusal.{Refusal}
-use Rattle.cfa_schema.specs.Kinds.{promise_attribute, choices}
+use Rattle.cfa_kinds.specs.Kinds.{promise_attribute, choices}
 use Rattle.cfa_schema.specs.Refusals.{noted, only_if}
 use Rattle.cfa_schema.specs.Valid.{has_attribute, lacks_choice, is_wrong_promiser, promisee_refusals, attributes_refusals, promise_refusals}
 use Rattle.cfa_schema.specs.Values.{Setting, text_scope}

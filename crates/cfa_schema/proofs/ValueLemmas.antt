@@ -8,9 +8,9 @@ use Rattle.cfa_base.specs.declared.places.Place.{Place}
 use Rattle.cfa_tree.specs.declared.values.Value.{Value}
 use Rattle.cfa_tree.specs.Plain.{plain_value}
 use Rattle.cfa_tree.specs.Tree.{ValueTree, value_trees}
-use Rattle.cfa_schema.specs.declared.functions.Function.{Function}
+use Rattle.cfa_kinds.specs.declared.functions.Function.{Function}
 use Rattle.cfa_schema.specs.declared.refusals.Refusal.{Refusal}
-use Rattle.cfa_schema.specs.Functions.{function_named, answers_class, takes_count, takes_list}
+use Rattle.cfa_kinds.specs.Functions.{function_named, answers_class, takes_count, takes_list}
 use Rattle.cfa_schema.specs.Known.{values_in}
 use Rattle.cfa_schema.specs.Refusals.{noted, only_if}
 use Rattle.cfa_schema.specs.Values.{Setting, value_count, called, call_refusals, argument_refusals, arguments_refusals}

@@ -5,12 +5,12 @@ use Rattle.std.specs.List.{Contains}
 use Rattle.cfa_base.specs.declared.places.Place.{Place}
 use Rattle.cfa_tree.specs.Tree.{PolicyTree}
 use Rattle.cfa_schema.specs.declared.refusals.Refusal.{Refusal}
-use Rattle.cfa_schema.specs.Cycles.{Call, OnCycle, IsFirstOnCycle, NoneOnCycle}
+use Rattle.cfa_calls.specs.Cycles.{Call, OnCycle, IsFirstOnCycle, NoneOnCycle}
 use Rattle.cfa_schema.specs.CycleNotes.{NotesCycle, no_cycle, first_cycle}
 use Rattle.cfa_base.specs.Lexing.{first_place}
 use Rattle.cfa_schema.specs.Faults.{HasFirstBad}
 use Rattle.cfa_schema.specs.Known.{has_sequence}
-use Rattle.cfa_schema.specs.Order.{is_before, not_after}
+use Rattle.cfa_calls.specs.Order.{is_before, not_after}
 use Rattle.cfa_schema.specs.Refusals.{refusal, is_same_place, is_sooner, sooner, noted}
 use Rattle.cfa_schema.specs.Valid.{Applies, NoneApplies, IsFirst, FirstRefusal, no_sequence, bad_pattern, refusals, calls_of, patterns_of}
 use Rattle.cfa_schema.proofs.LeastLemmas.{Least, least_same, least_more, least_of_list, least_wider, itself_not_sooner, and_false}

@@ -5,11 +5,11 @@ use Rattle.std.specs.Str.{bytes_eq}
 use Rattle.cfa_tree.specs.Tree.{AttributeTree, PromiseTree, SectionTree, NamedTree, BlockTree, bundle, body, PolicyTree}
 use Rattle.cfa_base.specs.declared.patterns.How.{How}
 use Rattle.cfa_base.specs.declared.patterns.How.TheVariants.{Whole, Part}
-use Rattle.cfa_schema.specs.declared.kinds.PromiseType.{PromiseType}
-use Rattle.cfa_schema.specs.declared.kinds.PromiseType.TheVariants as promises
+use Rattle.cfa_kinds.specs.declared.kinds.PromiseType.{PromiseType}
+use Rattle.cfa_kinds.specs.declared.kinds.PromiseType.TheVariants as promises
 use Rattle.cfa_schema.specs.declared.patterns.KnownPattern.{KnownPattern as FoundPattern}
 use Rattle.cfa_schema.specs.declared.repeating.Item.{Item}
-use Rattle.cfa_schema.specs.Kinds.{bundle_type}
+use Rattle.cfa_kinds.specs.Kinds.{bundle_type}
 use Rattle.cfa_schema.specs.Known.{BundleHead, BodyHead, Known, is_control}
 use Rattle.cfa_schema.specs.Valid.{KnownPattern, pattern_at}
 

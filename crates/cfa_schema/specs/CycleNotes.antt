@@ -2,7 +2,7 @@
 use Rattle.std.specs.Prelude.{List, Option}
 use Rattle.cfa_base.specs.declared.places.Place.{Place}
 use Rattle.cfa_schema.specs.declared.refusals.Refusal.{Refusal}
-use Rattle.cfa_schema.specs.Cycles.{Call, IsFirstOnCycle, NoneOnCycle}
+use Rattle.cfa_calls.specs.Cycles.{Call, IsFirstOnCycle, NoneOnCycle}
 use Rattle.cfa_schema.specs.Refusals.{refusal, sooner}
 
 pub data NotesCycle (calls : List Call) (before : Option Refusal) : Option Refusal → Type 0 where

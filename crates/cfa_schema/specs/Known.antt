@@ -6,9 +6,9 @@ use Rattle.std.specs.Str.{bytes_eq}
 use Rattle.cfa_base.specs.declared.places.Place.{Place}
 use Rattle.cfa_tree.specs.Tree.{ValueTree, text, word, reference, list_reference, list, call, ValueTrees, no_value, more_values, AttributeTree, NamedTree, BlockTree, bundle, body, PolicyTree}
 use Rattle.cfa_vars.specs.References.{list_reference_of}
-use Rattle.cfa_schema.specs.declared.kinds.BundleType.{BundleType}
-use Rattle.cfa_schema.specs.declared.kinds.BundleType.TheVariants.{Agent, Common, EditLine}
-use Rattle.cfa_schema.specs.Kinds.{bundle_type}
+use Rattle.cfa_kinds.specs.declared.kinds.BundleType.{BundleType}
+use Rattle.cfa_kinds.specs.declared.kinds.BundleType.TheVariants.{Agent, Common, EditLine}
+use Rattle.cfa_kinds.specs.Kinds.{bundle_type}
 use Rattle.cfa_schema.specs.Referring.{is_literal}
 
 -- a bundle by its type, where that is one of the profile, its name with its place, and how many parameters it has

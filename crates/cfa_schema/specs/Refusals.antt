@@ -3,7 +3,7 @@
 use Rattle.std.specs.Prelude.{ℕ, Bool, true, false, ◌||◌, ◌&&◌, ◌==◌, nat_lt, List, [], ◌∷◌, Option, Some, None, if◌then◌else◌}
 use Rattle.cfa_base.specs.declared.places.Place.{Place}
 use Rattle.cfa_schema.specs.declared.refusals.Refusal.{Refusal}
-use Rattle.cfa_schema.specs.Order.{is_before}
+use Rattle.cfa_calls.specs.Order.{is_before}
 
 abbrev pub refusal : ℕ → Place → Refusal
 refusal code place = record { code = code; place = place }

@@ -2,8 +2,8 @@
 use Rattle.std.specs.Prelude.{ℕ, List, Option}
 use Rattle.cfa_schema.specs.declared.attributes.Table.{Table}
 use Rattle.cfa_schema.specs.declared.attributes.Table.TheVariants.{OfPromise, OfBody}
-use Rattle.cfa_schema.specs.declared.kinds.Kind.{Kind}
-use Rattle.cfa_schema.specs.Kinds.{promise_attribute, body_attribute}
+use Rattle.cfa_kinds.specs.declared.kinds.Kind.{Kind}
+use Rattle.cfa_kinds.specs.Kinds.{promise_attribute, body_attribute}
 
 abbrev pub kind_in : Table → List ℕ → Option Kind
 kind_in (OfPromise type) name = promise_attribute type name

@@ -10,18 +10,18 @@ use Rattle.cfa_base.specs.declared.patterns.How.TheVariants.{Whole, Part}
 use Rattle.cfa_base.specs.Lexing.{is_word, first_place}
 use Rattle.cfa_base.specs.Patterns.{is_pattern}
 use Rattle.cfa_tree.specs.Tree.{ValueTree, text, word, reference, list_reference, list, call, AttributeTree, PromiseTree, SectionTree, NamedTree, BlockTree, bundle, body, PolicyTree}
-use Rattle.cfa_schema.specs.declared.kinds.BundleType.{BundleType}
-use Rattle.cfa_schema.specs.declared.kinds.PromiseType.{PromiseType}
-use Rattle.cfa_schema.specs.declared.kinds.PromiseType.TheVariants as promises
-use Rattle.cfa_schema.specs.declared.kinds.BodyType.{BodyType}
-use Rattle.cfa_schema.specs.declared.kinds.BodyType.TheVariants as bodies
-use Rattle.cfa_schema.specs.declared.kinds.Kind.{Kind}
-use Rattle.cfa_schema.specs.declared.kinds.Kind.TheVariants as kinds
+use Rattle.cfa_kinds.specs.declared.kinds.BundleType.{BundleType}
+use Rattle.cfa_kinds.specs.declared.kinds.PromiseType.{PromiseType}
+use Rattle.cfa_kinds.specs.declared.kinds.PromiseType.TheVariants as promises
+use Rattle.cfa_kinds.specs.declared.kinds.BodyType.{BodyType}
+use Rattle.cfa_kinds.specs.declared.kinds.BodyType.TheVariants as bodies
+use Rattle.cfa_kinds.specs.declared.kinds.Kind.{Kind}
+use Rattle.cfa_kinds.specs.declared.kinds.Kind.TheVariants as kinds
 use Rattle.cfa_schema.specs.declared.refusals.Refusal.{Refusal}
-use Rattle.cfa_schema.specs.Kinds.{bundle_type, is_foreign_bundle_type, promise_type, is_foreign_promise_type, has_promise_type, body_type, is_foreign_body_type, promise_attribute, body_attribute, choices, required}
+use Rattle.cfa_kinds.specs.Kinds.{bundle_type, is_foreign_bundle_type, promise_type, is_foreign_promise_type, has_promise_type, body_type, is_foreign_body_type, promise_attribute, body_attribute, choices, required}
 use Rattle.cfa_schema.specs.Referring.{in_bundle, in_body}
 use Rattle.cfa_schema.specs.Refusals.{refusal, is_sooner, only_if}
-use Rattle.cfa_schema.specs.Cycles.{Call, OnCycle}
+use Rattle.cfa_calls.specs.Cycles.{Call, OnCycle}
 use Rattle.cfa_schema.specs.Known.{Known, BundleHead, known_of, has_sequence, control_of, value_of, bundle_named, is_agent, is_known, known_named, name_in}
 use Rattle.cfa_schema.specs.Values.{Setting, text_scope, is_list_reference, item_refusals, value_refusals, repeated}
 

@@ -7,17 +7,17 @@ use Rattle.cfa_base.specs.declared.places.Place.{Place}
 use Rattle.cfa_tree.specs.Tree.{ValueTree, text, word, reference, list_reference, list, call, ValueTrees, no_value, more_values, NamedTree}
 use Rattle.cfa_tree.specs.ClassTexts.{expression_of}
 use Rattle.cfa_vars.specs.References.{list_reference_of}
-use Rattle.cfa_schema.specs.declared.kinds.BundleType.{BundleType}
-use Rattle.cfa_schema.specs.declared.kinds.BundleType.TheVariants as bundles
-use Rattle.cfa_schema.specs.declared.kinds.BodyType.{BodyType}
-use Rattle.cfa_schema.specs.declared.kinds.Form.{Form}
-use Rattle.cfa_schema.specs.declared.kinds.Kind.{Kind}
-use Rattle.cfa_schema.specs.declared.kinds.Kind.TheVariants as kinds
-use Rattle.cfa_schema.specs.declared.functions.Function.{Function}
+use Rattle.cfa_kinds.specs.declared.kinds.BundleType.{BundleType}
+use Rattle.cfa_kinds.specs.declared.kinds.BundleType.TheVariants as bundles
+use Rattle.cfa_kinds.specs.declared.kinds.BodyType.{BodyType}
+use Rattle.cfa_kinds.specs.declared.kinds.Form.{Form}
+use Rattle.cfa_kinds.specs.declared.kinds.Kind.{Kind}
+use Rattle.cfa_kinds.specs.declared.kinds.Kind.TheVariants as kinds
+use Rattle.cfa_kinds.specs.declared.functions.Function.{Function}
 use Rattle.cfa_schema.specs.declared.refusals.Refusal.{Refusal}
-use Rattle.cfa_schema.specs.Kinds.{body_word}
-use Rattle.cfa_schema.specs.Forms.{has_form}
-use Rattle.cfa_schema.specs.Functions.{function_named, answers_class, takes_count, takes_list}
+use Rattle.cfa_kinds.specs.Kinds.{body_word}
+use Rattle.cfa_kinds.specs.Forms.{has_form}
+use Rattle.cfa_kinds.specs.Functions.{function_named, answers_class, takes_count, takes_list}
 use Rattle.cfa_schema.specs.Referring.{Where, admits, refers_out, is_literal}
 use Rattle.cfa_schema.specs.Refusals.{only_if}
 use Rattle.cfa_schema.specs.Known.{Known, BundleHead, BodyHead, is_known, known_items, values_in, is_shared, bundle_named, body_named, is_one_of}

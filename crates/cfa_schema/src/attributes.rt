@@ -8,12 +8,12 @@ ghost use Rattle.cfa_schema.specs.Settings.{seen_item};
 ghost use Rattle.cfa_schema.specs.Tables.{kind_in};
 ghost use Rattle.cfa_schema.specs.Valid.{attribute_name, attribute_refusals, attributes_refusals, has_attribute};
 
-use crate::kinds::{BodyType, Kind, PromiseType, body_attribute, promise_attribute};
 use crate::refusals::{Refusal, UNKNOWN_ATTRIBUTE, note_if};
 use crate::repeating::{Item, note_repeated};
 use crate::settings::Context;
 use crate::values::note_value;
 use cfa_base::NoMemory;
+use cfa_kinds::{BodyType, Kind, PromiseType, body_attribute, promise_attribute};
 use cfa_tree::{Attribute, Value};
 use std::alloc::Global;
 

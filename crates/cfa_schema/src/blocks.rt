@@ -3,7 +3,7 @@ ghost use Rattle.std.specs.Prelude.{◌≡◌, IfOk, OnOk, Some, map, not};
 ghost use Rattle.std.specs.List.{flat_map, list_any};
 ghost use Rattle.cfa_tree.specs.Plain.{plain_attribute, plain_section, plain_named, plain_block};
 ghost use Rattle.cfa_schema.specs.Contexts.{seen_context};
-ghost use Rattle.cfa_schema.specs.Kinds.{required};
+ghost use Rattle.cfa_kinds.specs.Kinds.{required};
 ghost use Rattle.cfa_schema.specs.Known.{name_in};
 ghost use Rattle.cfa_schema.specs.Refusals.{noted};
 ghost use Rattle.cfa_schema.specs.Settings.{seen_item};
@@ -11,17 +11,17 @@ ghost use Rattle.cfa_schema.specs.Valid.{has_attribute, other_type, section_refu
 ghost use Rattle.cfa_schema.specs.Values.{repeated};
 
 use crate::attributes::{Table, has_attribute, note_attributes};
-use crate::index::NameIndex;
-use crate::kinds::{
-    BodyType, BundleType, body_type, bundle_type, has_promise_type, is_foreign_body_type,
-    is_foreign_bundle_type, is_foreign_promise_type, promise_type, required,
-};
 use crate::knowing::Definitions;
 use crate::promises::note_promises;
 use crate::refusals::{Refusal, TYPE_OUT_OF_SCOPE, UNKNOWN_TYPE, WRONG_VALUE, note_if};
 use crate::repeating::{Item, note_repeated};
 use crate::settings::{Context, Home};
 use cfa_base::{NoMemory, Place};
+use cfa_calls::NameIndex;
+use cfa_kinds::{
+    BodyType, BundleType, body_type, bundle_type, has_promise_type, is_foreign_body_type,
+    is_foreign_bundle_type, is_foreign_promise_type, promise_type, required,
+};
 use cfa_tree::{Attribute, Block, Body, Bundle, Named, Section};
 use std::alloc::Global;
 

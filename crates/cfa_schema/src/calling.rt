@@ -6,11 +6,11 @@ ghost use Rattle.cfa_schema.specs.Contexts.{seen_context};
 ghost use Rattle.cfa_schema.specs.Refusals.{noted};
 ghost use Rattle.cfa_schema.specs.Values.{argument_refusals, arguments_refusals, call_refusals};
 
-use crate::functions::{Function, function_named};
 use crate::refusals::{ARGUMENT_COUNT, Refusal, WRONG_VALUE, note_if};
 use crate::settings::{Context, note_name_scope, note_text_scope};
 use crate::wanting::is_list_reference;
 use cfa_base::Place;
+use cfa_kinds::{Function, function_named};
 use cfa_tree::Value;
 
 // Notes what is wrong with an argument where a function takes a list, or a text.

@@ -1,15 +1,15 @@
 // Which agent bundle calls which.
 ghost use Rattle.std.specs.Prelude.{◌≡◌, ◌++◌, IfOk, OnOk, map, option_map};
 ghost use Rattle.cfa_tree.specs.Plain.{plain_attribute, plain_block, plain_policy, plain_promise, plain_section, plain_value};
-ghost use Rattle.cfa_schema.specs.Cycles.{seen_call};
+ghost use Rattle.cfa_calls.specs.Cycles.{seen_call};
 ghost use Rattle.cfa_schema.specs.Settings.{seen_item};
 ghost use Rattle.cfa_schema.specs.Valid.{call_in_attribute, callee_named, calls_in_block, calls_in_promise, calls_in_section, calls_of};
 
 use crate::controls::known_text;
-use crate::cycles::Call;
 use crate::repeating::Item;
 use crate::shapes::{Shape, shape_of};
 use cfa_base::NoMemory;
+use cfa_calls::Call;
 use cfa_tree::{Attribute, Block, Bundle, Policy, Promise, Section, Value};
 use std::alloc::Global;
 

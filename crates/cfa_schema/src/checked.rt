@@ -1,7 +1,7 @@
 // Policies that were checked.
 ghost use Rattle.std.specs.Prelude.{◌≡◌, option_map};
 ghost use Rattle.cfa_tree.specs.Plain.{plain_policy, plain_promise};
-ghost use Rattle.cfa_schema.specs.Cycles.{NoneOnCycle};
+ghost use Rattle.cfa_calls.specs.Cycles.{NoneOnCycle};
 ghost use Rattle.cfa_schema.specs.Checked.{promise_of};
 ghost use Rattle.cfa_schema.specs.Sourced.{IsSourced};
 ghost use Rattle.cfa_schema.specs.Valid.{Valid, calls_of};

@@ -6,10 +6,10 @@ ghost use Rattle.cfa_schema.specs.Known.{has_sequence, is_agent_head, known_of, 
 ghost use Rattle.cfa_schema.specs.Settings.{seen_bundle, seen_body};
 
 use crate::controls::{control_attributes, listed_names, value_named};
-use crate::index::NameIndex;
-use crate::kinds::{BundleType, bundle_type};
 use crate::knowing::{BodyEntry, BundleEntry, Definitions};
 use cfa_base::NoMemory;
+use cfa_calls::NameIndex;
+use cfa_kinds::{BundleType, bundle_type};
 use cfa_tree::{Block, Body, Bundle, Policy, Value};
 use std::alloc::Global;
 

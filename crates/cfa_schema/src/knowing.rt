@@ -3,9 +3,10 @@ ghost use Rattle.std.specs.Prelude.{◌≡◌, ◌++◌, [], ◌∷◌, OnOk, op
 ghost use Rattle.cfa_schema.specs.Known.{bundle_named, body_named, is_one_of, is_shared};
 ghost use Rattle.cfa_schema.specs.Settings.{seen_bundle, seen_body};
 
-use crate::index::{NameIndex, PairIndex};
-use crate::kinds::BundleType;
+use crate::pairs::PairIndex;
 use cfa_base::{NoMemory, Place};
+use cfa_calls::NameIndex;
+use cfa_kinds::BundleType;
 use std::alloc::Global;
 use std::marker::Model;
 

@@ -9,7 +9,6 @@ ghost use Rattle.cfa_schema.specs.Settings.{seen_item};
 ghost use Rattle.cfa_schema.specs.Values.{known_item_refusals, sequence_found, sequence_item_refusals, sequence_refusals, input_refusals, repeated};
 
 use crate::controls::known_items;
-use crate::kinds::BundleType;
 use crate::knowing::Definitions;
 use crate::refusals::{ARGUMENT_COUNT, Refusal, UNKNOWN_BUNDLE, WRONG_VALUE, note_if};
 use crate::repeating::{Item, note_repeated};
@@ -17,6 +16,7 @@ use crate::settings::{Context, note_text_scope};
 use crate::shapes::{Shape, shape_of};
 use crate::wanting::is_known;
 use cfa_base::{NoMemory, Place};
+use cfa_kinds::BundleType;
 use cfa_tree::Value;
 use std::alloc::Global;
 

@@ -2,12 +2,11 @@
 ghost use Rattle.std.specs.Prelude.{◌≡◌, map};
 ghost use Rattle.cfa_tree.specs.Plain.{plain_value};
 ghost use Rattle.cfa_schema.specs.Contexts.{seen_context};
-ghost use Rattle.cfa_schema.specs.Kinds.{body_word};
+ghost use Rattle.cfa_kinds.specs.Kinds.{body_word};
 ghost use Rattle.cfa_schema.specs.Known.{body_named, is_known};
 ghost use Rattle.cfa_schema.specs.Refusals.{noted};
 ghost use Rattle.cfa_schema.specs.Values.{is_type, body_found, named_bundle, named_by_text, body_refusals, edit_refusals, method_refusals};
 
-use crate::kinds::{BodyType, BundleType, body_word};
 use crate::lists::note_items;
 use crate::refusals::{
     ARGUMENT_COUNT, Refusal, UNKNOWN_BODY, UNKNOWN_BUNDLE, WRONG_VALUE, note_if,
@@ -16,6 +15,7 @@ use crate::settings::{Context, note_text_scope};
 use crate::shapes::{Shape, shape_of};
 use crate::wanting::is_known;
 use cfa_base::Place;
+use cfa_kinds::{BodyType, BundleType, body_word};
 use cfa_tree::Value;
 
 // Notes a body that isn't defined, or has another number of parameters.

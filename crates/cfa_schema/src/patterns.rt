@@ -6,15 +6,15 @@ ghost use Rattle.cfa_base.specs.Patterns.{refuses};
 ghost use Rattle.cfa_tree.specs.Plain.{plain_attribute, plain_block, plain_policy, plain_promise, plain_section};
 ghost use Rattle.cfa_schema.specs.Collected.{one_or_none, promiser_how, pattern_of_promiser, seen_pattern};
 ghost use Rattle.cfa_schema.specs.Faults.{IfBad, IfTooBig, HasFirstBad, HasRefused, IsBadAt};
-ghost use Rattle.cfa_schema.specs.Kinds.{promise_type};
+ghost use Rattle.cfa_kinds.specs.Kinds.{promise_type};
 ghost use Rattle.cfa_schema.specs.Valid.{IsPattern, pattern_in_attribute, patterns_in_block, patterns_in_section, patterns_of};
 ghost use Rattle.cfa_schema.specs.declared.patterns.PatternFault.TheVariants.{NoMemory};
 
 use crate::controls::known_item;
-use crate::kinds::{PromiseType, promise_type};
 use crate::wanting::is_known;
 use cfa_base as base;
 use cfa_base::{How, Name, PatternErr, Patterns, Place};
+use cfa_kinds::{PromiseType, promise_type};
 use cfa_tree::{Attribute, Block, Body, Policy, Promise, Section};
 use std::alloc::{AllocError, AllocFailed, Global};
 

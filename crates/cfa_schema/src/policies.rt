@@ -11,12 +11,12 @@ ghost use Rattle.cfa_schema.specs.Values.{repeated};
 use crate::attributes::has_attribute;
 use crate::blocks::note_blocks;
 use crate::controls::control_attributes;
-use crate::index::PairIndex;
-use crate::kinds::BundleType;
 use crate::knowing::Definitions;
+use crate::pairs::PairIndex;
 use crate::refusals::{ARGUMENT_COUNT, DUPLICATE, Refusal, note_if};
 use crate::repeating::{Item, note_repeated};
 use cfa_base::NoMemory;
+use cfa_kinds::BundleType;
 use cfa_tree::{Attribute, Block, Policy};
 use std::alloc::Global;
 

@@ -3,17 +3,17 @@ ghost use Rattle.std.specs.Prelude.{◌≡◌, OnOk, map, count_by, option_map, 
 ghost use Rattle.std.specs.List.{flat_map};
 ghost use Rattle.cfa_tree.specs.Plain.{plain_attribute, plain_value, plain_promise};
 ghost use Rattle.cfa_schema.specs.Contexts.{seen_context};
-ghost use Rattle.cfa_schema.specs.Kinds.{choices};
+ghost use Rattle.cfa_kinds.specs.Kinds.{choices};
 ghost use Rattle.cfa_schema.specs.Refusals.{noted};
 ghost use Rattle.cfa_schema.specs.Valid.{has_attribute, lacks_choice, is_wrong_promiser, promisee_refusals, promise_refusals};
 
 use crate::attributes::{Table, has_attribute, note_attributes};
-use crate::kinds::{Kind, PromiseType, choices};
 use crate::refusals::{Refusal, WRONG_VALUE, note_if};
 use crate::settings::{Context, note_text_scope};
 use crate::values::note_value;
 use crate::wanting::note_item;
 use cfa_base::{NoMemory, is_word};
+use cfa_kinds::{Kind, PromiseType, choices};
 use cfa_tree::{Attribute, Promise, Value};
 use cfa_vars::list_reference;
 use std::alloc::Global;

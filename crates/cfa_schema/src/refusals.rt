@@ -1,9 +1,9 @@
 // Refusals, and the first of several.
 ghost use Rattle.std.specs.Prelude.{◌≡◌};
-ghost use Rattle.cfa_schema.specs.Order.{is_before};
 ghost use Rattle.cfa_schema.specs.Refusals.{is_same_place, is_sooner, sooner, only_if, noted};
 
 use cfa_base::Place;
+use cfa_calls::is_before;
 
 // The codes of refusals.
 pub(crate) const UNKNOWN_TYPE: u8 = 1;
@@ -38,19 +38,6 @@ pub(crate) const BAD_PATTERN: u8 = 13;
 pub struct Refusal {
     pub code: u8,
     pub place: Place,
-}
-
-/// Whether one place stands before another, by file, line and column.
-pub(crate) fn is_before(place: Place, other: Place) -> bool
-    ensures { result ≡ is_before place other }
-{
-    if place.file != other.file {
-        return place.file < other.file;
-    }
-    if place.line != other.line {
-        return place.line < other.line;
-    }
-    place.col < other.col
 }
 
 #[tactic(auto, unfolding(crate::specs::Refusals::is_sooner))]

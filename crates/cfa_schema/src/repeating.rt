@@ -4,9 +4,9 @@ ghost use Rattle.cfa_schema.specs.Refusals.{noted};
 ghost use Rattle.cfa_schema.specs.Settings.{seen_item};
 ghost use Rattle.cfa_schema.specs.Values.{repeated};
 
-use crate::index::NameIndex;
 use crate::refusals::{DUPLICATE, Refusal, note_if};
 use cfa_base::{NoMemory, Place};
+use cfa_calls::NameIndex;
 use std::alloc::Global;
 
 /// A name with its place.

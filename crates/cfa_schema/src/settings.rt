@@ -6,11 +6,11 @@ ghost use Rattle.cfa_schema.specs.Referring.{admits_word, is_own};
 ghost use Rattle.cfa_schema.specs.Contexts.{seen_home, seen_context};
 ghost use Rattle.cfa_schema.specs.Values.{may_name, text_scope, name_scope};
 
-use crate::index::NameIndex;
 use crate::knowing::Definitions;
 use crate::referring::{Admits, is_constant, refers_out};
 use crate::refusals::{REFERENCE_OUT_OF_SCOPE, Refusal, note_if};
 use cfa_base::Place;
+use cfa_calls::NameIndex;
 use cfa_vars::split_name;
 
 /// Where a text stands: in a bundle with its name, or in a body with its parameters.

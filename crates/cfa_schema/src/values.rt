@@ -7,7 +7,6 @@ ghost use Rattle.cfa_schema.specs.Values.{text_or_call_refusals, value_refusals}
 
 use crate::calling::note_call;
 use crate::class_values::{note_class, note_class_list};
-use crate::kinds::{Form, Kind};
 use crate::lists::{note_full_list, note_list};
 use crate::names::{note_inputs, note_sequence};
 use crate::naming::{note_body_value, note_edit_value, note_method_value};
@@ -16,6 +15,7 @@ use crate::settings::Context;
 use crate::shapes::{Shape, shape_of};
 use crate::wanting::{note_literal, note_text};
 use cfa_base::NoMemory;
+use cfa_kinds::{Form, Kind};
 use cfa_tree::Value;
 use std::alloc::Global;
 

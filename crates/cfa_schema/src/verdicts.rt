@@ -8,12 +8,12 @@ ghost use Rattle.cfa_schema.specs.Refusals.{refusal};
 ghost use Rattle.cfa_schema.specs.Valid.{NoneApplies, IsFirst, FirstRefusal, calls_of};
 
 use crate::calls::calls_of;
-use crate::cycles::first_on_cycle;
 use crate::defining::{define, has_sequence};
 use crate::knowing::Definitions;
 use crate::policies::note_table;
 use crate::refusals::{CALL_CYCLE, NO_SEQUENCE, Refusal, note_if};
 use cfa_base::{NoMemory, Place};
+use cfa_calls::first_on_cycle;
 use cfa_tree::Policy;
 use std::alloc::Global;
 

@@ -2,17 +2,16 @@
 ghost use Rattle.std.specs.Prelude.{◌≡◌, ◌&&◌};
 ghost use Rattle.cfa_tree.specs.Plain.{plain_value};
 ghost use Rattle.cfa_schema.specs.Contexts.{seen_context};
-ghost use Rattle.cfa_schema.specs.Forms.{has_form};
+ghost use Rattle.cfa_kinds.specs.Forms.{has_form};
 ghost use Rattle.cfa_schema.specs.Known.{is_known};
 ghost use Rattle.cfa_schema.specs.Refusals.{noted};
 ghost use Rattle.cfa_schema.specs.Values.{is_list_reference, is_wrong_text, text_refusals, literal_refusals, item_refusals};
 
-use crate::forms::has_form;
-use crate::kinds::Form;
 use crate::referring::is_literal;
 use crate::refusals::{Refusal, WRONG_VALUE, note_if};
 use crate::settings::{Context, note_name_scope, note_text_scope};
 use crate::shapes::{Shape, shape_of};
+use cfa_kinds::{Form, has_form};
 use cfa_tree::Value;
 use cfa_vars::list_reference;
 

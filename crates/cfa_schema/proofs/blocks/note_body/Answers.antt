@@ -1,7 +1,7 @@
 use Rattle.std.proofs.Common.{◌∙◌, ap, sym, map, None}
 use Rattle.std.proofs.lemmas.Result.{on_ok_weaker}
 use Rattle.cfa_tree.specs.Plain.{plain_attribute, plain_named}
-use Rattle.cfa_schema.specs.Kinds.{body_type, is_foreign_body_type}
+use Rattle.cfa_kinds.specs.Kinds.{body_type, is_foreign_body_type}
 use Rattle.cfa_schema.specs.Known.{name_in}
 use Rattle.cfa_schema.specs.Referring.{in_body}
 use Rattle.cfa_schema.specs.Refusals.{noted}

@@ -1,7 +1,7 @@
 use Rattle.std.proofs.Common.{◌∙◌, ap, sym, map, None}
 use Rattle.std.proofs.lemmas.Result.{on_ok_weaker}
 use Rattle.cfa_tree.specs.Plain.{plain_named, plain_section}
-use Rattle.cfa_schema.specs.Kinds.{bundle_type, is_foreign_bundle_type}
+use Rattle.cfa_kinds.specs.Kinds.{bundle_type, is_foreign_bundle_type}
 use Rattle.cfa_schema.specs.Referring.{in_bundle}
 use Rattle.cfa_schema.specs.Refusals.{noted}
 use Rattle.cfa_schema.specs.Valid.{other_type, bundle_by}

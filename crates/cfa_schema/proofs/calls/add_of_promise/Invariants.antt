@@ -1,7 +1,7 @@
 use Rattle.std.proofs.Common.{◌≡◌, ◌++◌, drop, map}
 use Rattle.std.specs.List.{filter_map}
 use Rattle.cfa_tree.specs.Plain.{plain_attribute}
-use Rattle.cfa_schema.specs.Cycles.{seen_call}
+use Rattle.cfa_calls.specs.Cycles.{seen_call}
 use Rattle.cfa_schema.specs.Valid.{call_in_attribute}
 use Rattle.cfa_schema.proofs.calls.add_of_promise.Given as goal
 

@@ -1,7 +1,7 @@
 use Rattle.std.proofs.Common.{◌≡◌, ◌++◌, drop, map}
 use Rattle.std.specs.List.{flat_map}
 use Rattle.cfa_tree.specs.Plain.{plain_promise}
-use Rattle.cfa_schema.specs.Cycles.{seen_call}
+use Rattle.cfa_calls.specs.Cycles.{seen_call}
 use Rattle.cfa_schema.specs.Valid.{calls_in_promise}
 use Rattle.cfa_schema.proofs.calls.add_of_section.Given as goal
 

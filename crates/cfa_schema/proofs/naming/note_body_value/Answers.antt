@@ -1,6 +1,6 @@
 use Rattle.std.proofs.Common.{◌∙◌, ap, sym}
 use Rattle.cfa_schema.specs.Contexts.{seen_context}
-use Rattle.cfa_schema.specs.Kinds.{body_word}
+use Rattle.cfa_kinds.specs.Kinds.{body_word}
 use Rattle.cfa_schema.specs.Known.{body_named}
 use Rattle.cfa_schema.specs.Refusals.{noted}
 use Rattle.cfa_schema.specs.Shapes.{shaped}

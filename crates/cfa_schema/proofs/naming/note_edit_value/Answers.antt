@@ -1,5 +1,5 @@
 use Rattle.std.proofs.Common.{◌∙◌, ap, sym}
-use Rattle.cfa_schema.specs.declared.kinds.BundleType.TheVariants.{EditLine}
+use Rattle.cfa_kinds.specs.declared.kinds.BundleType.TheVariants.{EditLine}
 use Rattle.cfa_schema.specs.Contexts.{seen_context}
 use Rattle.cfa_schema.specs.Refusals.{noted}
 use Rattle.cfa_schema.specs.Shapes.{shaped}

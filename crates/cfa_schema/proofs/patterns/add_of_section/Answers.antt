@@ -1,7 +1,7 @@
 use Rattle.std.proofs.Common.{◌∙◌, ap, map, sym}
 use Rattle.cfa_tree.specs.Plain.{plain_promise}
 use Rattle.cfa_schema.specs.Collected.{promiser_how, seen_pattern}
-use Rattle.cfa_schema.specs.Kinds.{promise_type}
+use Rattle.cfa_kinds.specs.Kinds.{promise_type}
 use Rattle.cfa_schema.proofs.CollectedLemmas.{no_patterns}
 use Rattle.cfa_schema.proofs.patterns.add_of_section.Goals as goal
 

@@ -1,6 +1,6 @@
 use Rattle.std.proofs.Common.{◌∙◌, ap, List, ℕ}
 use Rattle.std.specs.Prelude.{slice_get}
-use Rattle.cfa_schema.specs.Index.{pair_place_of, same_pair}
+use Rattle.cfa_schema.specs.Pairs.{pair_place_of, same_pair}
 use Rattle.cfa_schema.specs.Known.{Known, body_named}
 use Rattle.cfa_schema.specs.Settings.{seen_body, body_key}
 use Rattle.cfa_schema.proofs.KnownLemmas.{found_none, found_some}

@@ -1,7 +1,7 @@
 use Rattle.std.proofs.Common.{◌∙◌, ap}
 use Rattle.std.specs.Prelude.{slice_get}
 use Rattle.std.specs.Str.{bytes_eq}
-use Rattle.cfa_schema.specs.Index.{place_of}
+use Rattle.cfa_calls.specs.Index.{place_of}
 use Rattle.cfa_schema.specs.Known.{Known, bundle_named}
 use Rattle.cfa_schema.specs.Settings.{seen_bundle, bundle_key}
 use Rattle.cfa_schema.proofs.KnownLemmas.{found_none, found_some}

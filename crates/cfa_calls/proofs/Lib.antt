@@ -1,0 +1,6 @@
+pub mod FirstLemmas
+pub mod GraphLemmas
+pub mod IndexLemmas
+pub mod LevelLemmas
+pub mod NumberLemmas
+pub mod SearchLemmas

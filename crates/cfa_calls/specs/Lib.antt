@@ -1,0 +1,5 @@
+pub mod Cycles
+pub mod Index
+pub mod Numbering
+pub mod Order
+pub mod Reaching

@@ -1,0 +1,15 @@
+//! The tables of the schema: the types of bundles, promises and bodies, what their attributes take, the forms of texts, and
+//! what functions take.
+#![tactic(auto)]
+
+mod forms;
+mod functions;
+mod kinds;
+
+pub use forms::has_form;
+pub use functions::{Function, function_named};
+pub use kinds::{
+    BodyType, BundleType, Form, Kind, PromiseType, body_attribute, body_type, body_word,
+    bundle_type, choices, has_promise_type, is_foreign_body_type, is_foreign_bundle_type,
+    is_foreign_promise_type, promise_attribute, promise_type, required,
+};

@@ -1,6 +1,0 @@
-use Rattle.std.proofs.Common.{◌≡◌, length, take}
-use Rattle.cfa_schema.specs.Numbering.{HasEdges}
-use Rattle.cfa_schema.proofs.cycles.graph.Given as goal
-
-abbrev pub invariant-loop-edge : goal.invariant-loop-edge
-invariant-loop-edge l = (length l.graph ≡ l.nodes) × HasEdges (take l.edge-index l.edges) l.graph

@@ -1,7 +1,0 @@
-use Rattle.std.proofs.Common.{◌≡◌, take}
-use Rattle.cfa_schema.specs.Cycles.{seen_calls}
-use Rattle.cfa_schema.specs.Numbering.{names_of}
-use Rattle.cfa_schema.proofs.cycles.names.Given as goal
-
-abbrev pub invariant-loop-call : goal.invariant-loop-call
-invariant-loop-call l = l.names ≡ names_of (seen_calls (take l.call-index l.calls))
