@@ -1,5 +1,5 @@
 // The attributes of a promise or body.
-ghost use Rattle.std.specs.Prelude.{◌≡◌, IfOk, OnOk, map, option_map, option_copied};
+ghost use Rattle.std.specs.Prelude.{◌≡◌, IfOk, OnOk, map, option_map};
 ghost use Rattle.cfa_tree.specs.Plain.{plain_attribute, plain_value};
 ghost use Rattle.cfa_schema.specs.Contexts.{seen_context};
 ghost use Rattle.cfa_schema.specs.Known.{value_of};
@@ -37,8 +37,8 @@ impl Table {
 }
 
 /// The value of the first attribute of a name.
-pub(crate) fn first_value<'a>(attributes: &'a [Attribute], name: &str) -> Option<&'a Value>
-    ensures { option_map plain_value (option_copied result) ≡ value_of name.now (map plain_attribute attributes.now) }
+pub(crate) fn value_named<'a>(attributes: &'a [Attribute], name: &str) -> Option<&'a Value>
+    ensures { option_map (λ value. plain_value value.now) result ≡ value_of name.now (map plain_attribute attributes.now) }
 {
     for attribute in attributes {
         if attribute.name.as_str() == name {
@@ -52,7 +52,7 @@ pub(crate) fn first_value<'a>(attributes: &'a [Attribute], name: &str) -> Option
 pub(crate) fn has_attribute(attributes: &[Attribute], name: &str) -> bool
     ensures { result ≡ has_attribute (map plain_attribute attributes.now) name.now }
 {
-    first_value(attributes, name).is_some()
+    value_named(attributes, name).is_some()
 }
 
 // The names of attributes with their places.

@@ -4,7 +4,7 @@ ghost use Rattle.std.specs.List.{filter_map};
 ghost use Rattle.cfa_tree.specs.Plain.{plain_attribute, plain_block, plain_named, plain_value};
 ghost use Rattle.cfa_tree.specs.Tree.{text};
 ghost use Rattle.cfa_schema.specs.Collected.{control_in, item_name};
-ghost use Rattle.cfa_schema.specs.Known.{control_of, is_control, known_named, names_listed, value_of};
+ghost use Rattle.cfa_schema.specs.Known.{control_of, is_control, known_named, names_listed};
 ghost use Rattle.cfa_schema.specs.Settings.{seen_item};
 
 use crate::repeating::Item;
@@ -46,18 +46,6 @@ pub(crate) fn control_attributes(blocks: &[Block]) -> &[Attribute]
         }
     }
     &[]
-}
-
-/// The value of the first attribute of a name.
-pub(crate) fn value_named<'a>(attributes: &'a [Attribute], name: &str) -> Option<&'a Value>
-    ensures { option_map (λ value. plain_value value.now) result ≡ value_of name.now (map plain_attribute attributes.now) }
-{
-    for attribute in attributes {
-        if attribute.name.as_str() == name {
-            return Some(&attribute.value);
-        }
-    }
-    None
 }
 
 /// A text that is known before the run, with its place.

@@ -5,7 +5,8 @@ ghost use Rattle.cfa_schema.specs.Collected.{bundle_head_of, body_head_of, with_
 ghost use Rattle.cfa_schema.specs.Known.{has_sequence, is_agent_head, known_of, names_listed, sequence_of};
 ghost use Rattle.cfa_schema.specs.Settings.{seen_bundle, seen_body};
 
-use crate::controls::{control_attributes, listed_names, value_named};
+use crate::attributes::value_named;
+use crate::controls::{control_attributes, listed_names};
 use crate::knowing::{BodyEntry, BundleEntry, Definitions};
 use cfa_base::NoMemory;
 use cfa_calls::NameIndex;

@@ -4,7 +4,8 @@ ghost use Rattle.cfa_tree.specs.Plain.{plain_policy, plain_value};
 ghost use Rattle.cfa_schema.specs.Collected.{item_name};
 ghost use Rattle.cfa_schema.specs.Known.{inputs_of, names_listed};
 
-use crate::controls::{control_attributes, listed_names, value_named};
+use crate::attributes::value_named;
+use crate::controls::{control_attributes, listed_names};
 use crate::repeating::Item;
 use cfa_base::{Name, Names, NoMemory};
 use cfa_tree::{Policy, Value};

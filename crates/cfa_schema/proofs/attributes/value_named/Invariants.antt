@@ -1,7 +1,7 @@
 use Rattle.std.proofs.Common.{◌≡◌, drop, map}
 use Rattle.cfa_tree.specs.Plain.{plain_attribute}
 use Rattle.cfa_schema.specs.Known.{value_of}
-use Rattle.cfa_schema.proofs.attributes.first_value.Given as goal
+use Rattle.cfa_schema.proofs.attributes.value_named.Given as goal
 
 -- the first attribute of the name is among those that are left
 abbrev pub invariant-loop-attribute : goal.invariant-loop-attribute
