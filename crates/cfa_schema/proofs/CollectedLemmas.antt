@@ -22,7 +22,7 @@ use Rattle.cfa_schema.specs.Checked.{promises_of}
 use Rattle.cfa_schema.specs.Collected.{item_name, promiser_how, seen_pattern, bundle_head_of, body_head_of, with_block, with_blocks}
 use Rattle.cfa_schema.specs.Known.{Known, known_named, values_in, name_in, names_listed, bundle_head, body_head, sequence_of, known_of}
 use Rattle.cfa_schema.specs.Settings.{seen_item}
-use Rattle.cfa_schema.specs.Faults.{IfBad, IfTooBig, HasFirstBad, HasRefused, IsBadAt}
+use Rattle.cfa_schema.specs.Faults.{IfBad, IfTooBig, HasFirstBad, HasRefused, IsBadAt, IsRefusedAs}
 use Rattle.cfa_schema.specs.Valid.{KnownPattern, IsPattern, promiser_pattern}
 
 values_in_trees : (vs : List ValueTree) → values_in (value_trees vs) ≡ vs
@@ -147,9 +147,9 @@ module _ (patterns : List FoundPattern) (i : ℕ) (d : FoundPattern) (within : i
     stands_at = is.stands_at;
   }
 
-  pub refused_here : (t : List ℕ) → All IsPattern (map seen_pattern (take i patterns)) → (get_or patterns i d).text.now ≡ t → HasRefused (map seen_pattern patterns) t
+  pub refused_here : (t : List ℕ) → All IsPattern (map seen_pattern (take i patterns)) → IsRefusedAs (seen_pattern (get_or patterns i d)) t → HasRefused (map seen_pattern patterns) t
   unfolding before
-  refused_here t good is = record { pattern = seen_pattern (get_or patterns i d); before = before; after = after; stands = stands; good = good; text = is }
+  refused_here t good is = record { pattern = seen_pattern (get_or patterns i d); before = before; after = after; stands = stands; good = good; reads = is.reads; text = is.text }
 
   pub good_more : All IsPattern (map seen_pattern (take i patterns)) → IsPattern (seen_pattern (get_or patterns i d)) → All IsPattern (map seen_pattern (take (i + 1) patterns))
   good_more good is =
@@ -167,7 +167,7 @@ bad_stands patterns i d within good (TooBig text) is = is
 bad_stands patterns i d within good NoMemory is = is
 
 pub refused_stands : (patterns : List FoundPattern) (i : ℕ) (d : FoundPattern) → i < length patterns → All IsPattern (map seen_pattern (take i patterns)) → (fault : PatternFault) →
-    IfTooBig fault (λ t. (get_or patterns i d).text.now ≡ t) → IfTooBig fault (HasRefused (map seen_pattern patterns))
+    IfTooBig fault (IsRefusedAs (seen_pattern (get_or patterns i d))) → IfTooBig fault (HasRefused (map seen_pattern patterns))
 refused_stands patterns i d within good (Bad place) is = is
 refused_stands patterns i d within good (TooBig text) is = refused_here patterns i d within text good is
 refused_stands patterns i d within good NoMemory is = is

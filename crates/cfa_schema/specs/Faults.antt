@@ -28,11 +28,17 @@ pub record HasFirstBad (patterns : List KnownPattern) (place : Place) : Type 0 w
   pub first : IsFirstBad patterns pattern
   pub stands_at : pattern.place ≡ place
 
--- one of these has this text, and all before it are patterns
+-- this is a pattern, of this text
+pub record IsRefusedAs (p : KnownPattern) (t : List ℕ) : Type 0 where
+  pub reads : IsPattern p
+  pub text : p.text ≡ t
+
+-- one of these has this text; it and all before it are patterns
 pub record HasRefused (patterns : List KnownPattern) (t : List ℕ) : Type 0 where
   pub pattern : KnownPattern
   pub before : List KnownPattern
   pub after : List KnownPattern
   pub stands : patterns ≡ before ++ pattern ∷ after
   pub good : All IsPattern before
+  pub reads : IsPattern pattern
   pub text : pattern.text ≡ t

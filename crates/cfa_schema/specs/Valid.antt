@@ -267,7 +267,7 @@ pub data FirstRefusal (policy : PolicyTree) : Refusal → Type 0 where
   bad_pattern : (p : KnownPattern) → NoneApplies policy → IsTrue (has_sequence policy) → IsFirstBad (patterns_of policy) p →
       FirstRefusal policy (refusal 13 p.place)
 
--- a text of these patterns was refused for its size, where nothing else is refused, nor a pattern before it
+-- a text of these patterns was refused for its size, where nothing else is refused; it and all before it are patterns
 pub record IsRefusedForSize (policy : PolicyTree) (t : List ℕ) : Type 0 where
   pub none_applies : NoneApplies policy
   pub sequence : IsTrue (has_sequence policy)
@@ -276,4 +276,5 @@ pub record IsRefusedForSize (policy : PolicyTree) (t : List ℕ) : Type 0 where
   pub after : List KnownPattern
   pub stands : patterns_of policy ≡ before ++ pattern ∷ after
   pub good : All IsPattern before
+  pub reads : IsPattern pattern
   pub text : pattern.text ≡ t

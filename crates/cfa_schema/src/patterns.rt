@@ -5,7 +5,7 @@ ghost use Rattle.cfa_base.specs.Causes.{Rose};
 ghost use Rattle.cfa_base.specs.Patterns.{refuses};
 ghost use Rattle.cfa_tree.specs.Plain.{plain_attribute, plain_block, plain_policy, plain_promise, plain_section};
 ghost use Rattle.cfa_schema.specs.Collected.{one_or_none, promiser_how, pattern_of_promiser, seen_pattern};
-ghost use Rattle.cfa_schema.specs.Faults.{IfBad, IfTooBig, HasFirstBad, HasRefused, IsBadAt};
+ghost use Rattle.cfa_schema.specs.Faults.{IfBad, IfTooBig, HasFirstBad, HasRefused, IsBadAt, IsRefusedAs};
 ghost use Rattle.cfa_kinds.specs.Kinds.{promise_type};
 ghost use Rattle.cfa_schema.specs.Valid.{IsPattern, pattern_in_attribute, patterns_in_block, patterns_in_section, patterns_of};
 ghost use Rattle.cfa_schema.specs.declared.patterns.PatternFault.TheVariants.{NoMemory};
@@ -167,7 +167,7 @@ fn build_one<P: Patterns>(
 ) -> Result<(), PatternFault>
     ensures good { OnOk result (IsPattern (seen_pattern pattern.entry)) }
     ensures bad { IfErr result (λ e. IfBad e (IsBadAt (seen_pattern pattern.entry))) }
-    ensures too_big { IfErr result (λ e. IfTooBig e (λ t. pattern.entry.text.now ≡ t)) }
+    ensures too_big { IfErr result (λ e. IfTooBig e (IsRefusedAs (seen_pattern pattern.entry))) }
     ensures too_big_told { IfErr result (λ e. IfTooBig e (λ t. P.told pats.new ≡ option_map (refuses t) (P.told pats.old))) }
     ensures too_big_rose { IfErr result (λ e. IfTooBig e (λ t. Rose (P.refusals pats.old) (P.refusals pats.new))) }
     ensures ok_told { OnOk result (P.told pats.new ≡ P.told pats.old) }
