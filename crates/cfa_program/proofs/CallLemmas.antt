@@ -1,5 +1,5 @@
 -- What a whole call leaves.
-use Rattle.std.proofs.Common.{◌≡◌, ℕ, List, Some, Option, option_map, IfSome, refl, sym, ap, subst, ◌∙◌}
+use Rattle.std.proofs.Common.{◌≡◌, ◌<◌, ◌⊎◌, inl, inr, ⊎_elim, ℕ, List, Some, Option, option_map, IfSome, refl, sym, ap, subst, ◌∙◌}
 use Rattle.cfa_outside.specs.declared.worlds.World.{World}
 use Rattle.cfa_outside.specs.Inputs.{Library}
 use Rattle.cfa_outside.specs.Sites.{Told, adds}
@@ -9,7 +9,7 @@ use Rattle.cfa_program.specs.Done.{Done, Puts, Stands, refused_with}
 use Rattle.cfa_program.specs.Lines.{valid_line}
 use Rattle.cfa_program.specs.Sources.{source_of}
 use Rattle.cfa_program.specs.Checks.{Checks, refused, valid, found_valid, Refuses, IsValid, IsInvalid}
-use Rattle.cfa_program.specs.Calls.{OfSource, IsOther, RefusesTask, RefusesPolicy, task_asked}
+use Rattle.cfa_program.specs.Calls.{OfSource, IsOther, RefusesTask, RefusesPolicy, task_asked, last_moment}
 use Rattle.cfa_program.proofs.CheckLemmas.{valid_or_not}
 use Rattle.cfa_program.proofs.SourceLemmas.{some_injective}
 use Rattle.cfa_program.proofs.RunLemmas.{adds_none, some_weaker, each_some}
@@ -111,3 +111,8 @@ refuses_as lib task other P Q same f h = some_weaker lib _ _ (λ l _ so r. f (so
 -- the words refuse what their task refuses
 pub words_refuse : (lib : Option Library) (words : List (List ℕ)) (task : Task) (Q : Type 0) → task_asked words ≡ Some task → IfSome lib (λ l. RefusesTask task l.texts → Q) → IfSome lib (λ l. RefusesPolicy words l.texts → Q)
 words_refuse lib words task Q asked h = some_weaker lib _ _ (λ l _ so r. so (subst (λ (u : Task). RefusesTask u l.texts) (same_task words r.0 task r.1 asked) r.2)) h
+
+-- what a task refuses, or its moment, is refused by the words that ask for it
+pub refused_by : (lib : Option Library) (words : List (List ℕ)) (moment : ℕ) (task : Task) → task_asked words ≡ Some task → (last_moment < moment) ⊎ IfSome lib (λ l. RefusesTask task l.texts) → (last_moment < moment) ⊎ IfSome lib (λ l. RefusesPolicy words l.texts)
+refused_by lib words moment task asked by =
+    ⊎_elim (λ late. inl late) (λ h. inr (some_weaker lib _ _ (λ l _ r. (task, asked, r)) h)) by

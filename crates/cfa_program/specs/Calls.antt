@@ -1,5 +1,5 @@
 -- What a call of the program does, by its words and moment, the texts of its inputs and the site's world.
-use Rattle.std.specs.Prelude.{ℕ, ◌≡◌, ◌<◌, ◌≤◌, nat_lt, if◌then◌else◌, List, ◌++◌, Option, Some, None, option_map, option_and_then, ◌⊎◌, IfSome}
+use Rattle.std.specs.Prelude.{ℕ, ◌≡◌, ◌≢◌, ◌<◌, ◌≤◌, nat_lt, if◌then◌else◌, List, ◌++◌, Option, Some, None, option_map, option_and_then, ◌⊎◌, IfSome}
 use Rattle.cfa_base.specs.Patterns as patterns
 use Rattle.cfa_words.specs.declared.words.Request.{Request}
 use Rattle.cfa_words.specs.declared.words.Request.TheVariants as request
@@ -27,6 +27,14 @@ task_of (request.Show policy) = Some (Show policy)
 -- what the words ask for; none where they are refused
 abbrev pub task_asked : List (List ℕ) → Option Task
 task_asked words = option_and_then task_of (asked words)
+
+-- a task that isn't a run; it has nothing to do with the site
+abbrev pub IsNoRun : Task → Type 0
+IsNoRun task = (policy : List ℕ) → task ≢ Run policy
+
+-- the words ask for no run: for another task, or they are refused
+abbrev pub AsksNoRun : List (List ℕ) → Type 0
+AsksNoRun words = (policy : List ℕ) → task_asked words ≢ Some (Run policy)
 
 -- the last second of the year 9998
 abbrev pub last_moment : ℕ

@@ -29,6 +29,10 @@ pub record Puts (does : Done → Type 0) (out_before out_after : Option (List �
   pub out_is : out_after ≡ option_map (adds_bytes done.lines) out_before
   pub status_is : status ≡ done.status
 
+-- this line was put, and nothing else
+abbrev pub HasPut : List ℕ → (out_before out_after : Option (List ℕ)) → Type 0
+HasPut line out_before out_after = out_after ≡ option_map (adds_bytes line) out_before
+
 -- the status of a refusal, unless its line can't be put or memory ends
 abbrev pub IsRefusal : ℕ → Type 0
 IsRefusal status = (status ≡ 1) ⊎ ((status ≡ 4) ⊎ (status ≡ 5))

@@ -67,3 +67,10 @@ schema_words number =
 
 abbrev pub valid_line : List ℕ
 valid_line = codes "valid\n"
+
+-- the lines that tell what stopped a call
+abbrev pub outside_line : List ℕ
+outside_line = codes "stopped: outside\n"
+
+abbrev pub pattern_line : List ℕ
+pattern_line = codes "stopped: pattern\n"

@@ -3,11 +3,12 @@ ghost use Rattle.std.specs.Prelude.{◌≡◌, ◌≢◌, ◌≤◌, ◌<◌, �
 ghost use Rattle.cfa_base.specs.Causes.{Rose};
 ghost use Rattle.cfa_outside.specs.declared.worlds.World as declared;
 ghost use Rattle.cfa_parser.specs.FirstForm.{IsOfForm};
-ghost use Rattle.cfa_program.specs.Done.{Puts, Stands, IsRefusal, Untouched};
+ghost use Rattle.cfa_program.specs.Done.{Puts, HasPut, Stands, IsRefusal, Untouched};
+ghost use Rattle.cfa_program.specs.Lines.{words_line, moment_line, outside_line, pattern_line};
 ghost use Rattle.cfa_program.specs.Runs.{run_of};
 ghost use Rattle.cfa_program.specs.Steps.{IsStopOf};
 ghost use Rattle.cfa_program.specs.Sources.{OnlyFails, IsNamed};
-ghost use Rattle.cfa_program.specs.Calls.{task_asked, last_moment, ran, RunsSource, OfSource, Follows, Attends, Does, IsOther, RefusesTask, RefusesPolicy, IsRefused, IsNextOf, OnlyNextFails, StopsForSize, CheckStops};
+ghost use Rattle.cfa_program.specs.Calls.{task_asked, last_moment, ran, RunsSource, OfSource, Follows, Attends, Does, IsNoRun, AsksNoRun, IsOther, RefusesTask, RefusesPolicy, IsRefused, IsNextOf, OnlyNextFails, StopsForSize, CheckStops};
 
 use crate::checking::check_policy;
 use crate::lines;
@@ -32,6 +33,7 @@ fn run_all<S: Site, O: Sink>(
     ensures exact { IfOk result (λ status. ¬ (Rose (S.faults site.old) (S.faults site.new)) → IfSome (S.told site.old) (λ t. Stands (λ done. done ≡ ran (run_of 1 promises.now t.world)) t (O.told out.old) (S.told site.new) (O.told out.new) status)) }
     ensures range { IfOk result (λ status. (status ≡ 0) ⊎ (status ≡ 2)) }
     ensures stopped { IfErr result (λ stop. IsStopOf (O.faults out.old) (O.faults out.new) stop) }
+    ensures put_later { O.faults out.old ≤ O.faults out.new }
 {
     let tally = run_promises(alloc, promises, site, out)?;
     let line = lines::total(alloc, tally.kept, tally.repaired, tally.failed)?;
@@ -53,6 +55,7 @@ fn run_source<S: Site, O: Sink>(
     ensures taken { IfOk result (λ status. ¬ (IsOfForm source.now) → status ≡ 1) }
     ensures untouched { ¬ (IsOfForm source.now) → Untouched (S.told site.old) (S.faults site.old) (S.told site.new) (S.faults site.new) }
     ensures stopped { IfErr result (λ stop. IsStopOf (O.faults out.old) (O.faults out.new) stop) }
+    ensures put_later { O.faults out.old ≤ O.faults out.new }
 {
     match read_first(alloc, source) {
         Ok(promises) => run_all(alloc, &promises, site, out),
@@ -78,10 +81,11 @@ fn run_policy<I: Inputs, S: Site, O: Sink>(
     ensures refused { IfOk result (λ status. status ≡ 1 → IfSome (I.told inputs.old) (λ lib. IsOther IsOfForm lib.texts policy.now)) }
     ensures refused_untouched { IfOk result (λ status. status ≡ 1 → Untouched (S.told site.old) (S.faults site.old) (S.told site.new) (S.faults site.new)) }
     ensures other { IfSome (I.told inputs.old) (λ lib. IsOther IsOfForm lib.texts policy.now → IfOk result (λ status. status ≡ 1) × Untouched (S.told site.old) (S.faults site.old) (S.told site.new) (S.faults site.new)) }
-    ensures inputs_failed { IsErrOf result Stop.Inputs → Rose (I.faults inputs.old) (I.faults inputs.new) × Untouched (S.told site.old) (S.faults site.old) (S.told site.new) (S.faults site.new) }
+    ensures inputs_failed { IsErrOf result Stop.Inputs → Rose (I.faults inputs.old) (I.faults inputs.new) × Untouched (S.told site.old) (S.faults site.old) (S.told site.new) (S.faults site.new) × (O.told out.new ≡ O.told out.old) }
     ensures sink_failed { IsErrOf result Stop.Sink → Rose (O.faults out.old) (O.faults out.new) }
     ensures no_pattern { IsErrOf result Stop.Pattern → ⊥ }
     ensures names { OnlyFails (IsNamed policy.now) (I.told inputs.old) (I.told inputs.new) }
+    ensures put_later { O.faults out.old ≤ O.faults out.new }
 {
     let source = read_source(alloc, policy, inputs)?;
     run_source(alloc, policy, source.as_slice(), site, out)
@@ -97,7 +101,7 @@ fn follow<I: Inputs, S: Site, O: Sink, P: Patterns>(
     pats: &mut P,
 ) -> Result<u8, Stop>
     ensures exact { IfOk result (λ status. ¬ (Rose (S.faults site.old) (S.faults site.new)) → IfSome (I.told inputs.old) (λ lib. IfSome (S.told site.old) (λ t. Stands (Follows task.now lib.texts t.world) t (O.told out.old) (S.told site.new) (O.told out.new) status))) }
-    ensures checked { (policy : List ℕ) → task.now ≡ Task.Check policy → IfOk result (λ status. IfSome (I.told inputs.old) (λ lib. (world : declared.World) → Puts (Follows task.now lib.texts world) (O.told out.old) (O.told out.new) status)) }
+    ensures without_site { IsNoRun task.now → IfOk result (λ status. IfSome (I.told inputs.old) (λ lib. (world : declared.World) → Puts (Follows task.now lib.texts world) (O.told out.old) (O.told out.new) status)) }
     ensures range { IfOk result (λ status. status ≤ 2) }
     ensures failed { IfOk result (λ status. status ≡ 2 → (policy : List ℕ) × (task.now ≡ Task.Run policy)) }
     ensures refused { IfOk result (λ status. status ≡ 1 → IfSome (I.told inputs.old) (λ lib. RefusesTask task.now lib.texts)) }
@@ -105,11 +109,12 @@ fn follow<I: Inputs, S: Site, O: Sink, P: Patterns>(
     ensures policy_refused { IfSome (I.told inputs.old) (λ lib. RefusesTask task.now lib.texts → IfOk result (λ status. status ≡ 1) × Untouched (S.told site.old) (S.faults site.old) (S.told site.new) (S.faults site.new)) }
     ensures show_untouched { (policy : List ℕ) → task.now ≡ Task.Show policy → Untouched (S.told site.old) (S.faults site.old) (S.told site.new) (S.faults site.new) }
     ensures check_untouched { (policy : List ℕ) → task.now ≡ Task.Check policy → Untouched (S.told site.old) (S.faults site.old) (S.told site.new) (S.faults site.new) }
-    ensures inputs_failed { IsErrOf result Stop.Inputs → Rose (I.faults inputs.old) (I.faults inputs.new) × Untouched (S.told site.old) (S.faults site.old) (S.told site.new) (S.faults site.new) }
+    ensures inputs_failed { IsErrOf result Stop.Inputs → Rose (I.faults inputs.old) (I.faults inputs.new) × Untouched (S.told site.old) (S.faults site.old) (S.told site.new) (S.faults site.new) × (O.told out.new ≡ O.told out.old) }
     ensures sink_failed { IsErrOf result Stop.Sink → Rose (O.faults out.old) (O.faults out.new) }
     ensures names { OnlyFails (IsNextOf task.now) (I.told inputs.old) (I.told inputs.new) }
-    ensures pattern { IsErrOf result Stop.Pattern → Rose (P.refusals pats.old) (P.refusals pats.new) × ((policy : List ℕ) × (task.now ≡ Task.Check policy) × StopsForSize policy (I.told inputs.old) (P.told pats.old) (P.told pats.new)) }
+    ensures pattern { IsErrOf result Stop.Pattern → Rose (P.refusals pats.old) (P.refusals pats.new) × ((policy : List ℕ) × (task.now ≡ Task.Check policy) × StopsForSize policy (I.told inputs.old) (P.told pats.old) (P.told pats.new)) × (O.told out.new ≡ O.told out.old) }
     ensures patterns_kept { ¬ IsErrOf result Stop.Pattern → Untouched (P.told pats.old) (P.refusals pats.old) (P.told pats.new) (P.refusals pats.new) }
+    ensures put_later { O.faults out.old ≤ O.faults out.new }
 {
     match task {
         Task::Run(policy) => run_policy(alloc, policy, inputs, site, out),
@@ -129,20 +134,21 @@ fn attend_task<I: Inputs, S: Site, O: Sink, P: Patterns>(
     pats: &mut P,
 ) -> Result<u8, Stop>
     ensures exact { IfOk result (λ status. ¬ (Rose (S.faults site.old) (S.faults site.new)) → IfSome (I.told inputs.old) (λ lib. IfSome (S.told site.old) (λ t. Stands (Attends task.now moment lib.texts t.world) t (O.told out.old) (S.told site.new) (O.told out.new) status))) }
-    ensures checked { (policy : List ℕ) → task.now ≡ Task.Check policy → IfOk result (λ status. IfSome (I.told inputs.old) (λ lib. (world : declared.World) → Puts (Attends task.now moment lib.texts world) (O.told out.old) (O.told out.new) status)) }
+    ensures without_site { IsNoRun task.now → IfOk result (λ status. IfSome (I.told inputs.old) (λ lib. (world : declared.World) → Puts (Attends task.now moment lib.texts world) (O.told out.old) (O.told out.new) status)) }
     ensures range { IfOk result (λ status. status ≤ 2) }
     ensures failed { IfOk result (λ status. status ≡ 2 → (policy : List ℕ) × (task.now ≡ Task.Run policy)) }
     ensures refused { IfOk result (λ status. status ≡ 1 → (last_moment < moment) ⊎ IfSome (I.told inputs.old) (λ lib. RefusesTask task.now lib.texts)) }
     ensures refused_untouched { IfOk result (λ status. status ≡ 1 → Untouched (S.told site.old) (S.faults site.old) (S.told site.new) (S.faults site.new)) }
-    ensures moment_refused { last_moment < moment → IfOk result (λ status. status ≡ 1) × Untouched (S.told site.old) (S.faults site.old) (S.told site.new) (S.faults site.new) × Untouched (I.told inputs.old) (I.faults inputs.old) (I.told inputs.new) (I.faults inputs.new) × ¬ IsErrOf result Stop.Pattern }
+    ensures moment_refused { last_moment < moment → IfOk result (λ status. (status ≡ 1) × HasPut moment_line (O.told out.old) (O.told out.new)) × Untouched (S.told site.old) (S.faults site.old) (S.told site.new) (S.faults site.new) × Untouched (I.told inputs.old) (I.faults inputs.old) (I.told inputs.new) (I.faults inputs.new) × ¬ IsErrOf result Stop.Pattern }
     ensures policy_refused { IfSome (I.told inputs.old) (λ lib. RefusesTask task.now lib.texts → IfOk result (λ status. status ≡ 1) × Untouched (S.told site.old) (S.faults site.old) (S.told site.new) (S.faults site.new)) }
     ensures show_untouched { (policy : List ℕ) → task.now ≡ Task.Show policy → Untouched (S.told site.old) (S.faults site.old) (S.told site.new) (S.faults site.new) }
     ensures check_untouched { (policy : List ℕ) → task.now ≡ Task.Check policy → Untouched (S.told site.old) (S.faults site.old) (S.told site.new) (S.faults site.new) }
-    ensures inputs_failed { IsErrOf result Stop.Inputs → Rose (I.faults inputs.old) (I.faults inputs.new) × Untouched (S.told site.old) (S.faults site.old) (S.told site.new) (S.faults site.new) }
+    ensures inputs_failed { IsErrOf result Stop.Inputs → Rose (I.faults inputs.old) (I.faults inputs.new) × Untouched (S.told site.old) (S.faults site.old) (S.told site.new) (S.faults site.new) × (O.told out.new ≡ O.told out.old) }
     ensures sink_failed { IsErrOf result Stop.Sink → Rose (O.faults out.old) (O.faults out.new) }
     ensures names { OnlyFails (IsNextOf task.now) (I.told inputs.old) (I.told inputs.new) }
-    ensures pattern { IsErrOf result Stop.Pattern → Rose (P.refusals pats.old) (P.refusals pats.new) × ((policy : List ℕ) × (task.now ≡ Task.Check policy) × StopsForSize policy (I.told inputs.old) (P.told pats.old) (P.told pats.new)) }
+    ensures pattern { IsErrOf result Stop.Pattern → Rose (P.refusals pats.old) (P.refusals pats.new) × ((policy : List ℕ) × (task.now ≡ Task.Check policy) × StopsForSize policy (I.told inputs.old) (P.told pats.old) (P.told pats.new)) × (O.told out.new ≡ O.told out.old) }
     ensures patterns_kept { ¬ IsErrOf result Stop.Pattern → Untouched (P.told pats.old) (P.refusals pats.old) (P.told pats.new) (P.refusals pats.new) }
+    ensures put_later { O.faults out.old ≤ O.faults out.new }
 {
     if moment > LAST_MOMENT {
         put_all(out, b"moment: refused\n")?;
@@ -162,21 +168,22 @@ fn attend<I: Inputs, S: Site, O: Sink, P: Patterns>(
     pats: &mut P,
 ) -> Result<u8, Stop>
     ensures exact { IfOk result (λ status. ¬ (Rose (S.faults site.old) (S.faults site.new)) → IfSome (I.told inputs.old) (λ lib. IfSome (S.told site.old) (λ t. Stands (Does words.now moment lib.texts t.world) t (O.told out.old) (S.told site.new) (O.told out.new) status))) }
-    ensures checked { (policy : List ℕ) → task_asked words.now ≡ Some (Task.Check policy) → IfOk result (λ status. IfSome (I.told inputs.old) (λ lib. (world : declared.World) → Puts (Does words.now moment lib.texts world) (O.told out.old) (O.told out.new) status)) }
+    ensures without_site { AsksNoRun words.now → IfOk result (λ status. IfSome (I.told inputs.old) (λ lib. (world : declared.World) → Puts (Does words.now moment lib.texts world) (O.told out.old) (O.told out.new) status)) }
     ensures range { IfOk result (λ status. status ≤ 2) }
     ensures failed { IfOk result (λ status. status ≡ 2 → (policy : List ℕ) × (task_asked words.now ≡ Some (Task.Run policy))) }
     ensures refused { IfOk result (λ status. status ≡ 1 → IsRefused words.now moment (I.told inputs.old)) }
     ensures refused_untouched { IfOk result (λ status. status ≡ 1 → Untouched (S.told site.old) (S.faults site.old) (S.told site.new) (S.faults site.new)) }
-    ensures words_refused { task_asked words.now ≡ None → IfOk result (λ status. status ≡ 1) × Untouched (S.told site.old) (S.faults site.old) (S.told site.new) (S.faults site.new) × Untouched (I.told inputs.old) (I.faults inputs.old) (I.told inputs.new) (I.faults inputs.new) × ¬ IsErrOf result Stop.Pattern }
-    ensures moment_refused { last_moment < moment → IfOk result (λ status. status ≡ 1) × Untouched (S.told site.old) (S.faults site.old) (S.told site.new) (S.faults site.new) × Untouched (I.told inputs.old) (I.faults inputs.old) (I.told inputs.new) (I.faults inputs.new) × ¬ IsErrOf result Stop.Pattern }
+    ensures words_refused { task_asked words.now ≡ None → IfOk result (λ status. (status ≡ 1) × HasPut words_line (O.told out.old) (O.told out.new)) × Untouched (S.told site.old) (S.faults site.old) (S.told site.new) (S.faults site.new) × Untouched (I.told inputs.old) (I.faults inputs.old) (I.told inputs.new) (I.faults inputs.new) × ¬ IsErrOf result Stop.Pattern }
+    ensures moment_refused { last_moment < moment → IfOk result (λ status. (status ≡ 1) × ((task_asked words.now ≡ None) ⊎ HasPut moment_line (O.told out.old) (O.told out.new))) × Untouched (S.told site.old) (S.faults site.old) (S.told site.new) (S.faults site.new) × Untouched (I.told inputs.old) (I.faults inputs.old) (I.told inputs.new) (I.faults inputs.new) × ¬ IsErrOf result Stop.Pattern }
     ensures policy_refused { IfSome (I.told inputs.old) (λ lib. RefusesPolicy words.now lib.texts → IfOk result (λ status. status ≡ 1) × Untouched (S.told site.old) (S.faults site.old) (S.told site.new) (S.faults site.new)) }
     ensures show_untouched { (policy : List ℕ) → task_asked words.now ≡ Some (Task.Show policy) → Untouched (S.told site.old) (S.faults site.old) (S.told site.new) (S.faults site.new) }
     ensures check_untouched { (policy : List ℕ) → task_asked words.now ≡ Some (Task.Check policy) → Untouched (S.told site.old) (S.faults site.old) (S.told site.new) (S.faults site.new) }
-    ensures inputs_failed { IsErrOf result Stop.Inputs → Rose (I.faults inputs.old) (I.faults inputs.new) × Untouched (S.told site.old) (S.faults site.old) (S.told site.new) (S.faults site.new) }
+    ensures inputs_failed { IsErrOf result Stop.Inputs → Rose (I.faults inputs.old) (I.faults inputs.new) × Untouched (S.told site.old) (S.faults site.old) (S.told site.new) (S.faults site.new) × (O.told out.new ≡ O.told out.old) }
     ensures sink_failed { IsErrOf result Stop.Sink → Rose (O.faults out.old) (O.faults out.new) }
     ensures names { OnlyNextFails words.now (I.told inputs.old) (I.told inputs.new) }
-    ensures pattern { IsErrOf result Stop.Pattern → Rose (P.refusals pats.old) (P.refusals pats.new) × CheckStops words.now (I.told inputs.old) (P.told pats.old) (P.told pats.new) }
+    ensures pattern { IsErrOf result Stop.Pattern → Rose (P.refusals pats.old) (P.refusals pats.new) × CheckStops words.now (I.told inputs.old) (P.told pats.old) (P.told pats.new) × (O.told out.new ≡ O.told out.old) }
     ensures patterns_kept { ¬ IsErrOf result Stop.Pattern → Untouched (P.told pats.old) (P.refusals pats.old) (P.told pats.new) (P.refusals pats.new) }
+    ensures put_later { O.faults out.old ≤ O.faults out.new }
 {
     match read_task(alloc, words)? {
         None => {
@@ -184,6 +191,17 @@ fn attend<I: Inputs, S: Site, O: Sink, P: Patterns>(
             Ok(1)
         }
         Some(task) => attend_task(alloc, &task, moment, inputs, site, out, pats),
+    }
+}
+
+// Puts the line that tells what stopped a call, and answers its status, which is 4 where the line can't be put.
+fn stopped_with<O: Sink>(out: &mut O, line: &[u8], status: u8) -> u8
+    ensures status { ((result ≡ status) × HasPut line.now (O.told out.old) (O.told out.new)) ⊎ ((result ≡ 4) × Rose (O.faults out.old) (O.faults out.new)) }
+    ensures later { O.faults out.old ≤ O.faults out.new }
+{
+    match put_all(out, line) {
+        Ok(()) => status,
+        Err(_) => 4,
     }
 }
 
@@ -197,7 +215,7 @@ fn attend<I: Inputs, S: Site, O: Sink, P: Patterns>(
 ///
 /// Each line is put as soon as it stands. After a put that failed nothing more is put; after a failed reading the last
 /// line is `stopped: outside`, after want of memory it is `stopped: memory`, and after a pattern that was refused for its
-/// size it is `stopped: pattern`.
+/// size it is `stopped: pattern`. Where that line can't be put the status is 4.
 pub fn agent_main<I: Inputs, S: Site, O: Sink, P: Patterns>(
     alloc: Global,
     words: &[Name],
@@ -210,16 +228,16 @@ pub fn agent_main<I: Inputs, S: Site, O: Sink, P: Patterns>(
     // Where no call on the site failed, a call that isn't stopped does exactly what its definition says.
     ensures exact { result ≢ 4 → result ≢ 5 → result ≢ 6 → ¬ (Rose (S.faults site.old) (S.faults site.new)) → IfSome (I.told inputs.old) (λ lib. IfSome (S.told site.old) (λ t. Stands (Does words.now moment lib.texts t.world) t (O.told out.old) (S.told site.new) (O.told out.new) result)) }
 
-    // A check does so on any site.
-    ensures checked { result ≢ 4 → result ≢ 5 → result ≢ 6 → (policy : List ℕ) → task_asked words.now ≡ Some (Task.Check policy) → IfSome (I.told inputs.old) (λ lib. (world : declared.World) → Puts (Does words.now moment lib.texts world) (O.told out.old) (O.told out.new) result) }
+    // A call that asks for no run does so on any site.
+    ensures without_site { result ≢ 4 → result ≢ 5 → result ≢ 6 → AsksNoRun words.now → IfSome (I.told inputs.old) (λ lib. (world : declared.World) → Puts (Does words.now moment lib.texts world) (O.told out.old) (O.told out.new) result) }
     ensures range { (result ≤ 2) ⊎ ((result ≡ 4) ⊎ ((result ≡ 5) ⊎ (result ≡ 6))) }
 
     // Status 1 comes exactly for refused words, a refused moment and a refused policy, unless a pattern is too big, and
     // then nothing was done on the site, nor anything read where the words or the moment are refused.
     ensures refused { result ≡ 1 → IsRefused words.now moment (I.told inputs.old) }
     ensures refused_untouched { result ≡ 1 → Untouched (S.told site.old) (S.faults site.old) (S.told site.new) (S.faults site.new) }
-    ensures words_refused { task_asked words.now ≡ None → IsRefusal result × Untouched (S.told site.old) (S.faults site.old) (S.told site.new) (S.faults site.new) × Untouched (I.told inputs.old) (I.faults inputs.old) (I.told inputs.new) (I.faults inputs.new) }
-    ensures moment_refused { last_moment < moment → IsRefusal result × Untouched (S.told site.old) (S.faults site.old) (S.told site.new) (S.faults site.new) × Untouched (I.told inputs.old) (I.faults inputs.old) (I.told inputs.new) (I.faults inputs.new) }
+    ensures words_refused { task_asked words.now ≡ None → IsRefusal result × (result ≡ 1 → HasPut words_line (O.told out.old) (O.told out.new)) × Untouched (S.told site.old) (S.faults site.old) (S.told site.new) (S.faults site.new) × Untouched (I.told inputs.old) (I.faults inputs.old) (I.told inputs.new) (I.faults inputs.new) }
+    ensures moment_refused { last_moment < moment → IsRefusal result × (result ≡ 1 → (task_asked words.now ≡ None) ⊎ HasPut moment_line (O.told out.old) (O.told out.new)) × Untouched (S.told site.old) (S.faults site.old) (S.told site.new) (S.faults site.new) × Untouched (I.told inputs.old) (I.faults inputs.old) (I.told inputs.new) (I.faults inputs.new) }
     ensures policy_refused { IfSome (I.told inputs.old) (λ lib. RefusesPolicy words.now lib.texts → (IsRefusal result ⊎ (result ≡ 6)) × Untouched (S.told site.old) (S.faults site.old) (S.told site.new) (S.faults site.new)) }
 
     // To show or to check a policy touches no site.
@@ -230,29 +248,21 @@ pub fn agent_main<I: Inputs, S: Site, O: Sink, P: Patterns>(
     ensures failed { result ≡ 2 → (policy : List ℕ) × (task_asked words.now ≡ Some (Task.Run policy)) }
 
     // Status 4 comes only where a put failed, or the reading of a file of the policy did, before anything was done on the
-    // site; and no reading fails but that of the file that is read next.
-    ensures outside { result ≡ 4 → Rose (O.faults out.old) (O.faults out.new) ⊎ (Rose (I.faults inputs.old) (I.faults inputs.new) × Untouched (S.told site.old) (S.faults site.old) (S.told site.new) (S.faults site.new)) }
+    // site or put but the line that tells the stop; and no reading fails but that of the file that is read next.
+    ensures outside { result ≡ 4 → Rose (O.faults out.old) (O.faults out.new) ⊎ (Rose (I.faults inputs.old) (I.faults inputs.new) × Untouched (S.told site.old) (S.faults site.old) (S.told site.new) (S.faults site.new) × HasPut outside_line (O.told out.old) (O.told out.new)) }
     ensures names { OnlyNextFails words.now (I.told inputs.old) (I.told inputs.new) }
 
     // Status 6 comes only where a pattern of a policy that is checked was refused for its size, after all its files were
-    // read and nothing else was refused. Otherwise no pattern was.
-    ensures pattern { result ≡ 6 → Rose (P.refusals pats.old) (P.refusals pats.new) × CheckStops words.now (I.told inputs.old) (P.told pats.old) (P.told pats.new) }
-    ensures patterns_kept { result ≢ 6 → Untouched (P.told pats.old) (P.refusals pats.old) (P.told pats.new) (P.refusals pats.new) }
+    // read and nothing else was refused; the line that tells the stop is then all that was put. Otherwise no pattern was
+    // refused, unless that line couldn't be put.
+    ensures pattern { result ≡ 6 → Rose (P.refusals pats.old) (P.refusals pats.new) × CheckStops words.now (I.told inputs.old) (P.told pats.old) (P.told pats.new) × HasPut pattern_line (O.told out.old) (O.told out.new) }
+    ensures patterns_kept { result ≢ 6 → Untouched (P.told pats.old) (P.refusals pats.old) (P.told pats.new) (P.refusals pats.new) ⊎ ((result ≡ 4) × Rose (O.faults out.old) (O.faults out.new) × Rose (P.refusals pats.old) (P.refusals pats.new) × CheckStops words.now (I.told inputs.old) (P.told pats.old) (P.told pats.new)) }
 {
     match attend(alloc, words, moment, inputs, site, out, pats) {
         Ok(status) => status,
-        Err(Stop::Inputs) => {
-            let _ = put_all(out, b"stopped: outside\n");
-            4
-        }
+        Err(Stop::Inputs) => stopped_with(out, b"stopped: outside\n", 4),
         Err(Stop::Sink) => 4,
-        Err(Stop::Memory) => {
-            let _ = put_all(out, b"stopped: memory\n");
-            5
-        }
-        Err(Stop::Pattern) => {
-            let _ = put_all(out, b"stopped: pattern\n");
-            6
-        }
+        Err(Stop::Memory) => stopped_with(out, b"stopped: memory\n", 5),
+        Err(Stop::Pattern) => stopped_with(out, b"stopped: pattern\n", 6),
     }
 }

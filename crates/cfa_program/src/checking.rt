@@ -110,11 +110,12 @@ pub fn check_policy<I: Inputs, O: Sink, P: Patterns>(
     ensures range { IfOk result (λ status. status ≤ 1) }
     ensures refused { IfOk result (λ status. status ≡ 1 → IfSome (I.told inputs.old) (λ lib. IsInvalid lib.texts policy.now)) }
     ensures invalid { IfSome (I.told inputs.old) (λ lib. IsInvalid lib.texts policy.now → IfOk result (λ status. status ≡ 1)) }
-    ensures inputs_failed { IsErrOf result Stop.Inputs → Rose (I.faults inputs.old) (I.faults inputs.new) }
+    ensures inputs_failed { IsErrOf result Stop.Inputs → Rose (I.faults inputs.old) (I.faults inputs.new) × (O.told out.new ≡ O.told out.old) }
     ensures sink_failed { IsErrOf result Stop.Sink → Rose (O.faults out.old) (O.faults out.new) }
     ensures names { OnlyFails (IsNextFile policy.now) (I.told inputs.old) (I.told inputs.new) }
-    ensures pattern { IsErrOf result Stop.Pattern → Rose (P.refusals pats.old) (P.refusals pats.new) × StopsForSize policy.now (I.told inputs.old) (P.told pats.old) (P.told pats.new) }
+    ensures pattern { IsErrOf result Stop.Pattern → Rose (P.refusals pats.old) (P.refusals pats.new) × StopsForSize policy.now (I.told inputs.old) (P.told pats.old) (P.told pats.new) × (O.told out.new ≡ O.told out.old) }
     ensures patterns_kept { ¬ IsErrOf result Stop.Pattern → Untouched (P.told pats.old) (P.refusals pats.old) (P.told pats.new) (P.refusals pats.new) }
+    ensures put_later { O.faults out.old ≤ O.faults out.new }
 {
     match check_files(alloc, policy, inputs, pats) {
         Ok(()) => {

@@ -27,6 +27,7 @@ fn show_source<O: Sink>(
     ensures refused { IfOk result (λ status. status ≡ 1 → ¬ IsPolicy source.now) }
     ensures taken { IfOk result (λ status. ¬ IsPolicy source.now → status ≡ 1) }
     ensures stopped { IfErr result (λ stop. IsStopOf (O.faults out.old) (O.faults out.new) stop) }
+    ensures put_later { O.faults out.old ≤ O.faults out.new }
 {
     match read_tree(alloc, policy, source, MAIN_FILE) {
         Ok(tree) => {
@@ -53,10 +54,11 @@ pub fn show_policy<I: Inputs, O: Sink>(
     ensures range { IfOk result (λ status. status ≤ 1) }
     ensures refused { IfOk result (λ status. status ≡ 1 → IfSome (I.told inputs.old) (λ lib. IsOther IsPolicy lib.texts policy.now)) }
     ensures other { IfSome (I.told inputs.old) (λ lib. IsOther IsPolicy lib.texts policy.now → IfOk result (λ status. status ≡ 1)) }
-    ensures inputs_failed { IsErrOf result Stop.Inputs → Rose (I.faults inputs.old) (I.faults inputs.new) }
+    ensures inputs_failed { IsErrOf result Stop.Inputs → Rose (I.faults inputs.old) (I.faults inputs.new) × (O.told out.new ≡ O.told out.old) }
     ensures sink_failed { IsErrOf result Stop.Sink → Rose (O.faults out.old) (O.faults out.new) }
     ensures no_pattern { IsErrOf result Stop.Pattern → ⊥ }
     ensures names { OnlyFails (IsNamed policy.now) (I.told inputs.old) (I.told inputs.new) }
+    ensures put_later { O.faults out.old ≤ O.faults out.new }
 {
     let source = read_source(alloc, policy, inputs)?;
     show_source(alloc, policy, source.as_slice(), out)

@@ -260,7 +260,7 @@ fn each_call_on_an_empty_world(rt: HostRuntime) -> Result<(), Fail> {
 }
 
 // Calls whose sink fails at a put, or is full.
-const WITH_A_FAILING_SINK: [Case<'static>; 4] = [
+const WITH_A_FAILING_SINK: [Case<'static>; 7] = [
     Case {
         failing_put: 1,
         lines: "",
@@ -282,6 +282,34 @@ const WITH_A_FAILING_SINK: [Case<'static>; 4] = [
     Case {
         words: "audit j",
         room: 0,
+        lines: "",
+        status: 4,
+        entries: 0,
+        ..PLAIN
+    },
+    Case {
+        words: "check a.cf",
+        text: DELETES_MATCHING,
+        refused_build: 1,
+        failing_put: 1,
+        lines: "",
+        status: 4,
+        entries: 0,
+        ..PLAIN
+    },
+    Case {
+        words: "check a.cf",
+        text: DELETES_MATCHING,
+        refused_build: 1,
+        room: 9,
+        lines: "stopped: ",
+        status: 4,
+        entries: 0,
+        ..PLAIN
+    },
+    Case {
+        words: "run b.cf",
+        failing_put: 1,
         lines: "",
         status: 4,
         entries: 0,

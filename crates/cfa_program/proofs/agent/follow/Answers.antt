@@ -50,8 +50,8 @@ returns-in-Check-clause-refused g c =
 pub returns-in-Check-clause-names : goal.returns-in-Check-clause-names
 returns-in-Check-clause-names g c = subst (λ (u : Task). OnlyFails (IsNextOf u) (g.I.Inputs.told c.args.inputs.now) (g.I.Inputs.told c.check_policy.new.inputs)) (sym c.in-Check.is) c.check_policy.ensures.names
 
-pub returns-in-Check-clause-checked : goal.returns-in-Check-clause-checked
-returns-in-Check-clause-checked g c = λ policy _.
+pub returns-in-Check-clause-without_site : goal.returns-in-Check-clause-without_site
+returns-in-Check-clause-without_site g c = λ _.
     IfOk-weaker c.check_policy.result _ _ (λ status h.
     subst (λ (u : Task). IfSome (g.I.Inputs.told c.args.inputs.now) (λ lib. (world : World) → Puts (Follows u lib.texts world) (g.O.Sink.told c.args.out.now) (g.O.Sink.told c.check_policy.new.out) status)) (sym c.in-Check.is)
     (always_puts (g.I.Inputs.told c.args.inputs.now) (λ texts. Checks c.in-Check.policy texts) (λ texts. Follows (Check c.in-Check.policy) texts) (λ texts w d p. p) (g.O.Sink.told c.args.out.now) (g.O.Sink.told c.check_policy.new.out) status h)) c.check_policy.ensures.exact
@@ -71,3 +71,12 @@ returns-in-Show-clause-failed g c = IfOk-weaker c.show_policy.result _ _ (λ sta
 
 pub returns-in-Check-clause-failed : goal.returns-in-Check-clause-failed
 returns-in-Check-clause-failed g c = IfOk-weaker c.check_policy.result _ _ (λ status le two. absurd (omega arith)) c.check_policy.ensures.range
+
+pub returns-in-Show-clause-without_site : goal.returns-in-Show-clause-without_site
+returns-in-Show-clause-without_site g c = λ _.
+    IfOk-weaker c.show_policy.result _ _ (λ status h.
+    subst (λ (u : Task). IfSome (g.I.Inputs.told c.args.inputs.now) (λ lib. (world : World) → Puts (Follows u lib.texts world) (g.O.Sink.told c.args.out.now) (g.O.Sink.told c.show_policy.new.out) status)) (sym c.in-Show.is)
+    (always_puts (g.I.Inputs.told c.args.inputs.now) (λ texts. OfSource texts c.in-Show.policy (Shows c.in-Show.policy)) (λ texts. Follows (Show c.in-Show.policy) texts) (λ texts w d p. p) (g.O.Sink.told c.args.out.now) (g.O.Sink.told c.show_policy.new.out) status h)) c.show_policy.ensures.exact
+
+pub returns-in-Run-clause-without_site : goal.returns-in-Run-clause-without_site
+returns-in-Run-clause-without_site g c = λ no_run. absurd (no_run c.in-Run.policy c.in-Run.is)
