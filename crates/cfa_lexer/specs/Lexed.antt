@@ -5,7 +5,7 @@ use Rattle.std.specs.Str.Lossy.{utf8_valid_len}
 use Rattle.cfa_base.specs.declared.places.Place.{Place}
 use Rattle.cfa_base.specs.Tokens as tokens
 use Rattle.cfa_base.specs.Lexing.{Fault, bad_byte, unclosed_text, FirstFault, place_after, first_place}
-use Rattle.cfa_lexer.specs.declared.lexing.Token.{Token}
+use Rattle.cfa_lexer.specs.declared.tokens.Token.{Token}
 use Rattle.cfa_lexer.specs.declared.errors.LexErr.{LexErr}
 use Rattle.cfa_lexer.specs.declared.errors.LexErr.TheVariants.{BadByte, UnclosedText, NotText, TooLong, NoMemory}
 

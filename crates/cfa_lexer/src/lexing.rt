@@ -5,20 +5,12 @@ ghost use Rattle.cfa_base.specs.Lexing.{is_newline, Lexes, FirstFault, bad_byte,
 ghost use Rattle.cfa_base.specs.declared.places.Place as declared;
 ghost use Rattle.cfa_lexer.specs.Lexed.{plain, max_len, IsText, StopsBeingText, IsFaultOf, err_of};
 
-use crate::LexErr;
 use crate::bytes::is_quote;
 use crate::fronts::{gap_len, token_len};
 use crate::placing::{first_place, place_after};
-use cfa_base::{Kind, Place};
+use crate::{LexErr, Token};
+use cfa_base::Place;
 use std::alloc::Global;
-
-/// A token of a source: its kind, its slice of the source, and the place of its first byte.
-#[derive(Clone, Copy, Debug, PartialEq, Eq)]
-pub struct Token<'a> {
-    pub kind: Kind,
-    pub text: &'a str,
-    pub place: Place,
-}
 
 /// The place after the last byte of a source: its line is one more than the newlines before it, and its column one more
 /// than the bytes since the last newline.

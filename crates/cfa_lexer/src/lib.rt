@@ -9,8 +9,10 @@ mod lexing;
 mod placing;
 #[cfg(test)]
 mod tests;
+mod tokens;
 
 pub use cfa_base::Kind;
 pub use errors::LexErr;
 pub use laws::one_lexing;
-pub use lexing::{Token, end_place, lex};
+pub use lexing::{end_place, lex};
+pub use tokens::Token;

@@ -4,7 +4,6 @@ pub mod Limits
 pub mod PolicyRest
 pub mod PolicyRuns
 pub mod Readings
-pub mod Spelled
 pub mod Stops
 pub mod TextBytes
 pub mod Uniqueness

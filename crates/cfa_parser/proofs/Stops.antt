@@ -1,14 +1,12 @@
 -- Where the code stops, the reading stops.
-use Rattle.std.proofs.Common.{◌≡◌, ℕ, ◌+◌, ◌<◌, List, [], ◌∷◌, ◌++◌, length, get_or, take, drop, map, Option, Some, None, IsSome, refl, ap, ◌∙◌, sym, subst, inr, arith, add-one, drop-cons, suc, zero}
-use Rattle.std.specs.Prelude.{All, IsTrue, IfOk, IsErrOf, option_map}
+use Rattle.std.proofs.Common.{◌≡◌, ℕ, ◌+◌, ◌<◌, List, [], ◌∷◌, ◌++◌, length, get_or, take, drop, map, Option, Some, None, IsSome, refl, ap, ◌∙◌, sym, subst, inr, add-one, drop-cons}
+use Rattle.std.specs.Prelude.{IfOk, IsErrOf, option_map}
 use Rattle.std.specs.Option.{ok_or}
 use Rattle.std.proofs.lemmas.Bool.{false≢true}
-use Rattle.std.proofs.lemmas.List.Elements.{All-head, All-tail}
 use Rattle.std.proofs.lemmas.List.{take_more, take-append-drop, map-append}
 use Rattle.cfa_base.specs.declared.places.Place.{Place}
-use Rattle.cfa_base.specs.Lexing.{spells}
 use Rattle.cfa_base.specs.Tokens as tokens
-use Rattle.cfa_lexer.specs.declared.lexing.Token.{Token}
+use Rattle.cfa_lexer.specs.declared.tokens.Token.{Token}
 use Rattle.cfa_lexer.specs.Lexed.{plain}
 use Rattle.cfa_tree.specs.declared.blocks.Policy.{Policy}
 use Rattle.cfa_tree.specs.Plain.{plain_policy}
@@ -22,7 +20,7 @@ use Rattle.cfa_parser.specs.declared.reader.State.{State}
 use Rattle.cfa_parser.specs.declared.reader.State.TheVariants.{BetweenBlocks, InHeading, InBundle, InBody}
 use Rattle.cfa_parser.specs.Machine.{Machine, start, step, run, whole, whole_at}
 use Rattle.cfa_parser.specs.Seen.{seen_heading_state, seen_state}
-use Rattle.cfa_parser.specs.Reading.{IsSpelled, UnexpectedAt}
+use Rattle.cfa_parser.specs.Reading.{UnexpectedAt}
 use Rattle.cfa_parser.specs.Refused.{Refused, StopsAtToken}
 use Rattle.cfa_parser.proofs.Limits.{run_beyond}
 use Rattle.cfa_parser.proofs.Readings.{run_append, run_begins, stop_ends, whole_reads, unended}
@@ -33,11 +31,6 @@ parted ts i d t below is =
     let rest : drop i ts ≡ t ∷ drop (i + 1) ts = rw (add-one, drop-cons ts i d, ← is) refl in
     let whole : ts ≡ take i ts ++ t ∷ drop (i + 1) ts = sym (take-append-drop i ts) ∙ ap (λ z. take i ts ++ z) rest in
     ap (map plain) whole ∙ map-append plain (take i ts) (t ∷ drop (i + 1) ts)
-
-pub spelled_at : (ts : List Token) (i : ℕ) (d t : Token) → i < length ts → t ≡ get_or ts i d → All IsSpelled (map plain ts) → IsTrue (spells t.kind t.text.now)
-spelled_at (u ∷ ts) zero d t below is all = subst (λ z. IsSpelled (plain z)) (sym is) (All-head IsSpelled (plain u) (map plain ts) all)
-spelled_at (u ∷ ts) (suc i) d t below is all = spelled_at ts i d t (omega arith) is (All-tail IsSpelled (plain u) (map plain ts) all)
-spelled_at [] i d t below is all = absurd (omega (arith, below))
 
 pub turn : (ts : List Token) (i : ℕ) (d t : Token) (m next : Machine) → i < length ts → t ≡ get_or ts i d → run depth_limit (Some start) (map plain (take i ts)) ≡ Some m →
     step depth_limit m (plain t) ≡ Some next → run depth_limit (Some start) (map plain (take (i + 1) ts)) ≡ Some next

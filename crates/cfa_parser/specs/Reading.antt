@@ -1,16 +1,11 @@
 -- Where the reading of tokens stops: at the first token with which no policy begins, whatever follows it and however deep
 -- it is; at the end of tokens that a policy begins with, but that are none; or, before these, at the first token with
 -- which policies begin, but none within the limit on levels, which is a token that opens a level.
-use Rattle.std.specs.Prelude.{◌≡◌, ◌⊎◌, List, [], ◌∷◌, ◌++◌, IsTrue}
+use Rattle.std.specs.Prelude.{◌≡◌, ◌⊎◌, List, [], ◌∷◌, ◌++◌}
 use Rattle.cfa_base.specs.declared.places.Place.{Place}
 use Rattle.cfa_base.specs.Tokens.{Token}
-use Rattle.cfa_base.specs.Lexing.{spells}
 use Rattle.cfa_tree.specs.Tree.{PolicyTree}
 use Rattle.cfa_tree.specs.Grammar.{depth_limit, BeginsWithin, Begins, Reads}
-
--- a token's text spells a token of its kind
-abbrev pub IsSpelled : Token → Type 0
-IsSpelled t = IsTrue (spells t.kind t.text)
 
 -- one of the tokens, with a policy that begins with those before it
 pub record BehindBeginning (tokens : List Token) (place : Place) : Type 0 where

@@ -1,6 +1,5 @@
 // The reading of bundles and bodies behind their brace, token by token.
-ghost use Rattle.std.specs.Prelude.{◌≡◌, ◌++◌, ◌∷◌, [], Some, None, IfOk, IfErr, IsTrue, map};
-ghost use Rattle.cfa_base.specs.Lexing.{spells};
+ghost use Rattle.std.specs.Prelude.{◌≡◌, ◌++◌, ◌∷◌, [], Some, None, IfOk, IfErr, map};
 ghost use Rattle.cfa_tree.specs.Grammar.{unlimited, depth_limit};
 ghost use Rattle.cfa_tree.specs.Plain.{plain_attribute, plain_section, plain_value};
 ghost use Rattle.cfa_parser.specs.Machine.{closed_section, section_step, within, in_section_step, bundle_step, body_step, body_value_next, between_promises, between_attributes, has_word, has_section_word, no_section, has_body_name};
@@ -66,7 +65,6 @@ fn stay_in_section(
     state: SectionState,
     token: &Token<'_>,
 ) -> Result<BundleProgress, ParseErr>
-    requires { IsTrue (spells token.now.kind token.now.text.now) }
     ensures ok { IfOk result
         (λ b. within (map plain_section sections.items) (section_step depth_limit (seen_open_section section) (seen_section_state state) token.now.kind token.now.text.now token.now.place) ≡ Some (seen_bundle_progress b)) }
     ensures refused { IfErr result
@@ -86,7 +84,6 @@ fn take_between_promises(
     section: OpenSection,
     token: &Token<'_>,
 ) -> Result<BundleProgress, ParseErr>
-    requires { IsTrue (spells token.now.kind token.now.text.now) }
     ensures ok { IfOk result
         (λ b. in_section_step depth_limit (map plain_section sections.items) (seen_open_section section) between_promises token.now.kind token.now.text.now token.now.place ≡ Some (seen_bundle_progress b)) }
     ensures refused { IfErr result
@@ -113,7 +110,6 @@ fn take_behind_word(
     place: Place,
     token: &Token<'_>,
 ) -> Result<BundleProgress, ParseErr>
-    requires { IsTrue (spells token.now.kind token.now.text.now) }
     ensures ok { IfOk result
         (λ b. in_section_step depth_limit (map plain_section sections.items) (seen_open_section section) (has_word name place) token.now.kind token.now.text.now token.now.place ≡ Some (seen_bundle_progress b)) }
     ensures refused { IfErr result
@@ -145,7 +141,6 @@ fn take_in_open_section(
     state: SectionState,
     token: &Token<'_>,
 ) -> Result<BundleProgress, ParseErr>
-    requires { IsTrue (spells token.now.kind token.now.text.now) }
     ensures ok { IfOk result
         (λ b. in_section_step depth_limit (map plain_section sections.items) (seen_open_section section) (seen_section_state state) token.now.kind token.now.text.now token.now.place ≡ Some (seen_bundle_progress b)) }
     ensures refused { IfErr result
@@ -214,7 +209,6 @@ pub fn take_in_bundle(
     state: BundleState,
     token: &Token<'_>,
 ) -> Result<BundleProgress, ParseErr>
-    requires { IsTrue (spells token.now.kind token.now.text.now) }
     ensures ok { IfOk result
         (λ b. bundle_step depth_limit (map plain_section sections.items) (seen_bundle_state state) token.now.kind token.now.text.now token.now.place ≡ Some (seen_bundle_progress b)) }
     ensures refused { IfErr result
@@ -310,7 +304,6 @@ fn take_body_value(
     value: ValueState,
     token: &Token<'_>,
 ) -> Result<BodyProgress, ParseErr>
-    requires { IsTrue (spells token.now.kind token.now.text.now) }
     ensures ok { IfOk result
         (λ b. body_step depth_limit (map plain_attribute attributes.items) (seen_body_state (BodyState.InBodyValue name place value)) token.now.kind token.now.text.now token.now.place ≡ Some (seen_body_progress b)) }
     ensures refused { IfErr result
@@ -328,7 +321,6 @@ pub fn take_in_body(
     state: BodyState,
     token: &Token<'_>,
 ) -> Result<BodyProgress, ParseErr>
-    requires { IsTrue (spells token.now.kind token.now.text.now) }
     ensures ok { IfOk result
         (λ b. body_step depth_limit (map plain_attribute attributes.items) (seen_body_state state) token.now.kind token.now.text.now token.now.place ≡ Some (seen_body_progress b)) }
     ensures refused { IfErr result

@@ -1,12 +1,11 @@
 // The reading of a policy, token by token.
-ghost use Rattle.std.specs.Prelude.{◌≡◌, ◌++◌, ◌∷◌, [], Some, IfOk, IfErr, IsTrue, IsErrOf, All, map, option_map};
-ghost use Rattle.cfa_base.specs.Lexing.{spells};
+ghost use Rattle.std.specs.Prelude.{◌≡◌, ◌++◌, ◌∷◌, [], Some, IfOk, IfErr, IsErrOf, map, option_map};
 ghost use Rattle.cfa_base.specs.declared.places.Place as declared;
 ghost use Rattle.cfa_lexer.specs.Lexed.{plain};
 ghost use Rattle.cfa_tree.specs.Grammar.{unlimited, depth_limit, ReadsWithin};
 ghost use Rattle.cfa_tree.specs.Plain.{plain_attribute, plain_block, plain_policy, plain_section};
 ghost use Rattle.cfa_parser.specs.Machine.{start, machine, closed_bundle, closed_body, block_opened, bundle_next, body_next, within_blocks, heading_step, bundle_step, body_step, state_step, between_blocks, step, run, whole};
-ghost use Rattle.cfa_parser.specs.Reading.{UnexpectedAt, TooDeepAt, IsSpelled};
+ghost use Rattle.cfa_parser.specs.Reading.{UnexpectedAt, TooDeepAt};
 ghost use Rattle.cfa_parser.specs.Refused.{Refused, OnlyMemory, StopsAtToken};
 ghost use Rattle.cfa_parser.specs.Seen.{seen_heading, seen_heading_state, seen_bundle_state, seen_body_state, seen_state, seen_reader, seen_block_word};
 
@@ -141,7 +140,6 @@ fn take_bundle_token(
     state: BundleState,
     token: &Token<'_>,
 ) -> Result<Reader, ParseErr>
-    requires { IsTrue (spells token.now.kind token.now.text.now) }
     ensures ok { IfOk result
         (λ r. bundle_next (map plain_block blocks.items) (seen_heading heading) (bundle_step depth_limit (map plain_section sections.items) (seen_bundle_state state) token.now.kind token.now.text.now token.now.place) ≡ Some (seen_reader r)) }
     ensures refused { IfErr result
@@ -168,7 +166,6 @@ fn take_body_token(
     state: BodyState,
     token: &Token<'_>,
 ) -> Result<Reader, ParseErr>
-    requires { IsTrue (spells token.now.kind token.now.text.now) }
     ensures ok { IfOk result
         (λ r. body_next (map plain_block blocks.items) (seen_heading heading) (body_step depth_limit (map plain_attribute attributes.items) (seen_body_state state) token.now.kind token.now.text.now token.now.place) ≡ Some (seen_reader r)) }
     ensures refused { IfErr result
@@ -189,7 +186,6 @@ fn take_body_token(
 
 // What one more token makes of a policy.
 fn take(alloc: Global, reader: Reader, token: &Token<'_>) -> Result<Reader, ParseErr>
-    requires { IsTrue (spells token.now.kind token.now.text.now) }
     ensures ok { IfOk result (λ r. step depth_limit (seen_reader reader) (plain token.now) ≡ Some (seen_reader r)) }
     ensures refused { IfErr result
         (Refused token.now.place (step depth_limit (seen_reader reader) (plain token.now)) (step unlimited (seen_reader reader) (plain token.now))) }
@@ -221,7 +217,6 @@ impl Reader {
 
 // What all the tokens make of nothing, or the first token that is refused.
 fn take_all(alloc: Global, tokens: &[Token<'_>]) -> Result<Reader, ParseErr>
-    requires { All IsSpelled (map plain tokens.now) }
     ensures ok { IfOk result (λ r. run depth_limit (Some start) (map plain tokens.now) ≡ Some (seen_reader r)) }
     ensures refused { IfErr result (StopsAtToken (map plain tokens.now)) }
 {
@@ -248,8 +243,6 @@ fn whole_policy(reader: Reader) -> Option<Policy>
 /// The policy that the tokens of a source read as, which ends at `end`. An `Err` other than want of memory names the
 /// first token with which no policy begins, or the first that opens a 17th level, whichever stands first.
 pub fn parse(alloc: Global, tokens: &[Token<'_>], end: Place) -> Result<Policy, ParseErr>
-    requires { All IsSpelled (map plain tokens.now) }
-
     // The tokens read as this policy, places included.
     ensures reads { IfOk result (λ policy. ReadsWithin depth_limit (map plain tokens.now) (plain_policy policy)) }
     ensures unexpected { (place : declared.Place) → IsErrOf result (ParseErr.Unexpected place) → UnexpectedAt (map plain tokens.now) end place }

@@ -1,6 +1,5 @@
 // The reading of a section, token by token: its guards and promises.
-ghost use Rattle.std.specs.Prelude.{◌≡◌, [], Some, None, IfOk, IfErr, IsTrue, option_map};
-ghost use Rattle.cfa_base.specs.Lexing.{spells};
+ghost use Rattle.std.specs.Prelude.{◌≡◌, [], Some, None, IfOk, IfErr, option_map};
 ghost use Rattle.cfa_tree.specs.Grammar.{unlimited, depth_limit};
 ghost use Rattle.cfa_tree.specs.Plain.{plain_expr, plain_value};
 ghost use Rattle.cfa_tree.specs.Guards.{guard_step};
@@ -257,7 +256,6 @@ fn take_promisee_token(
     value: ValueState,
     token: &Token<'_>,
 ) -> Result<StandingSection, ParseErr>
-    requires { IsTrue (spells token.now.kind token.now.text.now) }
     ensures ok { IfOk result
         (λ s. section_step depth_limit (seen_open_section section) (seen_section_state (SectionState.InPromisee promiser place value)) token.now.kind token.now.text.now token.now.place ≡ Some (seen_section s)) }
     ensures refused { IfErr result
@@ -328,7 +326,6 @@ fn take_value_token(
     value: ValueState,
     token: &Token<'_>,
 ) -> Result<StandingSection, ParseErr>
-    requires { IsTrue (spells token.now.kind token.now.text.now) }
     ensures ok { IfOk result
         (λ s. section_step depth_limit (seen_open_section section) (seen_section_state (SectionState.InValue promise name place value)) token.now.kind token.now.text.now token.now.place ≡ Some (seen_section s)) }
     ensures refused { IfErr result
@@ -395,7 +392,6 @@ fn take_between(
     section: OpenSection,
     token: &Token<'_>,
 ) -> Result<StandingSection, ParseErr>
-    requires { IsTrue (spells token.now.kind token.now.text.now) }
     ensures ok { IfOk result
         (λ s. between_next depth_limit (seen_open_section section) token.now.kind token.now.text.now token.now.place ≡ Some (seen_section s)) }
     ensures refused { IfErr result
@@ -430,7 +426,6 @@ pub fn take_in_section(
     state: SectionState,
     token: &Token<'_>,
 ) -> Result<StandingSection, ParseErr>
-    requires { IsTrue (spells token.now.kind token.now.text.now) }
     ensures ok { IfOk result
         (λ s. section_step depth_limit (seen_open_section section) (seen_section_state state) token.now.kind token.now.text.now token.now.place ≡ Some (seen_section s)) }
     ensures refused { IfErr result

@@ -1,7 +1,7 @@
 // Tests of the reading: texts that read, and where others stop.
 use super::*;
-use cfa_base::Place;
-use cfa_lexer::{end_place, lex};
+use cfa_base::{Kind, Place};
+use cfa_lexer::{Token, end_place, lex};
 use std::alloc::Global;
 use std::process::Abort;
 
@@ -23,7 +23,6 @@ fn stands_at(place: Place, line: u32, col: u32) -> bool {
     place.file == 0 && place.line == line && place.col == col
 }
 
-#[tactic(auto, using(crate::proofs::Spelled::lexes_spelled))]
 fn check(rt: &impl Abort, alloc: Global, row: &Row) {
     let source = row.source.as_bytes();
     assert!(rt; source.len() < 1000, "a short source");
@@ -141,5 +140,39 @@ fn reads_and_stops(rt: HostRuntime) {
     ];
     for row in &rows {
         check(&rt, rt.alloc(), row);
+    }
+}
+
+fn at(col: u32) -> Place {
+    Place {
+        file: 0,
+        line: 1,
+        col,
+    }
+}
+
+// Tokens may be made by hand, where their texts spell them.
+#[test]
+fn reads_tokens_made_by_hand(rt: HostRuntime) {
+    let tokens = [
+        Token {
+            kind: Kind::Word,
+            text: "body",
+            place: at(1),
+        },
+        Token {
+            kind: Kind::Word,
+            text: "file",
+            place: at(6),
+        },
+        Token {
+            kind: Kind::Text,
+            text: "'control'",
+            place: at(11),
+        },
+    ];
+    match parse(rt.alloc(), &tokens, at(20)) {
+        Err(ParseErr::Unexpected(place)) => assert_eq!(&rt; place, at(11)),
+        _ => assert!(&rt; false, "a text is no block's name"),
     }
 }

@@ -1,6 +1,5 @@
 // The reading of values, token by token.
-ghost use Rattle.std.specs.Prelude.{◌≡◌, ◌∷◌, Some, None, IfOk, IfErr, IsTrue, option_map};
-ghost use Rattle.cfa_base.specs.Lexing.{spells};
+ghost use Rattle.std.specs.Prelude.{◌≡◌, ◌∷◌, Some, None, IfOk, IfErr, option_map};
 ghost use Rattle.cfa_tree.specs.Grammar.{unlimited, depth_limit};
 ghost use Rattle.cfa_tree.specs.Plain.{plain_value};
 ghost use Rattle.cfa_parser.specs.Refused.{Refused, OnlyMemory};
@@ -144,7 +143,6 @@ fn take_wanted(
     calls: Vec<OpenCall>,
     token: &Token<'_>,
 ) -> Result<ValueState, ParseErr>
-    requires { IsTrue (spells token.now.kind token.now.text.now) }
     ensures ok { IfOk result
         (λ s. wants_step (option_map seen_list inside) (seen_calls calls.items) token.now.kind token.now.text.now token.now.place ≡ Some (seen_value s)) }
     ensures refused { IfErr result
@@ -274,7 +272,6 @@ fn take_behind_paren(
     calls: Vec<OpenCall>,
     token: &Token<'_>,
 ) -> Result<ValueState, ParseErr>
-    requires { IsTrue (spells token.now.kind token.now.text.now) }
     ensures ok { IfOk result
         (λ s. paren_step (seen_call call) (seen_calls calls.items) token.now.kind token.now.text.now token.now.place ≡ Some (seen_value s)) }
     ensures refused { IfErr result
@@ -304,7 +301,6 @@ pub fn take_in_value(
     value: ValueState,
     token: &Token<'_>,
 ) -> Result<ValueProgress, ParseErr>
-    requires { IsTrue (spells token.now.kind token.now.text.now) }
     ensures ok { IfOk result
         (λ s. value_step depth_limit (seen_value value) token.now.kind token.now.text.now token.now.place ≡ Some (seen_value_progress s)) }
     ensures refused { IfErr result
