@@ -10,9 +10,10 @@ use Rattle.cfa_tree.specs.Tree.{value_trees}
 use Rattle.cfa_tree.proofs.Rows.{plain_value-Call}
 use Rattle.cfa_vars.specs.Scopes.{InScope}
 use Rattle.cfa_vars.specs.Expansion.{Chosen}
-use Rattle.cfa_functions.specs.declared.naming.Function.{Function}
+use Rattle.cfa_kinds.specs.declared.functions.Function.{Function}
 use Rattle.cfa_functions.specs.Functions.{Argument}
-use Rattle.cfa_functions.specs.Calls.{function_named, takes_list, argument_at, nested, text_given, arguments_given}
+use Rattle.cfa_kinds.specs.Functions.{function_named, takes_list}
+use Rattle.cfa_functions.specs.Calls.{argument_at, nested, text_given, arguments_given}
 
 module _ (scopes : InScope) (choice : Chosen) where
   -- what the values from a place on give

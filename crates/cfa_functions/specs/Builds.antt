@@ -6,12 +6,13 @@ use Rattle.cfa_vars.specs.Scopes.{InScope}
 use Rattle.cfa_vars.specs.Expansion.{Chosen}
 use Rattle.cfa_functions.specs.declared.calling.CallErr.{CallErr}
 use Rattle.cfa_functions.specs.declared.calling.CallErr.TheVariants.{PatternTooBig, NoMemory}
-use Rattle.cfa_functions.specs.declared.naming.ClassFunction.{ClassFunction}
-use Rattle.cfa_functions.specs.declared.naming.ClassFunction.TheVariants.{Strcmp, Regcmp, IsVariable}
-use Rattle.cfa_functions.specs.declared.naming.Function.{Function}
-use Rattle.cfa_functions.specs.declared.naming.Function.TheVariants.{OfText, OfClass}
+use Rattle.cfa_kinds.specs.declared.functions.ClassFunction.{ClassFunction}
+use Rattle.cfa_kinds.specs.declared.functions.ClassFunction.TheVariants.{Strcmp, Regcmp, IsVariable}
+use Rattle.cfa_kinds.specs.declared.functions.Function.{Function}
+use Rattle.cfa_kinds.specs.declared.functions.Function.TheVariants.{OfText, OfClass}
 use Rattle.cfa_functions.specs.Functions.{Argument, two_texts}
-use Rattle.cfa_functions.specs.Calls.{function_named, stopped, arguments_given}
+use Rattle.cfa_kinds.specs.Functions.{function_named}
+use Rattle.cfa_functions.specs.Calls.{stopped, arguments_given}
 
 abbrev pub class_pattern : ClassFunction → List Argument → Option (List ℕ)
 class_pattern Strcmp arguments = None

@@ -2,9 +2,8 @@
 -- call of a text function its answer, and where a list is wanted a list reference, or a text that names a list
 -- variable, gives its items. An unresolved argument makes the call unresolved; failing that, one that is too long makes
 -- it too long.
-use Rattle.std.specs.Prelude.{ℕ, ◌+◌, Bool, true, false, ◌==◌, List, [], ◌∷◌, ◌++◌, codes, Option, Some, None, unwrap_or, if◌then◌else◌}
+use Rattle.std.specs.Prelude.{ℕ, ◌+◌, Bool, true, false, List, [], ◌∷◌, ◌++◌, codes, Option, Some, None, unwrap_or, if◌then◌else◌}
 use Rattle.std.specs.List.{list_any}
-use Rattle.std.specs.Str.{bytes_eq}
 use Rattle.cfa_tree.specs.Tree.{ValueTree, text, word, reference, list_reference, list, call, ValueTrees, no_value, more_values}
 use Rattle.cfa_vars.specs.declared.scoping.Datum.{Datum}
 use Rattle.cfa_vars.specs.declared.scoping.Datum.TheVariants.{Text as text_of, List as list_of}
@@ -17,11 +16,9 @@ use Rattle.cfa_functions.specs.declared.answering.Answer.{Answer}
 use Rattle.cfa_functions.specs.declared.answering.Answer.TheVariants.{Text, Class, Unresolved, TooLong}
 use Rattle.cfa_functions.specs.declared.reading.Given.{Given}
 use Rattle.cfa_functions.specs.declared.reading.Given.TheVariants.{Text as given_text, List as given_list, Unresolved as given_unresolved, TooLong as given_too_long}
-use Rattle.cfa_functions.specs.declared.naming.TextFunction.{TextFunction}
-use Rattle.cfa_functions.specs.declared.naming.TextFunction.TheVariants.{Canonify, Concat, Join, Length, Nth}
-use Rattle.cfa_functions.specs.declared.naming.ClassFunction.TheVariants.{Strcmp, Regcmp, IsVariable}
-use Rattle.cfa_functions.specs.declared.naming.Function.{Function}
-use Rattle.cfa_functions.specs.declared.naming.Function.TheVariants.{OfText, OfClass}
+use Rattle.cfa_kinds.specs.declared.functions.Function.{Function}
+use Rattle.cfa_kinds.specs.declared.functions.Function.TheVariants.{OfText, OfClass}
+use Rattle.cfa_kinds.specs.Functions.{function_named, takes_list}
 use Rattle.cfa_functions.specs.Functions.{Argument, a_text, a_list, unresolved, too_long, text_made, made}
 
 -- what an argument that was read gives
@@ -30,29 +27,6 @@ argument_of (given_text content) = a_text content
 argument_of (given_list items) = a_list items.now
 argument_of given_unresolved = unresolved
 argument_of given_too_long = too_long
-
-abbrev pub function_named : List ℕ → Option Function
-function_named name =
-    if bytes_eq name (codes "canonify") then Some (OfText Canonify) else (
-    if bytes_eq name (codes "concat") then Some (OfText Concat) else (
-    if bytes_eq name (codes "join") then Some (OfText Join) else (
-    if bytes_eq name (codes "length") then Some (OfText Length) else (
-    if bytes_eq name (codes "nth") then Some (OfText Nth) else (
-    if bytes_eq name (codes "strcmp") then Some (OfClass Strcmp) else (
-    if bytes_eq name (codes "regcmp") then Some (OfClass Regcmp) else (
-    if bytes_eq name (codes "isvariable") then Some (OfClass IsVariable) else None)))))))
-
-abbrev pub text_takes_list : TextFunction → ℕ → Bool
-text_takes_list Canonify place = false
-text_takes_list Concat place = false
-text_takes_list Join place = place == 1
-text_takes_list Length place = place == 0
-text_takes_list Nth place = place == 0
-
--- whether a function takes a list at a place, from 0
-abbrev pub takes_list : Function → ℕ → Bool
-takes_list (OfText f) place = text_takes_list f place
-takes_list (OfClass f) place = false
 
 abbrev pub is_unresolved : Argument → Bool
 is_unresolved unresolved = true

@@ -11,12 +11,12 @@ use Rattle.cfa_base.specs.Lexing.{is_word_byte}
 use Rattle.cfa_vars.specs.Scopes.{InScope, look}
 use Rattle.cfa_functions.specs.declared.answering.Answer.{Answer}
 use Rattle.cfa_functions.specs.declared.answering.Answer.TheVariants.{Text, Class, Unresolved, TooLong}
-use Rattle.cfa_functions.specs.declared.naming.TextFunction.{TextFunction}
-use Rattle.cfa_functions.specs.declared.naming.TextFunction.TheVariants.{Canonify, Concat, Join, Length, Nth}
-use Rattle.cfa_functions.specs.declared.naming.ClassFunction.{ClassFunction}
-use Rattle.cfa_functions.specs.declared.naming.ClassFunction.TheVariants.{Strcmp, Regcmp, IsVariable}
-use Rattle.cfa_functions.specs.declared.naming.Function.{Function}
-use Rattle.cfa_functions.specs.declared.naming.Function.TheVariants.{OfText, OfClass}
+use Rattle.cfa_kinds.specs.declared.functions.TextFunction.{TextFunction}
+use Rattle.cfa_kinds.specs.declared.functions.TextFunction.TheVariants.{Canonify, Concat, Join, Length, Nth}
+use Rattle.cfa_kinds.specs.declared.functions.ClassFunction.{ClassFunction}
+use Rattle.cfa_kinds.specs.declared.functions.ClassFunction.TheVariants.{Strcmp, Regcmp, IsVariable}
+use Rattle.cfa_kinds.specs.declared.functions.Function.{Function}
+use Rattle.cfa_kinds.specs.declared.functions.Function.TheVariants.{OfText, OfClass}
 
 -- what an argument gives
 pub data Argument : Type 0 where

@@ -9,15 +9,15 @@ ghost use Rattle.cfa_functions.specs.Functions.{class_answer, matched, class_mad
 ghost use Rattle.cfa_functions.specs.Calls.{argument_of, settled, answer_of};
 ghost use Rattle.cfa_functions.specs.Builds.{pattern_in, pattern_of_call, IfTooBig};
 ghost use Rattle.cfa_functions.specs.declared.calling.CallErr.TheVariants.{NoMemory};
-ghost use Rattle.cfa_functions.specs.declared.naming.ClassFunction.TheVariants.{Strcmp, Regcmp, IsVariable};
-ghost use Rattle.cfa_functions.specs.declared.naming.Function.TheVariants.{OfClass};
+ghost use Rattle.cfa_kinds.specs.declared.functions.ClassFunction.TheVariants.{Strcmp, Regcmp, IsVariable};
+ghost use Rattle.cfa_kinds.specs.declared.functions.Function.TheVariants.{OfClass};
 
 use crate::answering::Answer;
 use crate::making::{one_text, two_texts};
-use crate::naming::{ClassFunction, Function, function_named};
 use crate::reading::{Given, answer_text, arguments_given, stopped};
 use cfa_base as base;
 use cfa_base::{How, Name, PatternErr, Patterns};
+use cfa_kinds::{ClassFunction, Function, function_named};
 use cfa_tree::Value;
 use cfa_vars::{Scopes, look_up};
 use std::alloc::{AllocError, AllocFailed, Global};

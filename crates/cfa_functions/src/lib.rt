@@ -4,7 +4,6 @@
 mod answering;
 mod calling;
 mod making;
-mod naming;
 mod reading;
 #[cfg(test)]
 mod tests;

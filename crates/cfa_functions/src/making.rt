@@ -6,12 +6,12 @@ ghost use Rattle.std.specs.Str.{bytes_eq, all_ascii_digits};
 ghost use Rattle.cfa_vars.specs.Scopes.{in_scope, look};
 ghost use Rattle.cfa_functions.specs.Functions.{as_text, as_list, one_text, one_list, two_texts, text_and_list, list_and_text, text_in, canonical_byte, canonified, joined, is_number, number_of, item_at, text_made};
 ghost use Rattle.cfa_functions.specs.Calls.{argument_of};
-ghost use Rattle.cfa_functions.specs.declared.naming.TextFunction.TheVariants.{Nth};
+ghost use Rattle.cfa_kinds.specs.declared.functions.TextFunction.TheVariants.{Nth};
 
 use crate::answering::{Answer, limited};
-use crate::naming::TextFunction;
 use crate::reading::Given;
 use cfa_base::{Name, Names, NoMemory, is_word_byte};
+use cfa_kinds::TextFunction;
 use std::alloc::Global;
 
 fn as_text<'g>(argument: &'g Given<'_>) -> Option<&'g Name>

@@ -6,12 +6,13 @@ ghost use Rattle.cfa_tree.specs.Tree.{value_trees};
 ghost use Rattle.cfa_vars.specs.Scopes.{in_scope, datum_of, look};
 ghost use Rattle.cfa_vars.specs.Expansion.{expanded};
 ghost use Rattle.cfa_functions.specs.Functions.{text_made};
-ghost use Rattle.cfa_functions.specs.Calls.{argument_of, takes_list, is_unresolved, is_too_long, stopped, settled, expanded_argument, answered_argument, items_of, list_named, referred_list, list_argument, argument_at, nested, text_given, arguments_given, function_named};
+ghost use Rattle.cfa_functions.specs.Calls.{argument_of, is_unresolved, is_too_long, stopped, settled, expanded_argument, answered_argument, items_of, list_named, referred_list, list_argument, argument_at, nested, text_given, arguments_given};
+ghost use Rattle.cfa_kinds.specs.Functions.{function_named, takes_list};
 
 use crate::answering::Answer;
 use crate::making::make_text;
-use crate::naming::{Function, TextFunction, function_named};
 use cfa_base::{Name, Names, NoMemory};
+use cfa_kinds::{Function, TextFunction, function_named};
 use cfa_tree::Value;
 use cfa_vars::{Expanded, Scopes, Variable, expand, list_reference, look_up};
 use std::alloc::Global;
@@ -174,19 +175,6 @@ fn list_argument<'a>(value: &Value, argument: Given<'a>, scopes: &Scopes<'a>) ->
     }
 }
 
-fn takes_list(function: Function, place: usize) -> bool
-    ensures { result ≡ takes_list function place }
-{
-    match function {
-        Function::OfText(TextFunction::Join) => place == 1,
-        Function::OfText(TextFunction::Length) => place == 0,
-        Function::OfText(TextFunction::Nth) => place == 0,
-        Function::OfText(TextFunction::Canonify) => false,
-        Function::OfText(TextFunction::Concat) => false,
-        Function::OfClass(_) => false,
-    }
-}
-
 // A value as the argument that a function takes at a place, where the text of the value is known.
 fn argument_at<'a>(
     function: Function,
@@ -197,7 +185,7 @@ fn argument_at<'a>(
 ) -> Given<'a>
     ensures { argument_of result ≡ argument_at (in_scope scopes.now) (takes_list function place) (plain_value value.now) (argument_of argument.entry) }
 {
-    if takes_list(function, place) {
+    if function.takes_list(place) {
         list_argument(value, argument, scopes)
     } else {
         argument

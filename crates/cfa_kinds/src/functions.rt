@@ -2,17 +2,29 @@
 ghost use Rattle.std.specs.Prelude.{◌≡◌};
 ghost use Rattle.cfa_kinds.specs.Functions.{function_named, answers_class, takes_count, takes_list};
 
-/// A function by its name.
+/// A function that answers a text.
 #[derive(Clone, Copy, Debug, PartialEq, Eq)]
-pub enum Function {
+pub enum TextFunction {
     Canonify,
     Concat,
     Join,
     Length,
     Nth,
+}
+
+/// A function that answers whether a class holds.
+#[derive(Clone, Copy, Debug, PartialEq, Eq)]
+pub enum ClassFunction {
     Strcmp,
     Regcmp,
     IsVariable,
+}
+
+/// A function, by what it answers.
+#[derive(Clone, Copy, Debug, PartialEq, Eq)]
+pub enum Function {
+    OfText(TextFunction),
+    OfClass(ClassFunction),
 }
 
 /// The function of a name. `None` also for the functions that this profile leaves out.
@@ -21,14 +33,14 @@ pub fn function_named(name: &str) -> Option<Function>
     ensures { result ≡ function_named name.now }
 {
     match name {
-        "canonify" => Some(Function::Canonify),
-        "concat" => Some(Function::Concat),
-        "join" => Some(Function::Join),
-        "length" => Some(Function::Length),
-        "nth" => Some(Function::Nth),
-        "strcmp" => Some(Function::Strcmp),
-        "regcmp" => Some(Function::Regcmp),
-        "isvariable" => Some(Function::IsVariable),
+        "canonify" => Some(Function::OfText(TextFunction::Canonify)),
+        "concat" => Some(Function::OfText(TextFunction::Concat)),
+        "join" => Some(Function::OfText(TextFunction::Join)),
+        "length" => Some(Function::OfText(TextFunction::Length)),
+        "nth" => Some(Function::OfText(TextFunction::Nth)),
+        "strcmp" => Some(Function::OfClass(ClassFunction::Strcmp)),
+        "regcmp" => Some(Function::OfClass(ClassFunction::Regcmp)),
+        "isvariable" => Some(Function::OfClass(ClassFunction::IsVariable)),
         _ => None,
     }
 }
@@ -38,10 +50,10 @@ impl Function {
     pub fn answers_class(self) -> bool
         ensures { result ≡ answers_class self }
     {
-        matches!(
-            self,
-            Function::Strcmp | Function::Regcmp | Function::IsVariable
-        )
+        match self {
+            Function::OfText(_) => false,
+            Function::OfClass(_) => true,
+        }
     }
 
     /// Whether it takes so many arguments.
@@ -49,14 +61,14 @@ impl Function {
         ensures { result ≡ takes_count self count }
     {
         match self {
-            Function::Canonify => count == 1,
-            Function::Concat => true,
-            Function::Join => count == 2,
-            Function::Length => count == 1,
-            Function::Nth => count == 2,
-            Function::Strcmp => count == 2,
-            Function::Regcmp => count == 2,
-            Function::IsVariable => count == 1,
+            Function::OfText(TextFunction::Canonify) => count == 1,
+            Function::OfText(TextFunction::Concat) => true,
+            Function::OfText(TextFunction::Join) => count == 2,
+            Function::OfText(TextFunction::Length) => count == 1,
+            Function::OfText(TextFunction::Nth) => count == 2,
+            Function::OfClass(ClassFunction::Strcmp) => count == 2,
+            Function::OfClass(ClassFunction::Regcmp) => count == 2,
+            Function::OfClass(ClassFunction::IsVariable) => count == 1,
         }
     }
 
@@ -65,14 +77,12 @@ impl Function {
         ensures { result ≡ takes_list self place }
     {
         match self {
-            Function::Join => place == 1,
-            Function::Length => place == 0,
-            Function::Nth => place == 0,
-            Function::Canonify => false,
-            Function::Concat => false,
-            Function::Strcmp => false,
-            Function::Regcmp => false,
-            Function::IsVariable => false,
+            Function::OfText(TextFunction::Join) => place == 1,
+            Function::OfText(TextFunction::Length) => place == 0,
+            Function::OfText(TextFunction::Nth) => place == 0,
+            Function::OfText(TextFunction::Canonify) => false,
+            Function::OfText(TextFunction::Concat) => false,
+            Function::OfClass(_) => false,
         }
     }
 }

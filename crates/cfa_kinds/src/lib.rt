@@ -7,7 +7,7 @@ mod functions;
 mod kinds;
 
 pub use forms::has_form;
-pub use functions::{Function, function_named};
+pub use functions::{ClassFunction, Function, TextFunction, function_named};
 pub use kinds::{
     BodyType, BundleType, Form, Kind, PromiseType, body_attribute, body_type, body_word,
     bundle_type, choices, has_promise_type, is_foreign_body_type, is_foreign_bundle_type,

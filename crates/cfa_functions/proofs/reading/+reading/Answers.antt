@@ -3,7 +3,8 @@ use Rattle.cfa_tree.specs.Plain.{plain_value}
 use Rattle.cfa_tree.specs.Tree.{value_trees}
 use Rattle.cfa_vars.specs.Scopes.{in_scope}
 use Rattle.cfa_functions.specs.Functions.{Argument}
-use Rattle.cfa_functions.specs.Calls.{argument_of, function_named, nested, arguments_given}
+use Rattle.cfa_kinds.specs.Functions.{function_named}
+use Rattle.cfa_functions.specs.Calls.{argument_of, nested, arguments_given}
 use Rattle.cfa_functions.proofs.ArgumentLemmas.{call_given}
 use Rattle.cfa_functions.proofs.reading.+reading.Goals as goal
 
