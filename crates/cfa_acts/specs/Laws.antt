@@ -1,14 +1,40 @@
--- The two laws of acts: a needed change brings about what its act asks for, and leaves what other acts asked for and have.
-use Rattle.std.specs.Prelude.{◌≡◌, IsTrue}
+-- The laws of acts: a needed change brings about what its act asks for, and leaves what other acts asked for and have
+-- unless the act disturbs them.
+use Rattle.std.specs.Prelude.{◌≡◌, ◌↔◌, Bool, true, false, IsTrue}
 use Rattle.cfa_outside.specs.declared.worlds.World.{World}
 use Rattle.cfa_outside.specs.declared.sites.Change.{Change}
-use Rattle.cfa_outside.specs.Sites.{after_change}
+use Rattle.cfa_outside.specs.Worlds.{HasParents}
+use Rattle.cfa_outside.specs.Sites.{after_change, fits}
 use Rattle.cfa_acts.specs.declared.acts.Act.{Act}
-use Rattle.cfa_acts.specs.declared.acts.Decision.TheVariants.{Needs}
+use Rattle.cfa_acts.specs.declared.acts.Act.TheVariants.{Restart}
+use Rattle.cfa_acts.specs.declared.acts.Decision.TheVariants.{Kept, Needs}
 use Rattle.cfa_acts.specs.Acts.{post, decision}
+use Rattle.cfa_acts.specs.Disturbs.{disturbs}
+
+-- a restart is asked for anew each time
+abbrev pub is_restart : Act → Bool
+is_restart (Restart _) = true
+is_restart _ = false
+
+-- an act is kept exactly where what it asks for holds
+abbrev pub KeptWherePostHolds : Type 0
+KeptWherePostHolds =
+    (act : Act) (world : World) → (decision act world ≡ Kept) ↔ IsTrue (post act world)
+
+abbrev pub NeededFits : Type 0
+NeededFits =
+    (act : Act) (world : World) (change : Change) →
+    decision act world ≡ Needs change → IsTrue (fits change world)
 
 abbrev pub NeededMakesPost : Type 0
-NeededMakesPost = (act : Act) (world : World) (change : Change) → decision act world ≡ Needs change → IsTrue (post act (after_change change world))
+NeededMakesPost =
+    (act : Act) (world : World) (change : Change) →
+    is_restart act ≡ false → decision act world ≡ Needs change →
+    IsTrue (post act (after_change change world))
 
 abbrev pub NeededKeepsPost : Type 0
-NeededKeepsPost = (held other : Act) (world : World) (change : Change) → IsTrue (post held world) → decision other world ≡ Needs change → IsTrue (post held (after_change change world))
+NeededKeepsPost =
+    (held later : Act) (world : World) (change : Change) →
+    HasParents world.nodes → IsTrue (post held world) →
+    decision later world ≡ Needs change → disturbs later held ≡ false →
+    IsTrue (post held (after_change change world))

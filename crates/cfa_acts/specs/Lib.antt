@@ -1,2 +1,6 @@
 pub mod Acts
+pub mod Decided
+pub mod Disturbs
 pub mod Laws
+pub mod Reasons
+pub mod Seeing

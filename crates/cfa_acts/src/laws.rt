@@ -1,12 +1,22 @@
 // The laws of acts, each the contract of a function that does nothing.
-ghost use Rattle.cfa_acts.specs.Laws.{NeededMakesPost, NeededKeepsPost};
+ghost use Rattle.cfa_acts.specs.Laws.{KeptWherePostHolds, NeededFits, NeededMakesPost, NeededKeepsPost};
 
-/// The change that an act needs makes its post true.
+/// An act is kept exactly where its post holds.
+pub fn kept_where_post_holds()
+    ensures { KeptWherePostHolds }
+{}
+
+/// The change that an act needs may be made.
+pub fn needed_change_fits()
+    ensures { NeededFits }
+{}
+
+/// The change that an act needs makes its post true, but for a restart, which is asked for anew each time.
 pub fn needed_change_makes_post()
     ensures { NeededMakesPost }
 {}
 
-/// A post that holds stays true under the change that another act needs.
+/// A post that holds stays true under the change that another act needs, unless that act disturbs the one of the post.
 pub fn needed_change_keeps_post()
     ensures { NeededKeepsPost }
 {}

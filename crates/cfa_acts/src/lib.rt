@@ -1,13 +1,20 @@
-//! What a promise asks of a host, act by act: what holds where an act is kept, and what it needs where it isn't.
+//! What a promise asks of a host, act by act: what holds where an act is kept, what it needs where it isn't, and which
+//! acts undo what others ask for.
 #![tactic(auto)]
 
 mod acts;
 mod deciding;
+mod disturbing;
+mod files;
 mod laws;
+mod permissions;
+mod reasons;
+mod seeing;
+mod services;
 
 pub use acts::{Act, Decision, Reason};
 pub use deciding::decide;
-pub use laws::{needed_change_keeps_post, needed_change_makes_post};
-
-#[cfg(test)]
-mod tests;
+pub use disturbing::disturbs;
+pub use laws::{
+    kept_where_post_holds, needed_change_fits, needed_change_keeps_post, needed_change_makes_post,
+};

@@ -7,7 +7,7 @@ use Rattle.cfa_base.specs.declared.places.Place.{Place}
 use Rattle.cfa_base.specs.Tokens.{Token}
 use Rattle.cfa_base.specs.Lexing.{spells, is_name, name_of, content_of, place_after, first_place, bad_byte, unclosed_text, Lexes, FirstFault}
 use Rattle.cfa_base.specs.Scanned.{Scanned, scan}
-use Rattle.cfa_base.proofs.Scanning.{ScansTo, scan_scans}
+use Rattle.cfa_base.specs.lemmas.Scanning.{ScansTo, scan_scans}
 
 word : spells Word (codes "etc_09") ≡ true
 word = refl

@@ -1,7 +1,7 @@
-pub mod Boundaries
-pub mod EndPlaces
 pub mod LexingRows
-pub mod Scanning
-pub mod Spelled
-pub mod Taking
 pub mod PatternLemmas
+pub mod IndexLemmas
+pub mod EscapeLemmas
+pub mod Fronts
+pub mod Ranges
+pub mod KeyLemmas

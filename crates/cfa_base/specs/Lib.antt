@@ -1,7 +1,15 @@
 pub mod Causes
 pub mod Keys
+pub mod Shown
 pub mod Lexing
 pub mod Tokens
 pub mod Patterns
 pub mod CompiledPatterns
 pub mod Scanned
+pub mod Decimals
+pub mod Escapes
+pub mod Index
+pub mod IndexTables
+pub mod Order
+pub mod TextMaps
+pub mod lemmas

@@ -1,11 +1,11 @@
 -- The patterns of the crate `regex`. A whole match is one of the text between `\A(?:` and `)\z`, a match in part one of
 -- the text itself. A text so built is a pattern where `regex` reads it and it isn't nested too deep.
-use Rattle.std.specs.Prelude.{◌≡◌, ℕ, ◌≤◌, Bool, false, List, [], ◌∷◌, ◌++◌, take, codes, Option, Some, None, is_some, nat_le, if◌then◌else◌, chars, Result, OnOk, IsErrOf}
+use Rattle.std.specs.Prelude.{ℕ, Bool, false, List, [], ◌∷◌, ◌++◌, take, codes, Option, Some, None, is_some, nat_le, if◌then◌else◌, chars, Result, Ok, Err}
 use Rattle.regex.specs.Patterns.{Re, Match, default_config, find_str, find_all_str}
 use Rattle.regex.specs.Replace.{replaced_by}
 use Rattle.regex_syntax.specs.Brackets.{Nested}
 use Rattle.regex_syntax.specs.Grammar.{Names, read}
-use Rattle.cfa_base.specs.Causes.{Rose}
+use Rattle.cfa_base.specs.Shown.{Shown, Untouched, HasFailed}
 use Rattle.cfa_base.specs.declared.patterns.How.{How}
 use Rattle.cfa_base.specs.declared.patterns.How.TheVariants.{Whole, Part}
 use Rattle.cfa_base.specs.declared.patterns.PatternErr.{PatternErr}
@@ -63,10 +63,16 @@ replaced pattern text value all = replaced_in (tree_of (built_text pattern.how p
 abbrev pub refuses : List ℕ → List (List ℕ) → List (List ℕ)
 refuses text refused = refused ++ text ∷ []
 
--- the count of size refusals before and after a build: it rose where the build answered `TooBig`, and else it stands
-pub record HasSizeCause {T : Type 0} (before now : ℕ) (result : Result T PatternErr) : Type 0 where
-  pub later : before ≤ now
-  pub too_big : IsErrOf result TooBig → Rose before now
-  pub ok : OnOk result (now ≡ before)
-  pub bad : IsErrOf result Bad → now ≡ before
-  pub memory : IsErrOf result NoMemory → now ≡ before
+-- the text that a build refused for its size, if it did
+abbrev pub refused_by : {T : Type 0} → List ℕ → Result T PatternErr → Option (List ℕ)
+refused_by text (Ok _) = None
+refused_by text (Err TooBig) = Some text
+refused_by text (Err Bad) = None
+refused_by text (Err NoMemory) = None
+
+-- what a builder shows after a call that ends with the first text that is refused for its size, if one is: one of the
+-- texts that the call builds. Where none is refused, the builder is as it was.
+abbrev pub SizeRefusal :
+    (Builds : List ℕ → Type 0) → Option (List ℕ) → (before after : Shown (List (List ℕ))) → Type 0
+SizeRefusal Builds None before after = Untouched before after
+SizeRefusal Builds (Some text) before after = Builds text × HasFailed (refuses text) before after

@@ -62,4 +62,23 @@ impl Key {
     {
         &self.digits
     }
+
+    /// An equal key of its own, without taking memory.
+    pub fn copy(&self) -> Key
+        ensures { result ≡ self.now }
+    {
+        Key {
+            digits: self.digits,
+        }
+    }
+
+    /// The 64 digits as a text, without taking memory.
+    pub fn text(&self) -> &str
+        ensures { result.now ≡ self.now }
+    {
+        match str::from_utf8(&self.digits) {
+            Ok(text) => text,
+            Err(_) => unreachable!(),
+        }
+    }
 }

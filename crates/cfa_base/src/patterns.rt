@@ -1,12 +1,12 @@
 // Patterns, and what builds them.
-ghost use Rattle.std.specs.Prelude.{◌≡◌, ℕ, List, true, false, not, IsTrue, Option, option_map, IfOk, IfErr, OnOk, IsErrOf, string_bytes};
-ghost use Rattle.cfa_base.specs.Patterns.{PatternText, built_text, pattern_of, is_pattern, matches_in, replaced, refuses, HasSizeCause};
-ghost use Rattle.regex.specs.Strings.{IsLiteral};
+ghost use Rattle.std.specs.Prelude.{◌≡◌, ℕ, List, not, IsTrue, IfOk, IfErr, OnOk, IsErrOf, string_bytes};
+ghost use Rattle.cfa_base.specs.Patterns.{PatternText, built_text, pattern_of, is_pattern, matches_in, replaced, refused_by, SizeRefusal};
+ghost use Rattle.cfa_base.specs.Shown.{Shown};
 ghost use Rattle.cfa_base.specs.CompiledPatterns.{IsBuilt};
 ghost use Rattle.cfa_base.specs.declared.patterns.PatternErr.TheVariants.{NoMemory};
 
 use crate::{Name, want_of_memory as memory};
-use regex::{Regex, Template};
+use regex::Regex;
 use std::alloc::{AllocError, AllocFailed, Global};
 use std::marker::Model;
 use thiserror::Error;
@@ -99,11 +99,23 @@ impl Pattern {
         self.text.as_str()
     }
 
+    /// What searches texts for the pattern, so that many texts cost one making.
+    pub fn matcher(&self, alloc: Global) -> Result<Matcher<'_>, memory::NoMemory>
+        ensures { IfOk result (λ matcher. matcher ≡ self.now) }
+    {
+        Ok(Matcher {
+            text: &self.text,
+            how: self.how,
+            regex: &self.regex,
+            inner: self.regex.matcher(alloc)?,
+        })
+    }
+
     /// Whether the pattern matches in the text.
     pub fn matches(&self, alloc: Global, text: &Name) -> Result<bool, memory::NoMemory>
         ensures { IfOk result (λ found. found ≡ matches_in self.now text.now) }
     {
-        self.finds_in(alloc, text.as_str())
+        Ok(self.matcher(alloc)?.matches(text.as_str()))
     }
 
     /// The text with each match from left to right replaced by the value as plain text, or with the first alone.
@@ -116,46 +128,8 @@ impl Pattern {
     ) -> Result<Name, memory::NoMemory>
         ensures { IfOk result (λ name. name ≡ replaced self.now text.now with.now all) }
     {
-        let value = Template::literal(alloc, with.as_str())?;
-        if all {
-            self.replace_all(alloc, text.as_str(), &value)
-        } else {
-            self.replace_first(alloc, text.as_str(), &value)
-        }
-    }
-
-    fn finds_in(&self, alloc: Global, text: &str) -> Result<bool, memory::NoMemory>
-        ensures { IfOk result (λ found. found ≡ matches_in self.now text.now) }
-    {
-        Ok(self.regex.matcher(alloc)?.is_match(text))
-    }
-
-    fn replace_all(
-        &self,
-        alloc: Global,
-        text: &str,
-        template: &Template,
-    ) -> Result<Name, memory::NoMemory>
-        ensures { (value : List ℕ) → IsLiteral template.now value
-            → IfOk result (λ name. name ≡ replaced self.now text.now value true) }
-    {
-        let mut matcher = self.regex.matcher(alloc)?;
-        let text = matcher.replace_all(alloc, text, template)?;
-        Ok(Name::from_string(text))
-    }
-
-    fn replace_first(
-        &self,
-        alloc: Global,
-        text: &str,
-        template: &Template,
-    ) -> Result<Name, memory::NoMemory>
-        ensures { (value : List ℕ) → IsLiteral template.now value
-            → IfOk result (λ name. name ≡ replaced self.now text.now value false) }
-    {
-        let mut matcher = self.regex.matcher(alloc)?;
-        let text = matcher.replace(alloc, text, template)?;
-        Ok(Name::from_string(text))
+        self.matcher(alloc)?
+            .replace(alloc, text.as_str(), with, all)
     }
 }
 
@@ -193,27 +167,22 @@ fn build_text(alloc: Global, text: &Name, how: How) -> Result<String, PatternErr
 
 /// What builds patterns, and refuses some for their size.
 pub trait Patterns {
-    /// The texts that were refused for their size, in order, where the object tells them.
-    ghost told: { Self → Option (List (List ℕ)) };
-
-    /// How often a text was refused for its size, as a number below 2 ^ 64 that stands still at its end.
-    ghost refusals: { Self → ℕ };
+    /// The texts that were refused for their size, in order, where the builder tells them, and how often one was, as a
+    /// number below 2 ^ 64 that stands still at its end.
+    ghost shown: { Self → Shown (List (List ℕ)) };
 
     /// The pattern of a text as in the policy. `Bad` comes exactly where the built text is no pattern or is nested too
-    /// deep. `TooBig` adds the text to those that were refused for their size.
+    /// deep. `TooBig` adds the text to those that were refused for their size; after any other answer the builder is as
+    /// it was.
     fn build(&mut self, alloc: Global, text: &Name, how: How) -> Result<Pattern, PatternErr>
         ensures pattern { IfOk result (λ p. p ≡ pattern_of how text.now) }
         ensures reads { OnOk result (IsTrue (is_pattern how text.now)) }
         ensures bad { IsErrOf result PatternErr.Bad → IsTrue (not (is_pattern how text.now)) }
         ensures too_big { IsErrOf result PatternErr.TooBig → IsTrue (is_pattern how text.now) }
-
-        ensures ok_told { OnOk result (told self.new ≡ told self.old) }
-        ensures bad_told { IsErrOf result PatternErr.Bad → told self.new ≡ told self.old }
-        ensures too_big_told { IsErrOf result PatternErr.TooBig
-            → told self.new ≡ option_map (refuses text.now) (told self.old) }
-        ensures memory_told { IsErrOf result PatternErr.NoMemory → told self.new ≡ told self.old }
-        ensures cause { HasSizeCause (refusals self.old) (refusals self.new) result };
+        ensures shown { SizeRefusal (λ refused. refused ≡ text.now) (refused_by text.now result)
+            (shown self.old) (shown self.new) };
 }
 
-#[cfg(test)]
-mod tests;
+mod matcher;
+
+pub use matcher::Matcher;

@@ -6,7 +6,7 @@ use Rattle.std.proofs.lemmas.Bool.Decides.{nat_tests}
 use Rattle.cfa_base.specs.declared.places.Place.{Place}
 use Rattle.std.proofs.lemmas.List.{take_more, take_all, map_push}
 use Rattle.cfa_calls.specs.declared.cycles.Call.{Call as CodeCall}
-use Rattle.cfa_calls.specs.Order.{is_before, not_after}
+use Rattle.cfa_base.specs.Order.{is_before, not_after}
 use Rattle.cfa_calls.specs.Cycles.{Call, OnCycle, IsFirstOnCycle, NoneOnCycle, seen_call, seen_calls}
 use Rattle.cfa_calls.specs.Numbering.{FirstSoFar, may_be_first}
 

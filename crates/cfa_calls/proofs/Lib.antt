@@ -1,6 +1,5 @@
 pub mod FirstLemmas
 pub mod GraphLemmas
-pub mod IndexLemmas
 pub mod LevelLemmas
 pub mod NumberLemmas
 pub mod SearchLemmas

@@ -10,11 +10,17 @@ use Rattle.cfa_calls.specs.declared.cycles.Edge.{Edge}
 use Rattle.cfa_calls.specs.declared.cycles.Call.{Call as CodeCall}
 use Rattle.cfa_calls.specs.Cycles.{Call, Reaches, OnCycle, seen_call, seen_calls}
 use Rattle.cfa_calls.specs.Cycles.Reaches.{here, onward}
-use Rattle.cfa_calls.specs.Index.{place_of}
+use Rattle.cfa_base.specs.Index.{place_of}
 use Rattle.cfa_calls.specs.Numbering.{names_of, number_in, edge_in, HasEdges, Traces}
 use Rattle.cfa_calls.specs.Reaching.{row_of, Leads}
 use Rattle.cfa_calls.specs.Reaching.Leads.{stay, step}
-use Rattle.cfa_calls.proofs.IndexLemmas.{same_text_is, text_is_same}
+use Rattle.std.proofs.lemmas.Slice.Eq.{bytes_eq-Decides}
+
+same_text_is : (x y : List ℕ) → bytes_eq x y ≡ true → x ≡ y
+same_text_is x y = (bytes_eq-Decides x y).0
+
+text_is_same : (x : List ℕ) → bytes_eq x x ≡ true
+text_is_same x = (bytes_eq-Decides x x).1 refl
 
 contains_cons : {X : Type 0} (xs : List X) (y x : X) → Contains xs x → Contains (y ∷ xs) x
 contains_cons xs y x at = (suc at.0, omega (arith, at.1), at.2)

@@ -4,7 +4,7 @@ use Rattle.std.specs.Prelude.{◌≡◌, ℕ, IsTrue, List, map}
 use Rattle.std.specs.List.{Contains}
 use Rattle.cfa_base.specs.declared.places.Place.{Place}
 use Rattle.cfa_calls.specs.declared.cycles.Call.{Call as CodeCall}
-use Rattle.cfa_calls.specs.Order.{not_after}
+use Rattle.cfa_base.specs.Order.{not_after}
 
 pub record Call : Type 0 where
   pub caller : List ℕ

@@ -1,5 +1,3 @@
 pub mod Cycles
-pub mod Index
 pub mod Numbering
-pub mod Order
 pub mod Reaching

@@ -6,8 +6,8 @@ use Rattle.cfa_base.specs.declared.places.Place.{Place}
 use Rattle.cfa_calls.specs.declared.cycles.Edge.{Edge}
 use Rattle.cfa_calls.specs.declared.cycles.Call.{Call as CodeCall}
 use Rattle.cfa_calls.specs.Cycles.{Call, OnCycle, seen_call, seen_calls}
-use Rattle.cfa_calls.specs.Index.{place_of}
-use Rattle.cfa_calls.specs.Order.{is_before, not_after}
+use Rattle.cfa_base.specs.Index.{place_of}
+use Rattle.cfa_base.specs.Order.{is_before, not_after}
 use Rattle.cfa_calls.specs.Reaching.{row_of, Leads}
 
 abbrev pub names_of : List Call → List (List ℕ)

@@ -3,10 +3,6 @@
 
 mod components;
 mod cycles;
-mod index;
-mod order;
 mod reaching;
 
 pub use cycles::{Call, first_on_cycle};
-pub use index::NameIndex;
-pub use order::is_before;

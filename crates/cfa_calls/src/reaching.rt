@@ -46,7 +46,8 @@ impl Graph {
     pub(crate) fn connect(&mut self, from: usize, to: usize) -> Result<(), NoMemory>
         requires from_node { from < length self.old }
         requires to_node { to < length self.old }
-        ensures { OnOk result (self.new ≡ slice_set self.old from (row_of self.old from ++ to ∷ [])) }
+        ensures { OnOk result (self.new
+            ≡ slice_set self.old from (row_of self.old from ++ to ∷ [])) }
     {
         let row = &mut self.rows[from];
         row.push(to)?;

@@ -6,7 +6,7 @@ use Rattle.std.specs.declared.vec.Vec.{Vec}
 use Rattle.cfa_tree.specs.declared.expressions.Expr.{Expr, And, Or}
 use Rattle.cfa_tree.specs.Plain.{plain_expr}
 use Rattle.cfa_tree.specs.Tree.{ExprTrees, expr_trees}
-use Rattle.cfa_tree.proofs.Rows.{plain_expr-And, plain_expr-Or}
+use Rattle.cfa_tree.specs.lemmas.Rows.{plain_expr-And, plain_expr-Or}
 use Rattle.cfa_classes.specs.declared.levels.Status.{Status}
 use Rattle.cfa_classes.specs.declared.levels.Status.TheVariants.{No, Yes}
 use Rattle.cfa_classes.specs.Status.{lesser, greater, value_of, least_of, greatest_of}

@@ -1,17 +1,15 @@
 -- What classes were raised to. A class that was never raised is No, and one that is raised gets the greater of what it
 -- had and what it is raised to. A class that is global and local has the greater of its two statuses.
-use Rattle.std.specs.Prelude.{ℕ, List, map, unwrap_or, String}
-use Rattle.std.specs.Cmp.Lexicographic.{slice_cmp}
+use Rattle.std.specs.Prelude.{ℕ, List, unwrap_or}
 use Rattle.std.specs.FinMap as finite
-use Rattle.std.specs.Ordering.{nat_cmp}
-use Rattle.std.specs.String.{string_bytes}
+use Rattle.cfa_base.specs.TextMaps.{TextMap}
 use Rattle.cfa_classes.specs.declared.levels.Status.{Status}
 use Rattle.cfa_classes.specs.declared.levels.Status.TheVariants.{No}
 use Rattle.cfa_classes.specs.Status.{greater}
 
 -- the classes that were raised, with their statuses
 abbrev pub Raised : Type 0
-Raised = finite.FinMap (slice_cmp nat_cmp) Status
+Raised = TextMap Status
 
 abbrev pub none_raised : Raised
 none_raised = finite.empty
@@ -24,7 +22,3 @@ raised statuses name to = finite.insert statuses name (greater (status_in status
 
 unfoldable pub greater_in : Raised → Raised → List ℕ → Status
 greater_in global local name = greater (status_in global name) (status_in local name)
-
--- the same entries, their names as bytes
-abbrev pub by_bytes : {Y X : Type 0} → List (String Y × X) → List (List ℕ × X)
-by_bytes entries = map (λ e. (string_bytes e.0, e.1)) entries

@@ -3,14 +3,11 @@ ghost use Rattle.std.specs.Prelude.{◌≡◌, ◌<◌, ◌≤◌, ◌++◌, pos
 ghost use Rattle.jiff.specs.Words.{civil_nanos, monday_zero, nanos_of_seconds, weekday_of};
 ghost use Rattle.cfa_classes.specs.Calendar.{month_name, weekday_name, year_class, day_class, hour_class, minute_class, five_minutes_class, part_of_day, date_classes, time_classes, hard_classes, civil_classes};
 
-use cfa_base::{Name, Names, NoMemory};
+use cfa_base::{LAST_MOMENT, Name, Names, NoMemory};
 use jiff::Timestamp;
 use jiff::civil::{Date, DateTime, Time, Weekday};
 use jiff::tz::Offset;
 use std::alloc::Global;
-
-/// The last moment that has calendar classes, 9998-12-31T23:59:59Z.
-pub const LAST_MOMENT: u64 = 253_370_764_799;
 
 /// The calendar classes of a moment, a number of seconds since the Epoch (1970-01-01T00:00:00Z, as POSIX counts them).
 /// They say its date and time in UTC, and begin with `any`.
@@ -38,7 +35,8 @@ fn in_utc(moment: u64) -> DateTime
 
 fn push_date(alloc: Global, date: Date, classes: &mut Names) -> Result<(), NoMemory>
     ensures { OnOk result (classes.new
-        ≡ classes.old ++ date_classes (unsigned_abs date.year) date.month date.day (weekday_of date)) }
+        ≡ classes.old
+        ++ date_classes (unsigned_abs date.year) date.month date.day (weekday_of date)) }
 {
     classes.push(year_class(alloc, date.year().unsigned_abs())?)?;
     classes.push(Name::from_text(alloc, month_name(date.month().unsigned_abs()))?)?;

@@ -5,11 +5,10 @@
 mod calendar;
 mod levels;
 mod raising;
-#[cfg(test)]
-mod tests;
 mod valuing;
 
-pub use calendar::{LAST_MOMENT, hard};
+pub use calendar::hard;
+pub use cfa_base::LAST_MOMENT;
 pub use cfa_tree::{ExprErr, read_expr};
 pub use levels::Status;
 pub use raising::Statuses;

@@ -10,7 +10,8 @@ use Rattle.std.proofs.lemmas.Bool.{false≢true, cases_lt}
 use Rattle.std.proofs.lemmas.Bool.Decides.{nat_tests}
 use borrow.Author.Tests.{ltb-true}
 use Rattle.std.proofs.lemmas.List.{append_assoc, append-nil, take_more, flat_map_more}
-use Rattle.cfa_functions.specs.Functions.{is_number, item_at, joined}
+use Rattle.cfa_base.specs.Decimals.{is_decimal}
+use Rattle.cfa_functions.specs.Functions.{item_at, joined}
 
 -- the first item stands without glue
 pub joined_first : (glue : List ℕ) (items : List (List ℕ)) (item : List ℕ) → 0 < length items → item ≡ get_or items 0 item → [] ++ item ≡ joined glue (take (0 + 1) items)
@@ -45,27 +46,27 @@ and_true true t h = (refl, h)
 and_true false t h = absurd (false≢true h)
 
 -- a number is digits, at least one
-is_digits : (text : List ℕ) → is_number text ≡ true → (0 < length text) × (all_ascii_digits text ≡ true)
+is_digits : (text : List ℕ) → is_decimal text ≡ true → (0 < length text) × (all_ascii_digits text ≡ true)
 is_digits text h =
     let whole = and_true (ltb 0 (length text) && all_ascii_digits text) _ h in
     let parts = and_true (ltb 0 (length text)) (all_ascii_digits text) whole.0 in
     (ltb-true _ _ parts.0, parts.1)
 
-item_of_number : (items : List (List ℕ)) (text : List ℕ) → is_number text ≡ true → item_at items text ≡ slice_get items (digits_value 10 text)
+item_of_number : (items : List (List ℕ)) (text : List ℕ) → is_decimal text ≡ true → item_at items text ≡ slice_get items (digits_value 10 text)
 unfolding item_at
 item_of_number items text h = ap (λ b. option_and_then (λ place. slice_get items place) (cond b (Some (digits_value 10 text)) None)) h
 
 -- the item at the place that digits are the number of
-pub item_found : (items : List (List ℕ)) (text bytes : List ℕ) (place : ℕ) → bytes ≡ text → true ≡ is_number bytes → ParsesUnsigned {E = ℕ} 64 10 text (Ok place) → slice_get items place ≡ item_at items text
+pub item_found : (items : List (List ℕ)) (text bytes : List ℕ) (place : ℕ) → bytes ≡ text → true ≡ is_decimal bytes → ParsesUnsigned {E = ℕ} 64 10 text (Ok place) → slice_get items place ≡ item_at items text
 item_found items text bytes place same h p =
-    let number : is_number text ≡ true = sym (h ∙ ap is_number same) in
+    let number : is_decimal text ≡ true = sym (h ∙ ap is_decimal same) in
     let read = parse_digits digits_are {E = ℕ} 64 text (Ok place) p (is_digits text number).1 in
     ap (slice_get items) read.1 ∙ sym (item_of_number items text number)
 
 -- a number of 2 ^ 64 or more is no place
-pub item_past : (E : Type 0) (items : List (List ℕ)) (text bytes : List ℕ) (e : E) → bytes ≡ text → true ≡ is_number bytes → length items < 2 ^ 64 → ParsesUnsigned {E = E} 64 10 text (Err e) → None ≡ item_at items text
+pub item_past : (E : Type 0) (items : List (List ℕ)) (text bytes : List ℕ) (e : E) → bytes ≡ text → true ≡ is_decimal bytes → length items < 2 ^ 64 → ParsesUnsigned {E = E} 64 10 text (Err e) → None ≡ item_at items text
 item_past E items text bytes e same h short p =
-    let number : is_number text ≡ true = sym (h ∙ ap is_number same) in
+    let number : is_decimal text ≡ true = sym (h ∙ ap is_decimal same) in
     let digits = is_digits text number in
     let no = parse_digits digits_are {E = E} 64 text (Err e) p digits.1 in
     let past : length items ≤ digits_value 10 text = ⊎_elim (λ below. absurd (no (digits.0, below))) (λ above. omega arith) (cases_lt (digits_value 10 text) (2 ^ 64)) in

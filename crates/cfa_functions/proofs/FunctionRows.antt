@@ -1,16 +1,24 @@
 -- Worked rows of functions.
-use Rattle.std.proofs.Common.{◌≡◌, ℕ, List, [], ◌∷◌, ◌++◌, true, false, codes, refl}
+use Rattle.std.proofs.Common.{◌≡◌, ℕ, List, [], ◌∷◌, ◌++◌, true, false, Some, None, codes, refl}
 use Rattle.cfa_base.specs.declared.places.Place.{Place}
-use Rattle.cfa_tree.specs.Tree.{ValueTree, text, word, reference, list_reference, call, value_trees}
+use Rattle.cfa_tree.specs.Tree.{ValueTree, text, word, reference, list_reference, list, call, value_trees}
 use Rattle.cfa_vars.specs.declared.scoping.Datum.TheVariants.{Text as text_of, List as list_of}
 use Rattle.cfa_vars.specs.References.{reference_at, pieces, list_reference_of}
 use Rattle.cfa_vars.specs.Scopes.{Table, InScope, look, key_of}
 use Rattle.cfa_vars.specs.Expansion.{scalar, expanded}
 use Rattle.cfa_kinds.specs.Functions.{function_named}
 use Rattle.cfa_functions.specs.declared.answering.Answer.{Answer}
-use Rattle.cfa_functions.specs.declared.answering.Answer.TheVariants.{Text, Class, Unresolved}
-use Rattle.cfa_functions.specs.Functions.{item_at}
-use Rattle.cfa_functions.specs.Calls.{answer_of}
+use Rattle.cfa_functions.specs.declared.answering.Answer.TheVariants.{Text, Class, Unresolved, TooLong}
+use Rattle.cfa_functions.specs.declared.reading.ValueText.TheVariants.{Unresolved as text_unresolved}
+use Rattle.cfa_functions.specs.declared.listing.ValueList.TheVariants.{Items, Unresolved as list_unresolved}
+use Rattle.cfa_base.specs.Patterns.{is_pattern}
+use Rattle.cfa_base.specs.declared.patterns.How.TheVariants.{Whole}
+use Rattle.cfa_kinds.specs.declared.functions.TextFunction.TheVariants.{Concat, Join, Length, Nth}
+use Rattle.cfa_kinds.specs.declared.functions.ClassFunction.TheVariants.{Strcmp, Regcmp}
+use Rattle.cfa_kinds.specs.declared.functions.Function.TheVariants.{OfClass}
+use Rattle.cfa_functions.specs.Functions.{a_text, a_list, unresolved, too_long, item_at, text_made, class_made}
+use Rattle.cfa_functions.specs.Builds.{pattern_in}
+use Rattle.cfa_functions.specs.Calls.{answer_of, text_given, list_given}
 use Rattle.std.specs.Fmt.{digits}
 
 -- the bundle `main`, in which x is `v`, l the list of p and q, and e an empty list, beside the bundle `b` with a list m
@@ -72,3 +80,24 @@ is_variable = (refl, refl, refl, refl, refl)
 refused : (answers (codes "concat") (call (codes "strcmp") (value_trees (quoted [] ∷ quoted [] ∷ [])) here ∷ []) Unresolved) × (answers (codes "canonify") [] Unresolved) × (answers (codes "other") [] Unresolved)
 unfolding answer_of function_named expanded scalar look key_of pieces reference_at list_reference_of
 refused = (refl, refl, refl)
+
+-- a text that is too long isn't looked at: what is unresolved without it goes first
+too_long_first : (text_made Length (too_long ∷ []) ≡ TooLong) × (text_made Join (too_long ∷ a_list (codes "p" ∷ []) ∷ []) ≡ TooLong) × (text_made Nth (a_list (codes "p" ∷ []) ∷ too_long ∷ []) ≡ TooLong) × (text_made Nth (too_long ∷ a_text (codes "0") ∷ []) ≡ TooLong)
+too_long_first = (refl, refl, refl, refl)
+
+unresolved_first : (text_made Nth (unresolved ∷ too_long ∷ []) ≡ Unresolved) × (text_made Nth (a_list [] ∷ too_long ∷ []) ≡ Unresolved) × (text_made Nth (too_long ∷ a_text (codes "01") ∷ []) ≡ Unresolved) × (text_made Concat (too_long ∷ unresolved ∷ []) ≡ Unresolved) × (class_made main Strcmp (too_long ∷ []) ≡ Unresolved)
+unresolved_first = (refl, refl, refl, refl, refl)
+
+-- a pattern that doesn't read makes the call unresolved also where the text is too long, and so it is built then
+pattern_first : (pattern : List ℕ) → (is_pattern Whole pattern ≡ false → class_made main Regcmp (a_text pattern ∷ too_long ∷ []) ≡ Unresolved) × (is_pattern Whole pattern ≡ true → class_made main Regcmp (a_text pattern ∷ too_long ∷ []) ≡ TooLong) × (pattern_in (OfClass Regcmp) (a_text pattern ∷ too_long ∷ []) ≡ Some pattern)
+pattern_first pattern = (λ bad. rw bad refl, λ reads. rw reads refl, refl)
+
+-- a list with a list reference put in whole, and the first name that is unresolved
+listed : (list_given main [] (list (value_trees (quoted (codes "a") ∷ list_reference (codes "l") here ∷ quoted (codes "@(e)") ∷ [])) here) ≡ Items (codes "a" ∷ codes "p" ∷ codes "q" ∷ [])) × (list_given main [] (list (value_trees (list_reference (codes "z") here ∷ quoted (codes "$(y)") ∷ [])) here) ≡ list_unresolved (Some (codes "z"))) × (list_given main [] (quoted (codes "@(main.l)")) ≡ Items (codes "p" ∷ codes "q" ∷ []))
+unfolding list_given expanded scalar look key_of pieces reference_at list_reference_of
+listed = (refl, refl, refl)
+
+-- the name that keeps a text from being made is told, but of a call
+told : (text_given main [] (quoted (codes "$(x)$(z)$(y)")) ≡ text_unresolved (Some (codes "z"))) × (text_given main [] (reference (codes "y") here) ≡ text_unresolved (Some (codes "y"))) × (text_given main [] (call (codes "concat") (value_trees (quoted (codes "$(z)") ∷ [])) here) ≡ text_unresolved None)
+unfolding function_named expanded scalar look key_of pieces reference_at list_reference_of
+told = (refl, refl, refl)

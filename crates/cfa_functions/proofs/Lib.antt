@@ -1,3 +1,4 @@
 pub mod ArgumentLemmas
 pub mod FunctionLemmas
+pub mod SoFar
 mod FunctionRows

@@ -1,3 +1,4 @@
 pub mod Functions
 pub mod Calls
 pub mod Builds
+pub mod Given

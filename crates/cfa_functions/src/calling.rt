@@ -1,20 +1,21 @@
 // Calls of functions.
-ghost use Rattle.std.specs.Prelude.{◌≡◌, IfOk, IfErr, OnOk, IsErrOf, IsTrue, Some, map, option_map};
-ghost use Rattle.cfa_base.specs.Causes.{Rose};
-ghost use Rattle.cfa_base.specs.Patterns.{is_pattern, refuses};
+ghost use Rattle.std.specs.Prelude.{◌≡◌, IfOk, Some, Ok, map};
+ghost use Rattle.cfa_base.specs.Patterns.{SizeRefusal};
 ghost use Rattle.cfa_tree.specs.Plain.{plain_value};
 ghost use Rattle.cfa_tree.specs.Tree.{value_trees};
 ghost use Rattle.cfa_vars.specs.Scopes.{in_scope};
-ghost use Rattle.cfa_functions.specs.Functions.{class_answer, matched, class_made, made};
-ghost use Rattle.cfa_functions.specs.Calls.{argument_of, settled, answer_of};
-ghost use Rattle.cfa_functions.specs.Builds.{pattern_in, pattern_of_call, IfTooBig};
+ghost use Rattle.cfa_functions.specs.Functions.{as_text, class_made, made};
+ghost use Rattle.cfa_functions.specs.Calls.{answer_of};
+ghost use Rattle.cfa_functions.specs.Given.{argument_of, text_or_hidden, pattern_answer};
+ghost use Rattle.cfa_functions.specs.Builds.{IsBuilt, pattern_built, pattern_in, pattern_of_call, refused_in};
 ghost use Rattle.cfa_functions.specs.declared.calling.CallErr.TheVariants.{NoMemory};
 ghost use Rattle.cfa_kinds.specs.declared.functions.ClassFunction.TheVariants.{Strcmp, Regcmp, IsVariable};
 ghost use Rattle.cfa_kinds.specs.declared.functions.Function.TheVariants.{OfClass};
 
-use crate::answering::Answer;
-use crate::making::{one_text, two_texts};
-use crate::reading::{Given, answer_text, arguments_given, stopped};
+use crate::answering::{Answer, Lack};
+use crate::making::make_text;
+use crate::reading::{Given, arguments_given};
+use crate::wanting::{as_text, one_text, two_texts};
 use cfa_base as base;
 use cfa_base::{How, Name, PatternErr, Patterns};
 use cfa_kinds::{ClassFunction, Function, function_named};
@@ -62,8 +63,8 @@ fn compare(arguments: &[Given<'_>], scopes: &Scopes<'_>) -> Answer
     ensures { result ≡ class_made (in_scope scopes.now) Strcmp (map argument_of arguments.now) }
 {
     match two_texts(arguments) {
-        Some((first, second)) => Answer::Class(first.as_str() == second.as_str()),
-        None => Answer::Unresolved,
+        Ok((first, second)) => Answer::Class(first.as_str() == second.as_str()),
+        Err(lack) => lack.answer(),
     }
 }
 
@@ -71,35 +72,51 @@ fn find_variable(arguments: &[Given<'_>], scopes: &Scopes<'_>) -> Answer
     ensures { result ≡ class_made (in_scope scopes.now) IsVariable (map argument_of arguments.now) }
 {
     match one_text(arguments) {
-        Some(name) => Answer::Class(look_up(scopes, name.as_str()).is_some()),
-        None => Answer::Unresolved,
+        Ok(name) => Answer::Class(look_up(scopes, name.as_str()).is_some()),
+        Err(lack) => lack.answer(),
     }
 }
 
-// Whether a pattern matches a whole text. The text that a refusal tells is copied first, so that want of memory comes
-// before the build.
+// What a pattern answers for a text, or for one that is hidden. The text that a refusal tells is copied first, so that
+// want of memory comes before the build.
 fn match_built<P: Patterns>(
     alloc: Global,
     pattern: &Name,
-    text: &Name,
+    text: Option<&Name>,
     pats: &mut P,
 ) -> Result<Answer, CallErr>
-    ensures answer { IfOk result (λ a. a ≡ class_answer (matched pattern.now text.now)) }
-    ensures pattern { IfErr result (λ e. IfTooBig e (λ t. t ≡ pattern.now)) }
-    ensures reads { IfErr result (λ e. IfTooBig e (λ t. IsTrue (is_pattern How.Whole t))) }
-    ensures refused { IfErr result (λ e. IfTooBig e (λ t. P.told pats.new ≡ option_map (refuses t) (P.told pats.old))) }
-    ensures rose { IfErr result (λ e. IfTooBig e (λ t. Rose (P.refusals pats.old) (P.refusals pats.new))) }
-    ensures ok_told { OnOk result (P.told pats.new ≡ P.told pats.old) }
-    ensures ok_count { OnOk result (P.refusals pats.new ≡ P.refusals pats.old) }
-    ensures memory_told { IsErrOf result CallErr.NoMemory → P.told pats.new ≡ P.told pats.old }
-    ensures memory_count { IsErrOf result CallErr.NoMemory → P.refusals pats.new ≡ P.refusals pats.old }
+    ensures answer { IfOk result (λ a. a
+        ≡ pattern_answer (Ok pattern.now) (text_or_hidden text.entry)) }
+    ensures sizes { SizeRefusal (IsBuilt (Some pattern.now)) (refused_in result)
+        (P.shown pats.old) (P.shown pats.new) }
 {
     let refused = pattern.copy(alloc)?;
     match pats.build(alloc, pattern, How::Whole) {
-        Ok(built) => Ok(Answer::Class(built.matches(alloc, text)?)),
+        Ok(built) => match text {
+            Some(text) => Ok(Answer::Class(built.matches(alloc, text)?)),
+            None => Ok(Answer::TooLong),
+        },
         Err(PatternErr::Bad) => Ok(Answer::Unresolved),
         Err(PatternErr::TooBig) => Err(CallErr::PatternTooBig(refused)),
         Err(PatternErr::NoMemory) => Err(CallErr::NoMemory),
+    }
+}
+
+fn match_argument<P: Patterns>(
+    alloc: Global,
+    pattern: &Given<'_>,
+    text: Option<&Name>,
+    pats: &mut P,
+) -> Result<Answer, CallErr>
+    ensures answer { IfOk result (λ a. a
+        ≡ pattern_answer (as_text (argument_of pattern.now)) (text_or_hidden text.entry)) }
+    ensures sizes { SizeRefusal
+        (IsBuilt (pattern_built (as_text (argument_of pattern.now)) (text_or_hidden text.entry)))
+        (refused_in result) (P.shown pats.old) (P.shown pats.new) }
+{
+    match as_text(pattern) {
+        Ok(pattern) => match_built(alloc, pattern, text, pats),
+        Err(lack) => Ok(lack.answer()),
     }
 }
 
@@ -109,32 +126,19 @@ fn match_pattern<P: Patterns>(
     scopes: &Scopes<'_>,
     pats: &mut P,
 ) -> Result<Answer, CallErr>
-    ensures answer { IfOk result (λ a. a ≡ settled (map argument_of arguments.now) (class_made (in_scope scopes.now) Regcmp (map argument_of arguments.now))) }
-    ensures pattern { IfErr result (λ e. IfTooBig e (λ t. pattern_in (OfClass Regcmp) (map argument_of arguments.now) ≡ Some t)) }
-    ensures reads { IfErr result (λ e. IfTooBig e (λ t. IsTrue (is_pattern How.Whole t))) }
-    ensures refused { IfErr result (λ e. IfTooBig e (λ t. P.told pats.new ≡ option_map (refuses t) (P.told pats.old))) }
-    ensures rose { IfErr result (λ e. IfTooBig e (λ t. Rose (P.refusals pats.old) (P.refusals pats.new))) }
-    ensures ok_told { OnOk result (P.told pats.new ≡ P.told pats.old) }
-    ensures ok_count { OnOk result (P.refusals pats.new ≡ P.refusals pats.old) }
-    ensures memory_told { IsErrOf result CallErr.NoMemory → P.told pats.new ≡ P.told pats.old }
-    ensures memory_count { IsErrOf result CallErr.NoMemory → P.refusals pats.new ≡ P.refusals pats.old }
+    ensures answer { IfOk result (λ a. a
+        ≡ class_made (in_scope scopes.now) Regcmp (map argument_of arguments.now)) }
+    ensures sizes { SizeRefusal
+        (IsBuilt (pattern_in (OfClass Regcmp) (map argument_of arguments.now)))
+        (refused_in result) (P.shown pats.old) (P.shown pats.new) }
 {
-    if let Some(answer) = stopped(arguments) {
-        return Ok(answer);
-    }
-    match two_texts(arguments) {
-        Some((pattern, text)) => match_built(alloc, pattern, text, pats),
-        None => Ok(Answer::Unresolved),
-    }
-}
-
-// An answer that the arguments may give by themselves, or else the one handed over.
-fn settle(arguments: &[Given<'_>], answer: Answer) -> Answer
-    ensures { result ≡ settled (map argument_of arguments.now) answer }
-{
-    match stopped(arguments) {
-        Some(stop) => stop,
-        None => answer,
+    match arguments {
+        [pattern, text] => match as_text(text) {
+            Ok(text) => match_argument(alloc, pattern, Some(text), pats),
+            Err(Lack::Missing) => Ok(Answer::Unresolved),
+            Err(Lack::Hidden) => match_argument(alloc, pattern, None, pats),
+        },
+        _ => Ok(Answer::Unresolved),
     }
 }
 
@@ -145,41 +149,33 @@ fn apply<P: Patterns>(
     scopes: &Scopes<'_>,
     pats: &mut P,
 ) -> Result<Answer, CallErr>
-    ensures answer { IfOk result (λ a. a ≡ settled (map argument_of arguments.now) (made (in_scope scopes.now) function (map argument_of arguments.now))) }
-    ensures pattern { IfErr result (λ e. IfTooBig e (λ t. pattern_in function (map argument_of arguments.now) ≡ Some t)) }
-    ensures reads { IfErr result (λ e. IfTooBig e (λ t. IsTrue (is_pattern How.Whole t))) }
-    ensures refused { IfErr result (λ e. IfTooBig e (λ t. P.told pats.new ≡ option_map (refuses t) (P.told pats.old))) }
-    ensures rose { IfErr result (λ e. IfTooBig e (λ t. Rose (P.refusals pats.old) (P.refusals pats.new))) }
-    ensures ok_told { OnOk result (P.told pats.new ≡ P.told pats.old) }
-    ensures ok_count { OnOk result (P.refusals pats.new ≡ P.refusals pats.old) }
-    ensures memory_told { IsErrOf result CallErr.NoMemory → P.told pats.new ≡ P.told pats.old }
-    ensures memory_count { IsErrOf result CallErr.NoMemory → P.refusals pats.new ≡ P.refusals pats.old }
+    ensures answer { IfOk result (λ a. a
+        ≡ made (in_scope scopes.now) function (map argument_of arguments.now)) }
+    ensures sizes { SizeRefusal (IsBuilt (pattern_in function (map argument_of arguments.now)))
+        (refused_in result) (P.shown pats.old) (P.shown pats.new) }
 {
     match function {
-        Function::OfText(function) => Ok(answer_text(alloc, function, arguments)?),
-        Function::OfClass(ClassFunction::Strcmp) => Ok(settle(
-            arguments,
-            compare(arguments, scopes),
-        )),
-        Function::OfClass(ClassFunction::IsVariable) => {
-            Ok(settle(arguments, find_variable(arguments, scopes)))
-        }
+        Function::OfText(function) => Ok(make_text(alloc, function, arguments)?),
+        Function::OfClass(ClassFunction::Strcmp) => Ok(compare(arguments, scopes)),
+        Function::OfClass(ClassFunction::IsVariable) => Ok(find_variable(arguments, scopes)),
         Function::OfClass(ClassFunction::Regcmp) => match_pattern(alloc, arguments, scopes, pats),
     }
 }
 
 /// The answer of a call of a function.
 ///
-/// Each argument is expanded first: a text, a word, and a reference as `$(name)` give their expanded text, and a nested
-/// call of a text function its answer. Where a list is wanted, a list reference, or a text that is wholly one, gives the
-/// items of the list variable that it names, and another text those of the list variable that its expansion names.
-/// `Unresolved` goes before `TooLong` wherever each stands, in nested calls too.
+/// Each argument is expanded first (`text_of_value`). Where a list is wanted, a list reference, or a text that is wholly
+/// one, gives the items of the list variable that it names, and another text those of the list variable that its
+/// expansion names.
+///
+/// A text that is too long isn't looked at. A call that is unresolved whatever that text may be is `Unresolved`, wherever
+/// what makes it so stands, and else `TooLong`.
 ///
 /// No condition is put on the call. What the schema refuses, an unknown function or arguments of another number or kind,
 /// is `Unresolved`; a text `@(x)` where a text is wanted stands for itself.
 ///
-/// A pattern is built only where every argument of `regcmp` is resolved and within the limit; `Unresolved` is then also
-/// the answer for a pattern that doesn't read. `PatternTooBig` comes only where this build answered so, for a text that is
+/// The pattern of `regcmp` is built wherever it is short enough and neither argument is unresolved; a pattern that
+/// doesn't read makes the call `Unresolved`. `PatternTooBig` comes only where this build answered so, for a text that is
 /// a pattern. After every other answer nothing was refused for its size.
 #[tactic(auto, unfolding(crate::specs::Calls::answer_of, crate::specs::Builds::pattern_of_call))]
 pub fn call<P: Patterns>(
@@ -191,17 +187,12 @@ pub fn call<P: Patterns>(
     pats: &mut P,
 ) -> Result<Answer, CallErr>
     ensures answer { IfOk result (λ a. a
-        ≡ answer_of (in_scope scopes.now) choice.now name.now (value_trees (map plain_value args.now))) }
-    ensures pattern { IfErr result (λ e. IfTooBig e (λ t.
-        pattern_of_call (in_scope scopes.now) choice.now name.now (value_trees (map plain_value args.now)) ≡ Some t)) }
-    ensures reads { IfErr result (λ e. IfTooBig e (λ t. IsTrue (is_pattern How.Whole t))) }
-    ensures refused { IfErr result (λ e. IfTooBig e (λ t.
-        P.told pats.new ≡ option_map (refuses t) (P.told pats.old))) }
-    ensures rose { IfErr result (λ e. IfTooBig e (λ t. Rose (P.refusals pats.old) (P.refusals pats.new))) }
-    ensures ok_told { OnOk result (P.told pats.new ≡ P.told pats.old) }
-    ensures ok_count { OnOk result (P.refusals pats.new ≡ P.refusals pats.old) }
-    ensures memory_told { IsErrOf result CallErr.NoMemory → P.told pats.new ≡ P.told pats.old }
-    ensures memory_count { IsErrOf result CallErr.NoMemory → P.refusals pats.new ≡ P.refusals pats.old }
+        ≡ answer_of (in_scope scopes.now) choice.now name.now
+        (value_trees (map plain_value args.now))) }
+    ensures sizes { SizeRefusal
+        (IsBuilt (pattern_of_call (in_scope scopes.now) choice.now name.now
+        (value_trees (map plain_value args.now))))
+        (refused_in result) (P.shown pats.old) (P.shown pats.new) }
 {
     match function_named(name.as_str()) {
         Some(function) => {

@@ -1,12 +1,14 @@
-//! The functions of values and classes: what a function call answers.
+//! The functions of values and classes: what a function call answers, and the texts and lists that values give.
 #![tactic(auto)]
 
 mod answering;
 mod calling;
+mod listing;
 mod making;
 mod reading;
-#[cfg(test)]
-mod tests;
+mod wanting;
 
 pub use answering::Answer;
 pub use calling::{CallErr, call};
+pub use listing::{ValueList, list_of_value};
+pub use reading::{ValueText, text_of_value};

@@ -1,23 +1,32 @@
-// What the arguments of a call give.
-ghost use Rattle.std.specs.Prelude.{◌≡◌, ◌++◌, codes, IfOk, map, option_map, option_copied, MatchOption, Some, None};
-ghost use Rattle.std.specs.List.{list_any};
+// The texts that values give, and what the arguments of a call give.
+ghost use Rattle.std.specs.Prelude.{◌≡◌, ◌++◌, codes, IfOk, map, option_copied};
 ghost use Rattle.cfa_tree.specs.Plain.{plain_value};
 ghost use Rattle.cfa_tree.specs.Tree.{value_trees};
-ghost use Rattle.cfa_vars.specs.Scopes.{in_scope, datum_of, look};
+ghost use Rattle.cfa_vars.specs.Scopes.{in_scope, look};
 ghost use Rattle.cfa_vars.specs.Expansion.{expanded};
-ghost use Rattle.cfa_functions.specs.Functions.{text_made};
-ghost use Rattle.cfa_functions.specs.Calls.{argument_of, is_unresolved, is_too_long, stopped, settled, expanded_argument, answered_argument, items_of, list_named, referred_list, list_argument, argument_at, nested, text_given, arguments_given};
+ghost use Rattle.cfa_functions.specs.Calls.{expanded_text, answered_text, text_argument, items_of, list_named, referred_list, list_argument, argument_at, nested, text_given, arguments_given};
+ghost use Rattle.cfa_functions.specs.Given.{argument_of};
 ghost use Rattle.cfa_kinds.specs.Functions.{function_named, takes_list};
 
 use crate::answering::Answer;
 use crate::making::make_text;
 use cfa_base::{Name, Names, NoMemory};
-use cfa_kinds::{Function, TextFunction, function_named};
+use cfa_kinds::{Function, function_named};
 use cfa_tree::Value;
 use cfa_vars::{Expanded, Scopes, Variable, expand, list_reference, look_up};
 use std::alloc::Global;
 
-/// What an argument gives.
+/// What a value gives where a text is wanted.
+#[derive(Debug, Drop)]
+pub enum ValueText {
+    Text(Name),
+    /// The first name that stands for no text, where it is one that keeps the value from having a text.
+    Unresolved(Option<Name>),
+    /// Nothing that can be told is unresolved, and the text, or one in a nested call, has more than 65,536 bytes.
+    TooLong,
+}
+
+// What an argument gives.
 #[derive(Drop)]
 pub(crate) enum Given<'a> {
     Text(Name),
@@ -27,100 +36,41 @@ pub(crate) enum Given<'a> {
 }
 
 impl Given<'_> {
-    fn is_unresolved(&self) -> bool
-        ensures { result ≡ is_unresolved (argument_of self.now) }
+    fn of_text<'a>(text: ValueText) -> Given<'a>
+        ensures { argument_of result ≡ text_argument text }
     {
-        match self {
-            Given::Unresolved => true,
-            Given::Text(_) => false,
-            Given::List(_) => false,
-            Given::TooLong => false,
-        }
-    }
-
-    fn is_too_long(&self) -> bool
-        ensures { result ≡ is_too_long (argument_of self.now) }
-    {
-        match self {
-            Given::TooLong => true,
-            Given::Text(_) => false,
-            Given::List(_) => false,
-            Given::Unresolved => false,
+        match text {
+            ValueText::Text(text) => Given::Text(text),
+            ValueText::Unresolved(_) => Given::Unresolved,
+            ValueText::TooLong => Given::TooLong,
         }
     }
 }
 
-fn any_unresolved(arguments: &[Given<'_>]) -> bool
-    ensures { result ≡ list_any is_unresolved (map argument_of arguments.now) }
-{
-    for argument in arguments {
-        if argument.is_unresolved() {
-            return true;
-        }
-    }
-    false
-}
-
-fn any_too_long(arguments: &[Given<'_>]) -> bool
-    ensures { result ≡ list_any is_too_long (map argument_of arguments.now) }
-{
-    for argument in arguments {
-        if argument.is_too_long() {
-            return true;
-        }
-    }
-    false
-}
-
-// The answer that the arguments give by themselves.
-pub(crate) fn stopped(arguments: &[Given<'_>]) -> Option<Answer>
-    ensures { result ≡ stopped (map argument_of arguments.now) }
-{
-    if any_unresolved(arguments) {
-        return Some(Answer::Unresolved);
-    }
-    if any_too_long(arguments) {
-        return Some(Answer::TooLong);
-    }
-    None
-}
-
-pub(crate) fn answer_text(
-    alloc: Global,
-    function: TextFunction,
-    arguments: &[Given<'_>],
-) -> Result<Answer, NoMemory>
-    ensures { IfOk result (λ a. a ≡ settled (map argument_of arguments.now) (text_made function (map argument_of arguments.now))) }
-{
-    match stopped(arguments) {
-        Some(answer) => Ok(answer),
-        None => make_text(alloc, function, arguments),
-    }
-}
-
-fn answered_argument<'a>(answer: Answer) -> Given<'a>
-    ensures { argument_of result ≡ answered_argument answer }
+fn answered_text(answer: Answer) -> ValueText
+    ensures { result ≡ answered_text answer }
 {
     match answer {
-        Answer::Text(text) => Given::Text(text),
-        Answer::Class(_) => Given::Unresolved,
-        Answer::Unresolved => Given::Unresolved,
-        Answer::TooLong => Given::TooLong,
+        Answer::Text(text) => ValueText::Text(text),
+        Answer::Class(_) => ValueText::Unresolved(None),
+        Answer::Unresolved => ValueText::Unresolved(None),
+        Answer::TooLong => ValueText::TooLong,
     }
 }
 
-fn expand_argument<'a>(
+fn expand_text(
     alloc: Global,
     text: &Name,
-    scopes: &Scopes<'a>,
+    scopes: &Scopes<'_>,
     choice: &[(Name, Name)],
-) -> Result<Given<'a>, NoMemory>
-    ensures { IfOk result (λ g. argument_of g ≡ expanded_argument (expanded (in_scope scopes.now) choice.now text.now)) }
+) -> Result<ValueText, NoMemory>
+    ensures { IfOk result (λ v. v
+        ≡ expanded_text (expanded (in_scope scopes.now) choice.now text.now)) }
 {
     match expand(alloc, text, scopes, choice)? {
-        Expanded::Done(whole) => Ok(Given::Text(whole)),
-        Expanded::Unresolved(_) => Ok(Given::Unresolved),
-        Expanded::TooLong => Ok(Given::TooLong),
+        Expanded::Done(whole) => Ok(ValueText::Text(whole)),
+        Expanded::Unresolved(name) => Ok(ValueText::Unresolved(Some(name))),
+        Expanded::TooLong => Ok(ValueText::TooLong),
     }
 }
 
@@ -153,7 +103,7 @@ fn name_list<'a>(argument: Given<'a>, scopes: &Scopes<'a>) -> Given<'a>
     }
 }
 
-fn referred_list(value: &Value) -> Option<&str>
+pub(crate) fn referred_list(value: &Value) -> Option<&str>
     ensures { option_copied result ≡ referred_list (plain_value value.now) }
 {
     match value {
@@ -167,7 +117,9 @@ fn referred_list(value: &Value) -> Option<&str>
 }
 
 fn list_argument<'a>(value: &Value, argument: Given<'a>, scopes: &Scopes<'a>) -> Given<'a>
-    ensures { argument_of result ≡ list_argument (in_scope scopes.now) (referred_list (plain_value value.now)) (argument_of argument.entry) }
+    ensures { argument_of result
+        ≡ list_argument (in_scope scopes.now) (referred_list (plain_value value.now))
+        (argument_of argument.entry) }
 {
     match referred_list(value) {
         Some(name) => find_list(scopes, name),
@@ -183,7 +135,9 @@ fn argument_at<'a>(
     argument: Given<'a>,
     scopes: &Scopes<'a>,
 ) -> Given<'a>
-    ensures { argument_of result ≡ argument_at (in_scope scopes.now) (takes_list function place) (plain_value value.now) (argument_of argument.entry) }
+    ensures { argument_of result
+        ≡ argument_at (in_scope scopes.now) (takes_list function place) (plain_value value.now)
+        (argument_of argument.entry) }
 {
     if function.takes_list(place) {
         list_argument(value, argument, scopes)
@@ -192,21 +146,26 @@ fn argument_at<'a>(
     }
 }
 
+/// The text that a value gives, by the scopes and the items that are chosen for lists: a text, a word, and a reference
+/// as `$(name)`, give their expanded text, and a call of a text function its answer. `Unresolved` goes before `TooLong`.
+/// A list, a list reference and a call of another function give no text, and are `Unresolved` without a name; a text
+/// `@(x)` stands for itself.
 #[cycle(reading)]
-fn text_given<'a>(
+pub fn text_of_value(
     alloc: Global,
     value: &Value,
-    scopes: &Scopes<'a>,
+    scopes: &Scopes<'_>,
     choice: &[(Name, Name)],
-) -> Result<Given<'a>, NoMemory>
-    ensures { IfOk result (λ g. argument_of g ≡ text_given (in_scope scopes.now) choice.now (plain_value value.now)) }
+) -> Result<ValueText, NoMemory>
+    ensures { IfOk result (λ v. v
+        ≡ text_given (in_scope scopes.now) choice.now (plain_value value.now)) }
 {
     match value {
-        Value::Text(text, _) => expand_argument(alloc, text, scopes, choice),
-        Value::Word(text, _) => expand_argument(alloc, text, scopes, choice),
-        Value::Ref(name, _) => expand_argument(alloc, &written(alloc, name)?, scopes, choice),
-        Value::ListRef(_, _) => Ok(Given::Unresolved),
-        Value::List(_, _) => Ok(Given::Unresolved),
+        Value::Text(text, _) => expand_text(alloc, text, scopes, choice),
+        Value::Word(text, _) => expand_text(alloc, text, scopes, choice),
+        Value::Ref(name, _) => expand_text(alloc, &written(alloc, name)?, scopes, choice),
+        Value::ListRef(_, _) => Ok(ValueText::Unresolved(None)),
+        Value::List(_, _) => Ok(ValueText::Unresolved(None)),
         Value::Call(name, arguments, _) => {
             answer_nested(alloc, name, arguments.as_slice(), scopes, choice)
         }
@@ -215,14 +174,16 @@ fn text_given<'a>(
 
 // The text of a nested call, whose function is to answer a text.
 #[cycle(reading)]
-fn answer_nested<'a>(
+fn answer_nested(
     alloc: Global,
     name: &Name,
     values: &[Value],
-    scopes: &Scopes<'a>,
+    scopes: &Scopes<'_>,
     choice: &[(Name, Name)],
-) -> Result<Given<'a>, NoMemory>
-    ensures { IfOk result (λ g. argument_of g ≡ nested (function_named name.now) (λ f. arguments_given (in_scope scopes.now) choice.now f 0 (value_trees (map plain_value values.now)))) }
+) -> Result<ValueText, NoMemory>
+    ensures { IfOk result (λ v. v ≡ nested (function_named name.now)
+        (λ f. arguments_given (in_scope scopes.now) choice.now f 0
+        (value_trees (map plain_value values.now)))) }
 {
     match function_named(name.as_str()) {
         Some(Function::OfText(function)) => {
@@ -233,10 +194,10 @@ fn answer_nested<'a>(
                 scopes,
                 choice,
             )?;
-            Ok(answered_argument(answer_text(alloc, function, arguments.as_slice())?))
+            Ok(answered_text(make_text(alloc, function, arguments.as_slice())?))
         }
-        Some(Function::OfClass(_)) => Ok(Given::Unresolved),
-        None => Ok(Given::Unresolved),
+        Some(Function::OfClass(_)) => Ok(ValueText::Unresolved(None)),
+        None => Ok(ValueText::Unresolved(None)),
     }
 }
 
@@ -249,11 +210,13 @@ pub(crate) fn arguments_given<'a>(
     scopes: &Scopes<'a>,
     choice: &[(Name, Name)],
 ) -> Result<Vec<Given<'a>>, NoMemory>
-    ensures { IfOk result (λ gs. map argument_of gs.items ≡ arguments_given (in_scope scopes.now) choice.now function 0 (value_trees (map plain_value values.now))) }
+    ensures { IfOk result (λ gs. map argument_of gs.items
+        ≡ arguments_given (in_scope scopes.now) choice.now function 0
+        (value_trees (map plain_value values.now))) }
 {
     let mut arguments = Vec::new(alloc);
     for (place, value) in values.iter().enumerate() {
-        let text = text_given(alloc, value, scopes, choice)?;
+        let text = Given::of_text(text_of_value(alloc, value, scopes, choice)?);
         arguments.push(argument_at(function, place, value, text, scopes))?;
     }
     Ok(arguments)

@@ -1,5 +1,5 @@
 -- The forms that a text of an attribute may be asked to have.
-use Rattle.std.specs.Prelude.{ℕ, Bool, true, false, ◌||◌, ◌&&◌, ◌==◌, not, nat_le, List, [], ◌∷◌, length, chars, codes, if◌then◌else◌}
+use Rattle.std.specs.Prelude.{ℕ, Bool, true, false, ◌||◌, ◌&&◌, ◌==◌, not, nat_le, List, [], ◌∷◌, length, chars, codes, Option, Some, None, if◌then◌else◌}
 use Rattle.std.specs.List.{list_all}
 use Rattle.std.specs.Str.{bytes_eq, all_ascii_digits}
 use Rattle.std.specs.Str.Parse.{digits_value}
@@ -59,3 +59,7 @@ has_form Occurrences text = bytes_eq text (codes "all") || bytes_eq text (codes 
 has_form Character text = length (chars text) == 1
 has_form FieldNumber text = is_number_from 1 999 text
 has_form FieldOperation text = bytes_eq text (codes "set")
+
+-- the number that a text of the form `Minutes` writes
+abbrev pub minutes_written : List ℕ → Option ℕ
+minutes_written text = if has_form Minutes text then Some (digits_value 10 text) else None

@@ -198,7 +198,7 @@ unfoldable pub location_attribute : List ℕ → Option Kind
 location_attribute name =
     if bytes_eq name (codes "before_after") then Some (kinds.Text Side) else (
     if bytes_eq name (codes "first_last") then Some (kinds.Text End) else (
-    if bytes_eq name (codes "select_line_matching") then Some (kinds.Text AnyText) else None))
+    if bytes_eq name (codes "select_line_matching") then Some kinds.Pattern else None))
 
 unfoldable pub replace_with_attribute : List ℕ → Option Kind
 replace_with_attribute name =

@@ -3,7 +3,7 @@ ghost use Rattle.std.specs.Prelude.{◌≡◌, ◌<◌, ◌≤◌, ◌&&◌, IsT
 ghost use Rattle.std.specs.List.{list_all};
 ghost use Rattle.std.specs.Str.{all_ascii_digits};
 ghost use Rattle.std.specs.Str.Parse.{digits_value};
-ghost use Rattle.cfa_kinds.specs.Forms.{is_boolean, is_service_policy, is_digits, is_whole_number, has_no_leading_zero, is_number_from, is_octal_digit, is_mode, has_form};
+ghost use Rattle.cfa_kinds.specs.Forms.{is_boolean, is_service_policy, is_digits, is_whole_number, has_no_leading_zero, is_number_from, is_octal_digit, is_mode, has_form, minutes_written};
 
 use crate::kinds::Form;
 
@@ -62,7 +62,8 @@ fn lies_between(least: u64, greatest: u64, text: &str) -> bool
     requires some { 0 < length text.now }
     requires short { length text.now ≤ 10 }
     requires digits { IsTrue (all_ascii_digits text.now) }
-    ensures { result ≡ (nat_le least (digits_value 10 text.now) && nat_le (digits_value 10 text.now) greatest) }
+    ensures { result ≡ (nat_le least (digits_value 10 text.now) && nat_le
+        (digits_value 10 text.now) greatest) }
 {
     match text.parse::<u64>() {
         Ok(number) => least <= number && number <= greatest,
@@ -126,5 +127,15 @@ pub fn has_form(form: Form, text: &str) -> bool
     }
 }
 
-#[cfg(test)]
-mod tests;
+/// The number that a text of the form `Minutes` writes. `None` where the text isn't of that form.
+pub fn minutes(text: &str) -> Option<u64>
+    ensures { result ≡ minutes_written text.now }
+{
+    if !has_form(Form::Minutes, text) {
+        return None;
+    }
+    match text.parse::<u64>() {
+        Ok(number) => Some(number),
+        Err(_) => None,
+    }
+}

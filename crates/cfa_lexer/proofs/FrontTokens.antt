@@ -10,9 +10,9 @@ use Rattle.cfa_base.specs.declared.tokens.Kind.{Kind}
 use Rattle.cfa_base.specs.declared.tokens.Kind.TheVariants.{Word, Text, Ref, ListRef}
 use Rattle.cfa_base.specs.Lexing.{is_word_byte, is_word, is_quote, is_quoted, closes, is_reference, spells, Takes, BeginsNone}
 use Rattle.cfa_base.specs.Scanned.{kind_at, kind_from}
-use Rattle.cfa_base.proofs.Spelled.{kind_is, quote_is}
-use Rattle.cfa_base.proofs.Scanning.{front_first}
-use Rattle.cfa_base.proofs.Taking.{prefix_passes, takes_word, takes_text, takes_ref, takes_list_ref}
+use Rattle.cfa_base.specs.lemmas.Spelled.{kind_is, quote_is}
+use Rattle.cfa_base.specs.lemmas.Scanning.{front_first}
+use Rattle.cfa_base.specs.lemmas.Taking.{prefix_passes, takes_word, takes_text, takes_ref, takes_list_ref}
 use Rattle.cfa_lexer.specs.Fronts.{IsFront}
 
 front_of : (kind : Kind) (bytes : List ℕ) (n : ℕ) → n ≤ length bytes → IsTrue (spells kind (take n bytes)) →

@@ -6,7 +6,7 @@ use Rattle.std.proofs.lemmas.List.{append_assoc, append-nil, take_more, take-app
 use Rattle.std.specs.List.{list_all, position_or_len}
 use Rattle.std.proofs.lemmas.List.Sums.{passes_at_first}
 use Rattle.cfa_base.specs.Lexing.{closes, is_name, name_of, is_reference}
-use Rattle.cfa_base.proofs.Taking.{closes_within, Brackets, parentheses, braces, reference_of, reference_from, closing_is_no_name, is_name_byte, name_bytes, all_weaker}
+use Rattle.cfa_base.specs.lemmas.Taking.{closes_within, Brackets, parentheses, braces, reference_of, reference_from, closing_is_no_name, is_name_byte, name_bytes, all_weaker}
 use Rattle.cfa_lexer.specs.Fronts.{closing_of}
 
 -- Behind an opening quote.

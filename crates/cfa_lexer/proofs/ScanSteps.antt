@@ -11,7 +11,7 @@ use Rattle.cfa_base.specs.declared.tokens.Kind.{Kind}
 use Rattle.cfa_base.specs.declared.places.Place.{Place}
 use Rattle.cfa_base.specs.Tokens.{Token}
 use Rattle.cfa_base.specs.Lexing.{is_separator, is_hash, is_newline, line_of, past_line, place_past, place_after, first_place, fault_at, Fault, bad_byte, unclosed_text, BeginsNone, Scans, ends, a_separator, a_comment, a_token, stops, Lexes, FirstFault}
-use Rattle.cfa_base.proofs.Boundaries.{boundary_behind}
+use Rattle.cfa_base.specs.lemmas.Boundaries.{boundary_behind}
 use Rattle.cfa_lexer.specs.Fronts.{gap_len, IsFront}
 use Rattle.cfa_lexer.specs.Lexed.{IsFaultOf, err_of}
 

@@ -6,8 +6,8 @@ use Rattle.cfa_base.specs.declared.tokens.Kind.{Kind}
 use Rattle.cfa_base.specs.declared.tokens.Kind.TheVariants.{FatArrow, ThinArrow, DoubleColon, Colon, Comma, Semicolon, OpenBrace, CloseBrace, OpenParen, CloseParen, Bang, Dot, And, Or}
 use Rattle.cfa_base.specs.Lexing.{is_word_byte, is_quote, spells, Takes, BeginsNone}
 use Rattle.cfa_base.specs.Scanned.{kind_from}
-use Rattle.cfa_base.proofs.Spelled.{same_bytes}
-use Rattle.cfa_base.proofs.Taking.{fronted, bar_first, takes_fat_arrow, takes_thin_arrow, takes_double_colon, takes_colon, takes_double_bar, takes_bar, takes_comma, takes_semicolon, takes_open_brace, takes_close_brace, takes_open_paren, takes_close_paren, takes_bang, takes_dot, takes_and}
+use Rattle.cfa_base.specs.lemmas.Spelled.{same_bytes}
+use Rattle.cfa_base.specs.lemmas.Taking.{fronted, bar_first, takes_fat_arrow, takes_thin_arrow, takes_double_colon, takes_colon, takes_double_bar, takes_bar, takes_comma, takes_semicolon, takes_open_brace, takes_close_brace, takes_open_paren, takes_close_paren, takes_bang, takes_dot, takes_and}
 use Rattle.cfa_lexer.specs.Fronts.{symbol_of, TellsFront}
 
 -- the byte that follows, where one does

@@ -2,6 +2,7 @@
 use Rattle.std.specs.Prelude.{◌≡◌, ℕ, ◌≤◌, ⊤, List, length, take}
 use Rattle.std.specs.Str.{IsUtf8}
 use Rattle.std.specs.Str.Lossy.{utf8_valid_len}
+use Rattle.cfa_base.specs.declared.limits.TheConstants.{MOST_SOURCE_BYTES}
 use Rattle.cfa_base.specs.declared.places.Place.{Place}
 use Rattle.cfa_base.specs.Tokens as tokens
 use Rattle.cfa_base.specs.Lexing.{Fault, bad_byte, unclosed_text, FirstFault, place_after, first_place}
@@ -15,7 +16,7 @@ plain t = record { kind = t.kind; text = t.text.now; place = t.place }
 
 -- a source has at most so many bytes
 abbrev pub max_len : ℕ
-max_len = 1_048_576
+max_len = MOST_SOURCE_BYTES
 
 -- a source is a text that isn't too long
 pub record IsText (source : List ℕ) : Type 0 where

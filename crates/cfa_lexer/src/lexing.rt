@@ -9,7 +9,7 @@ use crate::bytes::is_quote;
 use crate::fronts::{gap_len, token_len};
 use crate::placing::{first_place, place_after};
 use crate::{LexErr, Token};
-use cfa_base::Place;
+use cfa_base::{MOST_SOURCE_BYTES, Place};
 use std::alloc::Global;
 
 /// The place after the last byte of a source: its line is one more than the newlines before it, and its column one more
@@ -23,22 +23,25 @@ pub fn end_place(source: &[u8], file: u16) -> Place
     place_after(first_place(file), source)
 }
 
-// The most bytes that a source has.
-const MAX_LEN: usize = 1_048_576;
-
 /// The tokens of a source, in order. An `Err` is the first of these in this order: the source is too long, it isn't
 /// UTF-8, it has a byte at which no token begins or a text that isn't closed. Want of memory may come for any source that
 /// is a text.
 pub fn lex<'a>(alloc: Global, source: &'a [u8], file: u16) -> Result<Vec<Token<'a>>, LexErr>
     ensures text { OnOk result (IsText source.now) }
-    ensures tokens { IfOk result (λ tokens. Lexes (first_place file) source.now (map plain tokens.items)) }
+    ensures tokens { IfOk result
+        (λ tokens. Lexes (first_place file) source.now (map plain tokens.items)) }
     ensures too_long { IsErrOf result LexErr.TooLong ↔ (max_len < length source.now) }
-    ensures not_text { (place : declared.Place) → IsErrOf result (LexErr.NotText place) ↔ StopsBeingText source.now file place }
-    ensures bad_byte { (place : declared.Place) → IsErrOf result (LexErr.BadByte place) → IsText source.now × FirstFault (first_place file) source.now (bad_byte place) }
-    ensures unclosed_text { (place : declared.Place) → IsErrOf result (LexErr.UnclosedText place) → IsText source.now × FirstFault (first_place file) source.now (unclosed_text place) }
+    ensures not_text { (place : declared.Place) →
+        IsErrOf result (LexErr.NotText place) ↔ StopsBeingText source.now file place }
+    ensures bad_byte { (place : declared.Place) →
+        IsErrOf result (LexErr.BadByte place) →
+        IsText source.now × FirstFault (first_place file) source.now (bad_byte place) }
+    ensures unclosed_text { (place : declared.Place) →
+        IsErrOf result (LexErr.UnclosedText place) →
+        IsText source.now × FirstFault (first_place file) source.now (unclosed_text place) }
     ensures no_memory { IsErrOf result LexErr.NoMemory → IsText source.now }
 {
-    if source.len() > MAX_LEN {
+    if source.len() > MOST_SOURCE_BYTES {
         return Err(LexErr::TooLong);
     }
     match str::from_utf8(source) {
@@ -50,7 +53,8 @@ pub fn lex<'a>(alloc: Global, source: &'a [u8], file: u16) -> Result<Vec<Token<'
 // The tokens of a text, or its first fault.
 fn scan<'a>(alloc: Global, text: &'a str, file: u16) -> Result<Vec<Token<'a>>, LexErr>
     requires { length text.now ≤ max_len }
-    ensures ok { IfOk result (λ tokens. Lexes (first_place file) text.now (map plain tokens.items)) }
+    ensures ok { IfOk result
+        (λ tokens. Lexes (first_place file) text.now (map plain tokens.items)) }
     ensures err { IfErr result (IsFaultOf text.now file) }
 {
     let mut tokens = Vec::new(alloc);

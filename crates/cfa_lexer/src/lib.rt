@@ -7,12 +7,11 @@ mod fronts;
 mod laws;
 mod lexing;
 mod placing;
-#[cfg(test)]
-mod tests;
 mod tokens;
 
 pub use cfa_base::Kind;
 pub use errors::LexErr;
+pub use fronts::token_len;
 pub use laws::one_lexing;
 pub use lexing::{end_place, lex};
 pub use tokens::Token;

@@ -1,6 +1,4 @@
 pub mod Above
-pub mod Fronts
-pub mod TextMapLemmas
-pub mod Ranges
 pub mod Parents
+pub mod PathLemmas
 mod Rows

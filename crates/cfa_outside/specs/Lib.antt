@@ -1,12 +1,14 @@
-pub mod Causes
+pub mod Answered
 pub mod Inputs
-pub mod Memory
 pub mod MemoryInputs
 pub mod MemorySink
 pub mod MemorySite
+pub mod NextSlash
+pub mod NodeCodes
 pub mod Paths
 pub mod RegexPatterns
 pub mod Sinks
 pub mod Sites
-pub mod TextMaps
+pub mod Turns
 pub mod Worlds
+pub mod lemmas

@@ -15,7 +15,9 @@ components text = filter (λ part. not (length part == 0)) (slice_split (λ b. b
 
 -- at most 255 bytes, not `.` or `..`, and no zero byte
 abbrev pub is_component : List ℕ → Bool
-is_component part = nat_le (length part) 255 && (not (bytes_eq part (46 ∷ [])) && (not (bytes_eq part (46 ∷ 46 ∷ [])) && list_all (λ b. not (b == 0)) part))
+is_component part =
+    nat_le (length part) 255
+    && (not (bytes_eq part (46 ∷ [])) && (not (bytes_eq part (46 ∷ 46 ∷ [])) && list_all (λ b. not (b == 0)) part))
 
 -- the parts, with a slash before each
 abbrev pub joined : List (List ℕ) → List ℕ

@@ -1,66 +1,19 @@
 -- A world has a node at some paths: a file or a directory, each with a mode, an owner and a group. The parent of each
 -- node is a directory or the root. To put a file makes the missing directories above it.
-use Rattle.std.specs.Prelude.{ℕ, ◌+◌, ◌<◌, ◌≤◌, ◌≡◌, refl, List, [], ◌∷◌, ◌++◌, Bool, true, false, ◌==◌, nat_eq, if◌then◌else◌, length, slice_index, take, drop, codes, Option, Some, None, ◌⊎◌, IsTrue}
+use Rattle.std.specs.Prelude.{ℕ, ◌+◌, List, [], ◌∷◌, ◌++◌, Bool, true, false, ◌&&◌, not, ◌==◌, nat_eq, nat_le, if◌then◌else◌, length, take, drop, codes, Option, Some, None, IsTrue}
 use Rattle.std.specs.List.{list_all, list_any, starts_with}
-use Rattle.std.specs.declared.cmp.Ordering.{Ordering}
-use Rattle.std.specs.Coded.{Coded, code_by, coded×, coded⊎, coded_ℕ, coded_bool, coded_list}
 use Rattle.std.specs.FinMap as map
-use Rattle.std.proofs.Common.{inl, inr}
-use Rattle.cfa_outside.specs.TextMaps.{text_cmp}
+use Rattle.cfa_base.specs.TextMaps.{TextMap}
+use Rattle.cfa_base.specs.declared.limits.TheConstants.{MOST_FILE_BYTES}
 use Rattle.cfa_outside.specs.declared.worlds.Perms.{Perms}
 use Rattle.cfa_outside.specs.declared.worlds.Node.{Node}
 use Rattle.cfa_outside.specs.declared.worlds.Node.TheVariants.{File, Dir}
-use Rattle.cfa_outside.specs.declared.worlds.ServiceRow.{ServiceRow}
+use Rattle.cfa_outside.specs.declared.sites.Look.{Look}
+use Rattle.cfa_outside.specs.declared.sites.Look.TheVariants as look
 
--- paths by their bytes
-abbrev pub path_cmp : List ℕ → List ℕ → Ordering
-path_cmp = text_cmp
-
--- what stands at each path
+-- what stands at each path, by its bytes
 abbrev pub NodeMap : Type 0
-NodeMap = map.FinMap path_cmp Node
-
--- the row of each service
-abbrev pub ServiceMap : Type 0
-ServiceMap = map.FinMap text_cmp ServiceRow
-
--- the moment of each lock, by its key
-abbrev pub LockMap : Type 0
-LockMap = map.FinMap text_cmp ℕ
-
--- how these maps are told apart
-abbrev pub perms_code : Coded Perms
-perms_code =
-    code_by (ℕ × (List ℕ × List ℕ)) (coded× coded_ℕ (coded× (coded_list coded_ℕ) (coded_list coded_ℕ))) (λ p. (p.mode, (p.owner, p.group))) (λ t. record { mode = t.0; owner = t.1.0; group = t.1.1 }) (λ _. refl)
-
-abbrev pub node_parts : Node → (List ℕ × Perms) ⊎ Perms
-node_parts (File bytes perms) = inl (bytes, perms)
-node_parts (Dir perms) = inr perms
-
-abbrev pub node_from : (List ℕ × Perms) ⊎ Perms → Node
-node_from (inl file) = File file.0 file.1
-node_from (inr perms) = Dir perms
-
-pub node_same : (node : Node) → node_from (node_parts node) ≡ node
-node_same (File bytes perms) = refl
-node_same (Dir perms) = refl
-
-abbrev pub node_code : Coded Node
-node_code =
-    code_by ((List ℕ × Perms) ⊎ Perms) (coded⊎ (coded× (coded_list coded_ℕ) perms_code) perms_code) node_parts node_from node_same
-
-abbrev pub node_map_code : Coded NodeMap
-node_map_code = map.code (coded_list coded_ℕ) node_code
-
-abbrev pub service_code : Coded ServiceRow
-service_code =
-    code_by (Bool × (Bool × ℕ)) (coded× coded_bool (coded× coded_bool coded_ℕ)) (λ s. (s.running, (s.enabled, s.restarts))) (λ t. record { running = t.0; enabled = t.1.0; restarts = t.1.1 }) (λ _. refl)
-
-abbrev pub service_map_code : Coded ServiceMap
-service_map_code = map.code (coded_list coded_ℕ) service_code
-
-abbrev pub lock_map_code : Coded LockMap
-lock_map_code = map.code (coded_list coded_ℕ) coded_ℕ
+NodeMap = TextMap Node
 
 -- the permissions of what is made: this mode, owner and group root
 abbrev pub root_perms : ℕ → Perms
@@ -101,6 +54,58 @@ is_below path other = starts_with nat_eq other (path ++ 47 ∷ [])
 unfoldable pub has_below : NodeMap → List ℕ → Bool
 has_below nodes path = list_any (is_below path) (map.keys nodes)
 
+-- what a look shows, by the node there, whether a file stands above, and whether a node stands below
+abbrev pub shows : Option Node → Bool → Bool → Look
+shows (Some (File bytes _)) blocked below = look.File (length bytes)
+shows (Some (Dir _)) blocked below = look.Dir (not below)
+shows None true below = look.Blocked
+shows None false below = look.Nothing
+
+unfoldable pub look_at : NodeMap → List ℕ → Look
+look_at nodes path = shows (map.get nodes path) (is_blocked nodes path) (has_below nodes path)
+
+-- a file may be put where nothing or a file stands, and no file above
+abbrev pub takes_file : Look → Bool
+takes_file look.Nothing = true
+takes_file look.Blocked = false
+takes_file (look.File _) = true
+takes_file (look.Dir _) = false
+
+-- a directory may be put where nothing stands, and no file above
+abbrev pub takes_directory : Look → Bool
+takes_directory look.Nothing = true
+takes_directory look.Blocked = false
+takes_directory (look.File _) = false
+takes_directory (look.Dir _) = false
+
+-- a file or an empty directory may be removed
+abbrev pub is_removable : Look → Bool
+is_removable look.Nothing = false
+is_removable look.Blocked = false
+is_removable (look.File _) = true
+is_removable (look.Dir is_empty) = is_empty
+
+-- the bytes of a file
+abbrev pub bytes_in : Option Node → Option (List ℕ)
+bytes_in (Some (File bytes _)) = Some bytes
+bytes_in (Some (Dir _)) = None
+bytes_in None = None
+
+-- a file that isn't over the limit
+abbrev pub is_readable : Option Node → Bool
+is_readable (Some (File bytes _)) = nat_le (length bytes) MOST_FILE_BYTES
+is_readable (Some (Dir _)) = false
+is_readable None = false
+
+abbrev pub perms_in : Option Node → Option Perms
+perms_in (Some (File _ perms)) = Some perms
+perms_in (Some (Dir perms)) = Some perms
+perms_in None = None
+
+abbrev pub with_perms : Perms → Node → Node
+with_perms perms (File bytes _) = File bytes perms
+with_perms perms (Dir _) = Dir perms
+
 -- a new directory where nothing stands
 abbrev pub with_dir : List ℕ → NodeMap → NodeMap
 with_dir path nodes = if map.contains_key nodes path then nodes else map.insert nodes path new_directory
@@ -121,13 +126,26 @@ file_with bytes None = File bytes (root_perms 384)
 unfoldable pub put_file : List ℕ → List ℕ → NodeMap → NodeMap
 put_file path bytes nodes = map.insert (with_dirs (above path) nodes) path (file_with bytes (map.get nodes path))
 
+-- a new directory is at the path, and the directories above are there
+unfoldable pub put_directory : List ℕ → NodeMap → NodeMap
+put_directory path nodes = map.insert (with_dirs (above path) nodes) path new_directory
+
+-- what stands at the path has these permissions
+abbrev pub set_perms_of : Option Node → List ℕ → Perms → NodeMap → NodeMap
+set_perms_of (Some node) path perms nodes = map.insert nodes path (with_perms perms node)
+set_perms_of None path perms nodes = nodes
+
+unfoldable pub set_perms : List ℕ → Perms → NodeMap → NodeMap
+set_perms path perms nodes = set_perms_of (map.get nodes path) path perms nodes
+
+-- each of what stands above the path is a directory
+abbrev pub is_in_directories : NodeMap → List ℕ → Bool
+is_in_directories nodes path = list_all (λ p. is_directory (map.get nodes p)) (above path)
+
 -- each node stands in directories up to the root, so its parent is a directory or the root
 pub record HasParents (nodes : NodeMap) : Type 0 where
-  pub of_each : (path : List ℕ) → IsTrue (map.contains_key nodes path) → IsTrue (list_all (λ p. is_directory (map.get nodes p)) (above path))
+  pub of_each : (path : List ℕ) → IsTrue (map.contains_key nodes path) → IsTrue (is_in_directories nodes path)
 
--- the next slash of a path from a place on is at i
-pub record IsNextSlash (path : List ℕ) (from i : ℕ) : Type 0 where
-  pub after : from ≤ i
-  pub before : i < length path
-  pub slash : slice_index path i ≡ 47
-  pub cuts : above_from path from (drop from path) ≡ take i path ∷ above_from path (i + 1) (drop (i + 1) path)
+-- a node may be added where none stands, in directories up to the root
+abbrev pub is_free : NodeMap → List ℕ → Bool
+is_free nodes path = not (map.contains_key nodes path) && is_in_directories nodes path

@@ -6,23 +6,24 @@ mod errors;
 mod memory_inputs;
 mod memory_sink;
 mod memory_site;
+mod nodes;
 mod paths;
 mod regex_patterns;
 mod sinks;
 mod sites;
 mod sources;
-#[cfg(test)]
-mod tests;
+mod turns;
 mod worlds;
 
 pub use cfa_base::Patterns;
-pub use errors::OutsideErr;
+pub use errors::{NodeErr, OutsideErr};
 pub use memory_inputs::MemoryInputs;
 pub use memory_sink::MemorySink;
 pub use memory_site::MemorySite;
+pub use nodes::Nodes;
 pub use paths::{Path, PathErr};
 pub use regex_patterns::RegexPatterns;
 pub use sinks::Sink;
 pub use sites::{Call, Change, Entry, Look, Site, keeps_parents};
 pub use sources::Inputs;
-pub use worlds::{Locks, Node, Nodes, Perms, ServiceRow, Services, World};
+pub use worlds::{Node, Perms, ServiceRow, World};

@@ -1,9 +1,12 @@
 // Inputs in memory.
-ghost use Rattle.std.specs.Prelude.{◌≡◌, ℕ, [], Option, Some, option_map, option_copied, take, IfOk, OnOk, IsErrOf};
-ghost use Rattle.cfa_outside.specs.Causes.{HasCause};
-ghost use Rattle.cfa_outside.specs.Inputs.{Library, text_of, fails};
-ghost use Rattle.cfa_outside.specs.MemoryInputs.{texts_of, failed_names, refused_numbers, readings_so_far, faults_so_far, told_of, TakesTurn};
+ghost use Rattle.std.specs.Prelude.{◌≡◌, [], Some, option_map, option_copied, take, IfOk};
+ghost use Rattle.cfa_base.specs.Shown.{Untouched};
+ghost use Rattle.cfa_outside.specs.Answered.{Answered};
+ghost use Rattle.cfa_outside.specs.Inputs.{text_of, fails};
+ghost use Rattle.cfa_outside.specs.MemoryInputs.{texts_of, failed_names, turns_of, shown_of, fails_next};
+ghost use Rattle.cfa_outside.specs.Turns.{no_calls, TakesTurn};
 
+use crate::turns::Turns;
 use crate::{Inputs, OutsideErr};
 use cfa_base::{Bytes, Name, Names, NoMemory};
 use std::alloc::Global;
@@ -13,9 +16,7 @@ use std::alloc::Global;
 pub struct MemoryInputs {
     texts: Vec<(Name, Bytes)>,
     failed: Names,
-    refuse: Vec<u32>,
-    readings: u32,
-    faults: u64,
+    turns: Turns,
 }
 
 impl MemoryInputs {
@@ -28,16 +29,12 @@ impl MemoryInputs {
     ) -> Result<MemoryInputs, NoMemory>
         ensures texts { IfOk result (λ inputs. texts_of inputs ≡ texts.items) }
         ensures failed { IfOk result (λ inputs. failed_names inputs ≡ []) }
-        ensures refused { IfOk result (λ inputs. refused_numbers inputs ≡ refuse.items) }
-        ensures readings { IfOk result (λ inputs. readings_so_far inputs ≡ 0) }
-        ensures faults { IfOk result (λ inputs. faults_so_far inputs ≡ 0) }
+        ensures turns { IfOk result (λ inputs. turns_of inputs ≡ no_calls refuse.items) }
     {
         Ok(MemoryInputs {
             texts,
             failed: Names::new(alloc),
-            refuse,
-            readings: 0,
-            faults: 0,
+            turns: Turns::new(refuse),
         })
     }
 }
@@ -65,28 +62,24 @@ fn first_bytes(bytes: &[u8], limit: u32) -> &[u8]
 }
 
 impl Inputs for MemoryInputs {
-    ghost told = { told_of };
-
-    ghost faults = { faults_so_far };
+    ghost shown = { shown_of };
 
     fn read(&mut self, alloc: Global, name: &Name, limit: u32) -> Result<Bytes, OutsideErr>
         ensures answer { IfOk result
             (λ bytes. option_map (take limit) (text_of (texts_of self.old) name.now) ≡ Some bytes) }
-        ensures ok { OnOk result (told_of self.new ≡ told_of self.old) }
-        ensures failed { IsErrOf result OutsideErr.Failed
-            → told_of self.new ≡ option_map (fails name.now) (told_of self.old) }
-        ensures memory { IsErrOf result OutsideErr.NoMemory → told_of self.new ≡ told_of self.old }
-        ensures cause { HasCause (faults_so_far self.old) (faults_so_far self.new) result }
-        ensures turn { TakesTurn name.now self.old self.new result }
+        ensures shown { Answered (λ _. Untouched) (fails name.now)
+            (shown_of self.old) (shown_of self.new) result }
+        ensures turn { TakesTurn (fails_next self.old name.now)
+            (turns_of self.old) (turns_of self.new) result }
     {
-        self.readings = self.readings.saturating_add(1);
+        let is_listed = self.turns.take();
         match find(&self.texts, name.as_str()) {
-            Some(bytes) if !self.refuse.contains(&self.readings) => {
+            Some(bytes) if !is_listed => {
                 Ok(Bytes::from_slice(alloc, first_bytes(bytes.as_slice(), limit))?)
             }
             _ => {
                 self.failed.push(name.copy(alloc)?)?;
-                self.faults = self.faults.saturating_add(1);
+                self.turns.fail();
                 Err(OutsideErr::Failed)
             }
         }

@@ -1,6 +1,7 @@
 // A sink in memory.
-ghost use Rattle.std.specs.Prelude.{◌≡◌, ◌≤◌, ℕ, List, [], Option, Some, option_map, take, length, IfOk, OnErr, IsErrOf, vec_capacity};
+ghost use Rattle.std.specs.Prelude.{◌≡◌, ◌≤◌, ◌-◌, min, [], take, length, IfOk, IsErrOf, vec_capacity};
 
+use crate::turns::Turns;
 use crate::{OutsideErr, Sink};
 use cfa_base::NoMemory;
 use std::alloc::Global;
@@ -10,29 +11,24 @@ use std::alloc::Global;
 pub struct MemorySink {
     bytes: Vec<u8>,
     space: usize,
-    refuse: Vec<u32>,
-    puts: u32,
-    faults: u64,
+    turns: Turns,
     ghost room: { space ≤ vec_capacity bytes },
 }
 
 impl MemorySink {
-    ghost use Rattle.cfa_outside.specs.MemorySink.{bytes_of, space_of, refused_numbers, puts_so_far, faults_so_far};
+    ghost use Rattle.cfa_outside.specs.MemorySink.{bytes_of, space_of, turns_of};
+    ghost use Rattle.cfa_outside.specs.Turns.{no_calls};
 
     /// A sink that holds `space` bytes, taken now, whose puts of the listed numbers fail.
     pub fn new(alloc: Global, space: usize, refuse: Vec<u32>) -> Result<MemorySink, NoMemory>
         ensures bytes { IfOk result (λ sink. bytes_of sink ≡ []) }
         ensures space { IfOk result (λ sink. space_of sink ≡ space) }
-        ensures refused { IfOk result (λ sink. refused_numbers sink ≡ refuse.items) }
-        ensures puts { IfOk result (λ sink. puts_so_far sink ≡ 0) }
-        ensures faults { IfOk result (λ sink. faults_so_far sink ≡ 0) }
+        ensures turns { IfOk result (λ sink. turns_of sink ≡ no_calls refuse.items) }
     {
         Ok(MemorySink {
             bytes: Vec::with_capacity(alloc, space)?,
             space,
-            refuse,
-            puts: 0,
-            faults: 0,
+            turns: Turns::new(refuse),
         })
     }
 
@@ -45,30 +41,32 @@ impl MemorySink {
 }
 
 impl Sink for MemorySink {
-    ghost use Rattle.cfa_outside.specs.Causes.{HasCause};
+    ghost use Rattle.cfa_base.specs.Shown.{Follows};
+    ghost use Rattle.cfa_outside.specs.Answered.{Answered};
     ghost use Rattle.cfa_outside.specs.Sinks.{TakesSome, adds_bytes};
-    ghost use Rattle.cfa_outside.specs.MemorySink.{faults_so_far, told_of, TakesTurn};
+    ghost use Rattle.cfa_outside.specs.MemorySink.{bytes_of, space_of, turns_of, shown_of, fails_next};
+    ghost use Rattle.cfa_outside.specs.Turns.{TakesTurn};
 
-    ghost told = { told_of };
-
-    ghost faults = { faults_so_far };
+    ghost shown = { shown_of };
 
     fn put(&mut self, bytes: &[u8]) -> Result<usize, OutsideErr>
         ensures taken { IfOk result (λ count. TakesSome (length bytes.now) count) }
-        ensures ok { IfOk result
-            (λ count. told_of self.new ≡ option_map (adds_bytes (take count bytes.now)) (told_of self.old)) }
-        ensures failed { OnErr result (told_of self.new ≡ told_of self.old) }
+        ensures shown { Answered (λ count. Follows (adds_bytes (take count bytes.now))) (λ put. put)
+            (shown_of self.old) (shown_of self.new) result }
         ensures no_memory { IsErrOf result OutsideErr.NoMemory → ⊥ }
         ensures empty { bytes.now ≡ [] → result ≡ Ok 0 }
-        ensures cause { HasCause (faults_so_far self.old) (faults_so_far self.new) result }
-        ensures turn { TakesTurn (length bytes.now) self.old self.new result }
+        ensures turn { TakesTurn (fails_next self.old (length bytes.now))
+            (turns_of self.old) (turns_of self.new) result }
+        ensures space { space_of self.new ≡ space_of self.old }
+        ensures fits { IfOk result (λ count.
+            count ≡ min (length bytes.now) (space_of self.old - length (bytes_of self.old))) }
     {
-        self.puts = self.puts.saturating_add(1);
+        let is_listed = self.turns.take();
         if bytes.is_empty() {
             return Ok(0);
         }
-        if self.refuse.contains(&self.puts) || self.bytes.len() >= self.space {
-            self.faults = self.faults.saturating_add(1);
+        if is_listed || self.bytes.len() >= self.space {
+            self.turns.fail();
             return Err(OutsideErr::Failed);
         }
         let count = bytes.len().min(self.space - self.bytes.len());

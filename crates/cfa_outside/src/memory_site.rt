@@ -1,13 +1,12 @@
 // A site in memory.
-ghost use Rattle.std.specs.Prelude.{◌≡◌, ℕ, [], ◌∷◌, ◌++◌, Option, Some, option_map, OnOk, OnErr, IfOk, IsErrOf, IsTrue, ◌||◌};
-ghost use Rattle.cfa_outside.specs.Causes.{HasCause};
-ghost use Rattle.cfa_outside.specs.Memory.{is_listed, is_stopped, changes_after};
-ghost use Rattle.cfa_outside.specs.MemorySite.{world_of, log_of, refused_numbers, stops_after, calls_so_far, changes_so_far, faults_so_far, told_of, TakesTurn};
-ghost use Rattle.cfa_outside.specs.Sites.{look_of, after_change, adds, fits};
-ghost use Rattle.cfa_outside.specs.declared.sites.Entry.TheVariants.{Did, Refused};
+ghost use Rattle.std.specs.Prelude.{◌≡◌, [], ◌∷◌, OnOk, OnErr, IfOk, IsTrue};
+ghost use Rattle.cfa_outside.specs.Sites.{fits, after_change};
+ghost use Rattle.cfa_outside.specs.Worlds.{HasParents};
+ghost use Rattle.cfa_outside.specs.Turns.{is_stopped};
 
-use crate::{Call, Change, Entry, Look, Node, OutsideErr, Path, Site, World};
-use cfa_base::NoMemory;
+use crate::turns::Turns;
+use crate::{Call, Change, Entry, Look, OutsideErr, Path, Perms, ServiceRow, Site, World};
+use cfa_base::{Bytes, Key, Name, NoMemory};
 use std::alloc::Global;
 
 /// A world in memory, with a log. Calls are numbered from 1.
@@ -15,14 +14,16 @@ use std::alloc::Global;
 pub struct MemorySite {
     world: World,
     log: Vec<Entry>,
-    refuse: Vec<u32>,
+    turns: Turns,
     stop: Option<u32>,
-    calls: u32,
     changes: u32,
-    faults: u64,
+    ghost parents: { HasParents world.nodes },
 }
 
 impl MemorySite {
+    ghost use Rattle.cfa_outside.specs.MemorySite.{world_of, log_of, turns_of, stops_after, changes_so_far, Sees};
+    ghost use Rattle.cfa_outside.specs.Turns.{no_calls};
+
     /// A site with this world and an empty log. Its calls of the listed numbers fail, and after `stop` changes every
     /// call.
     pub fn new(
@@ -33,20 +34,17 @@ impl MemorySite {
     ) -> Result<MemorySite, NoMemory>
         ensures world { IfOk result (λ site. world_of site ≡ world) }
         ensures log { IfOk result (λ site. log_of site ≡ []) }
-        ensures refused { IfOk result (λ site. refused_numbers site ≡ refuse.items) }
+        ensures turns { IfOk result (λ site. turns_of site ≡ no_calls refuse.items) }
         ensures stop { IfOk result (λ site. stops_after site ≡ stop) }
-        ensures calls { IfOk result (λ site. calls_so_far site ≡ 0) }
         ensures changes { IfOk result (λ site. changes_so_far site ≡ 0) }
-        ensures faults { IfOk result (λ site. faults_so_far site ≡ 0) }
     {
+        world.nodes.have_parents();
         Ok(MemorySite {
             world,
             log: Vec::new(alloc),
-            refuse,
+            turns: Turns::new(refuse),
             stop,
-            calls: 0,
             changes: 0,
-            faults: 0,
         })
     }
 
@@ -57,6 +55,13 @@ impl MemorySite {
         &self.world
     }
 
+    /// The world as it stands, taken out without taking memory.
+    pub fn into_world(self) -> World
+        ensures { result ≡ world_of self }
+    {
+        self.world
+    }
+
     /// The log so far, without taking memory.
     pub fn log(&self) -> &[Entry]
         ensures { result.now ≡ log_of self.now }
@@ -64,11 +69,17 @@ impl MemorySite {
         self.log.as_slice()
     }
 
-    // Whether the call that has just been numbered fails.
-    fn fails(&self) -> bool
-        ensures { result ≡ (is_listed (calls_so_far self.now) (refused_numbers self.now) || is_stopped (stops_after self.now) (changes_so_far self.now)) }
+    // Numbers a call, and logs it as refused where it fails.
+    fn begin(&mut self, call: Call) -> Result<(), OutsideErr>
+        ensures { Sees call self.old self.new result }
     {
-        self.refuse.contains(&self.calls) || tests_as_stopped(self.stop, self.changes)
+        let is_listed = self.turns.take();
+        if is_listed || tests_as_stopped(self.stop, self.changes) {
+            self.log.push(Entry::Refused(call))?;
+            self.turns.fail();
+            return Err(OutsideErr::Failed);
+        }
+        Ok(())
     }
 }
 
@@ -81,77 +92,113 @@ fn tests_as_stopped(stop: Option<u32>, changes: u32) -> bool
     }
 }
 
-#[tactic(auto, unfolding(crate::specs::Sites::look_of))]
-fn look_at(alloc: Global, world: &World, path: &Path) -> Result<Look, NoMemory>
-    ensures { IfOk result (λ look. look ≡ look_of world.now path.now) }
-{
-    match world.nodes.get(path) {
-        Some(Node::File(bytes, _)) => Ok(Look::File(bytes.as_slice().len() as u64)),
-        Some(Node::Dir(_)) => Ok(Look::Dir(!world.nodes.has_below(alloc, path)?)),
-        None => {
-            if world.nodes.is_blocked(path) {
-                Ok(Look::Blocked)
-            } else {
-                Ok(Look::Nothing)
-            }
-        }
-    }
-}
-
 #[tactic(auto, unfolding(crate::specs::Sites::after_change))]
 fn apply(alloc: Global, world: &mut World, change: &Change) -> Result<(), NoMemory>
+    requires { IsTrue (fits change.now world.old) }
     ensures ok { OnOk result (world.new ≡ after_change change.now world.old) }
     ensures err { OnErr result (world.new ≡ world.old) }
 {
     match change {
         Change::PutFile(path, bytes) => world.nodes.put_file(alloc, path, bytes),
+        Change::PutDir(path) => world.nodes.put_directory(alloc, path),
+        Change::Remove(path) => {
+            world.nodes.remove(path);
+            Ok(())
+        }
+        Change::SetPerms(path, perms) => world.nodes.set_perms(alloc, path, perms),
+        Change::PutService(name, row) => {
+            let key = String::from_str(alloc, name.as_str())?;
+            world.services.insert(key, *row)
+        }
+        Change::PutLock(key, moment) => {
+            let key = String::from_str(alloc, key.text())?;
+            world.locks.insert(key, *moment)
+        }
+        Change::Append(bytes) => world.journal.append(bytes.as_slice()),
     }
 }
 
 impl Site for MemorySite {
-    ghost told = { told_of };
+    ghost use Rattle.std.specs.FinMap as map;
+    ghost use Rattle.std.specs.Prelude.{Some};
+    ghost use Rattle.cfa_base.specs.Shown.{Follows};
+    ghost use Rattle.cfa_outside.specs.Answered.{Answered};
+    ghost use Rattle.cfa_outside.specs.MemorySite.{world_of, turns_of, stops_after, changes_so_far, changes_after, shown_of, fails_next, Sees};
+    ghost use Rattle.cfa_outside.specs.Worlds.{is_readable, bytes_in, perms_in};
+    ghost use Rattle.cfa_outside.specs.Sites.{look_of, adds};
+    ghost use Rattle.cfa_outside.specs.Turns.{TakesTurn};
+    ghost use Rattle.cfa_outside.specs.declared.sites.Entry.TheVariants.{Did, Refused};
 
-    ghost faults = { faults_so_far };
+    ghost shown = { shown_of };
+
+    ghost parents = { λ site. site.parents };
 
     fn look(&mut self, alloc: Global, path: &Path) -> Result<Look, OutsideErr>
         ensures answer { IfOk result (λ look. look ≡ look_of (world_of self.old) path.now) }
-        ensures ok { OnOk result (told_of self.new ≡ told_of self.old) }
-        ensures failed { IsErrOf result OutsideErr.Failed
-            → told_of self.new ≡ option_map (adds (Refused Call.Look ∷ [])) (told_of self.old) }
-        ensures memory { IsErrOf result OutsideErr.NoMemory → told_of self.new ≡ told_of self.old }
-        ensures cause { HasCause (faults_so_far self.old) (faults_so_far self.new) result }
-        ensures turn { TakesTurn self.old self.new result }
-        ensures changes { changes_so_far self.new ≡ changes_so_far self.old }
+        ensures seen { Sees Call.Look self.old self.new result }
     {
-        self.calls = self.calls.saturating_add(1);
-        if self.fails() {
-            self.log.push(Entry::Refused(Call::Look))?;
-            self.faults = self.faults.saturating_add(1);
-            return Err(OutsideErr::Failed);
+        self.begin(Call::Look)?;
+        Ok(self.world.nodes.look(alloc, path)?)
+    }
+
+    fn read(&mut self, alloc: Global, path: &Path) -> Result<Bytes, OutsideErr>
+        requires { IsTrue (is_readable (map.get (world_of self.old).nodes path.now)) }
+        ensures answer { IfOk result
+            (λ bytes. bytes_in (map.get (world_of self.old).nodes path.now) ≡ Some bytes) }
+        ensures seen { Sees Call.Read self.old self.new result }
+    {
+        self.begin(Call::Read)?;
+        match self.world.nodes.bytes(path) {
+            Some(bytes) => Ok(bytes.copy(alloc)?),
+            None => unreachable!(),
         }
-        Ok(look_at(alloc, &self.world, path)?)
+    }
+
+    fn perms(&mut self, alloc: Global, path: &Path) -> Result<Perms, OutsideErr>
+        requires { IsTrue (map.contains_key (world_of self.old).nodes path.now) }
+        ensures answer { IfOk result
+            (λ perms. perms_in (map.get (world_of self.old).nodes path.now) ≡ Some perms) }
+        ensures seen { Sees Call.Perms self.old self.new result }
+    {
+        self.begin(Call::Perms)?;
+        match self.world.nodes.perms(path) {
+            Some(perms) => Ok(perms.copy(alloc)?),
+            None => unreachable!(),
+        }
+    }
+
+    fn service(&mut self, alloc: Global, name: &Name) -> Result<Option<ServiceRow>, OutsideErr>
+        ensures answer { IfOk result
+            (λ row. row ≡ map.get (world_of self.old).services name.now) }
+        ensures seen { Sees Call.Service self.old self.new result }
+    {
+        self.begin(Call::Service)?;
+        Ok(self.world.services.get(name.as_str()).copied())
+    }
+
+    fn lock(&mut self, alloc: Global, key: &Key) -> Result<Option<u64>, OutsideErr>
+        ensures answer { IfOk result
+            (λ moment. moment ≡ map.get (world_of self.old).locks key.now) }
+        ensures seen { Sees Call.Lock self.old self.new result }
+    {
+        self.begin(Call::Lock)?;
+        Ok(self.world.locks.get(key.text()).copied())
     }
 
     fn change(&mut self, alloc: Global, change: &Change) -> Result<(), OutsideErr>
         requires { IsTrue (fits change.now (world_of self.old)) }
-        ensures ok { OnOk result
-            (told_of self.new ≡ option_map (adds (Did change.now ∷ [])) (told_of self.old)) }
-        ensures failed { IsErrOf result OutsideErr.Failed
-            → told_of self.new ≡ option_map (adds (Refused Call.Change ∷ [])) (told_of self.old) }
-        ensures memory { IsErrOf result OutsideErr.NoMemory → told_of self.new ≡ told_of self.old }
-        ensures cause { HasCause (faults_so_far self.old) (faults_so_far self.new) result }
-        ensures turn { TakesTurn self.old self.new result }
+        ensures shown { Answered (λ _. Follows (adds (Did change.now ∷ [])))
+            (adds (Refused Call.Change ∷ [])) (shown_of self.old) (shown_of self.new) result }
+        ensures turn { TakesTurn (fails_next self.old)
+            (turns_of self.old) (turns_of self.new) result }
+        ensures stop { stops_after self.new ≡ stops_after self.old }
         ensures changes { changes_so_far self.new ≡ changes_after result (changes_so_far self.old) }
     {
-        self.calls = self.calls.saturating_add(1);
-        if self.fails() {
-            self.log.push(Entry::Refused(Call::Change))?;
-            self.faults = self.faults.saturating_add(1);
-            return Err(OutsideErr::Failed);
-        }
+        self.begin(Call::Change)?;
         let entry = Entry::Did(change.copy(alloc)?);
         self.log.reserve(1)?;
         apply(alloc, &mut self.world, change)?;
+        self.world.nodes.have_parents();
         self.log.push(entry).unwrap();
         self.changes = self.changes.saturating_add(1);
         Ok(())

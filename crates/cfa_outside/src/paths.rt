@@ -58,6 +58,8 @@ impl Model for Path {
     ghost Value = { List ℕ };
 
     ghost view = { λ p. p.text };
+
+    ghost invariant = { λ p. path_of p.text ≡ Some p.text };
 }
 
 impl Path {
@@ -83,7 +85,8 @@ impl Path {
 
     /// The path's text, with each run of slashes as one, without taking memory.
     pub fn text(&self) -> &Name
-        ensures { result.now ≡ self.now }
+        ensures same { result.now ≡ self.now }
+        ensures path { path_of self.now ≡ Some self.now }
     {
         &self.text
     }

@@ -1,8 +1,10 @@
 // A builder of patterns by the crate `regex`.
-ghost use Rattle.std.specs.Prelude.{◌≡◌, [], not, IsTrue, option_map, IfOk, OnOk, IsErrOf};
-ghost use Rattle.cfa_base.specs.Patterns.{pattern_of, is_pattern, refuses, HasSizeCause};
-ghost use Rattle.cfa_outside.specs.RegexPatterns.{refused_texts, refused_numbers, builds_so_far, refusals_so_far, told_of, TakesTurn};
+ghost use Rattle.std.specs.Prelude.{◌≡◌, [], not, IsTrue, IfOk, OnOk, IsErrOf};
+ghost use Rattle.cfa_base.specs.Patterns.{pattern_of, is_pattern, refused_by, SizeRefusal};
+ghost use Rattle.cfa_outside.specs.RegexPatterns.{refused_texts, turns_of, shown_of, is_too_big};
+ghost use Rattle.cfa_outside.specs.Turns.{no_calls, after_call, is_next_listed};
 
+use crate::turns::Turns;
 use cfa_base::{How, Name, Names, Pattern, PatternErr, Patterns};
 use std::alloc::Global;
 
@@ -10,9 +12,7 @@ use std::alloc::Global;
 #[derive(Debug, Drop)]
 pub struct RegexPatterns {
     refused: Names,
-    refuse: Vec<u32>,
-    builds: u32,
-    refusals: u64,
+    turns: Turns,
 }
 
 impl RegexPatterns {
@@ -20,48 +20,38 @@ impl RegexPatterns {
     /// these it refuses what `regex` finds too big. It takes no memory.
     pub fn new(alloc: Global, refuse: Vec<u32>) -> RegexPatterns
         ensures refused { refused_texts result ≡ [] }
-        ensures numbers { refused_numbers result ≡ refuse.items }
-        ensures builds { builds_so_far result ≡ 0 }
-        ensures refusals { refusals_so_far result ≡ 0 }
+        ensures turns { turns_of result ≡ no_calls refuse.items }
     {
         RegexPatterns {
             refused: Names::new(alloc),
-            refuse,
-            builds: 0,
-            refusals: 0,
+            turns: Turns::new(refuse),
         }
     }
 }
 
 impl Patterns for RegexPatterns {
-    ghost told = { told_of };
-
-    ghost refusals = { refusals_so_far };
+    ghost shown = { shown_of };
 
     fn build(&mut self, alloc: Global, text: &Name, how: How) -> Result<Pattern, PatternErr>
         ensures pattern { IfOk result (λ p. p ≡ pattern_of how text.now) }
         ensures reads { OnOk result (IsTrue (is_pattern how text.now)) }
         ensures bad { IsErrOf result PatternErr.Bad → IsTrue (not (is_pattern how text.now)) }
         ensures too_big { IsErrOf result PatternErr.TooBig → IsTrue (is_pattern how text.now) }
-
-        ensures ok_told { OnOk result (told_of self.new ≡ told_of self.old) }
-        ensures bad_told { IsErrOf result PatternErr.Bad → told_of self.new ≡ told_of self.old }
-        ensures too_big_told { IsErrOf result PatternErr.TooBig
-            → told_of self.new ≡ option_map (refuses text.now) (told_of self.old) }
-        ensures memory_told { IsErrOf result PatternErr.NoMemory → told_of self.new ≡ told_of self.old }
-        ensures cause { HasSizeCause (refusals_so_far self.old) (refusals_so_far self.new) result }
-        ensures turn { TakesTurn self.old self.new result }
+        ensures shown { SizeRefusal (λ refused. refused ≡ text.now) (refused_by text.now result)
+            (shown_of self.old) (shown_of self.new) }
+        ensures turn { turns_of self.new ≡ after_call (is_too_big result) (turns_of self.old) }
+        ensures listed { OnOk result (IsTrue (not (is_next_listed (turns_of self.old)))) }
     {
-        self.builds = self.builds.saturating_add(1);
+        let is_listed = self.turns.take();
         match Pattern::new(alloc, text, how) {
-            Ok(pattern) if !self.refuse.contains(&self.builds) => return Ok(pattern),
+            Ok(pattern) if !is_listed => return Ok(pattern),
             Ok(_) => {}
             Err(PatternErr::TooBig) => {}
             Err(PatternErr::Bad) => return Err(PatternErr::Bad),
             Err(PatternErr::NoMemory) => return Err(PatternErr::NoMemory),
         }
         self.refused.push(text.copy(alloc)?)?;
-        self.refusals = self.refusals.saturating_add(1);
+        self.turns.fail();
         Err(PatternErr::TooBig)
     }
 }

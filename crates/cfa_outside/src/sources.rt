@@ -1,6 +1,7 @@
 // Where policies and journals are read from.
-ghost use Rattle.std.specs.Prelude.{◌≡◌, ℕ, Option, Some, option_map, take, IfOk, OnOk, IfSome, IsErrOf};
-ghost use Rattle.cfa_outside.specs.Causes.{HasCause};
+ghost use Rattle.std.specs.Prelude.{◌≡◌, Some, option_map, take, IfOk, IfSome};
+ghost use Rattle.cfa_base.specs.Shown.{Shown, Untouched};
+ghost use Rattle.cfa_outside.specs.Answered.{Answered};
 ghost use Rattle.cfa_outside.specs.Inputs.{Library, text_of, fails};
 
 use crate::OutsideErr;
@@ -9,20 +10,15 @@ use std::alloc::Global;
 
 /// Texts that are read by their names. No reading changes them.
 pub trait Inputs {
-    /// The texts, and the names whose reading failed, where the object tells them.
-    ghost told: { Self → Option Library };
-
-    /// How often a reading failed, as a number below 2 ^ 64 that stands still at its end.
-    ghost faults: { Self → ℕ };
+    /// The texts and the names whose reading failed, where the object tells them, and how often a reading failed, as a
+    /// number below 2 ^ 64 that stands still at its end.
+    ghost shown: { Self → Shown Library };
 
     /// The first bytes of the text of that name, at most `limit`. `Failed` adds the name to those whose reading
     /// failed; a missing name is one cause of it.
     fn read(&mut self, alloc: Global, name: &Name, limit: u32) -> Result<Bytes, OutsideErr>
-        ensures answer { IfOk result (λ bytes. IfSome (told self.old)
+        ensures answer { IfOk result (λ bytes. IfSome (shown self.old).told
             (λ t. option_map (take limit) (text_of t.texts name.now) ≡ Some bytes)) }
-        ensures ok { OnOk result (told self.new ≡ told self.old) }
-        ensures failed { IsErrOf result OutsideErr.Failed
-            → told self.new ≡ option_map (fails name.now) (told self.old) }
-        ensures memory { IsErrOf result OutsideErr.NoMemory → told self.new ≡ told self.old }
-        ensures cause { HasCause (faults self.old) (faults self.new) result };
+        ensures shown { Answered (λ _. Untouched) (fails name.now)
+            (shown self.old) (shown self.new) result };
 }

@@ -11,8 +11,8 @@ use Rattle.cfa_tree.specs.Grammar.{token, Levels, Guard, Value, an_item, a_word,
 use Rattle.cfa_tree.specs.Guards.{GuardState, guard_start, GuardProgress, goes_on as guard_goes_on, ended as guard_ended, guard_step}
 use Rattle.cfa_parser.specs.Values.{ValueState, value_start, ValueProgress, goes_on as value_goes_on, ended as value_ended, value_step}
 use Rattle.cfa_parser.specs.Machine.{OpenSection, OpenPromise, SectionState, between_promises, has_word, in_guard, has_promiser, in_promisee, wants_attribute, has_name, in_value, BundleState, no_section as no_section_yet, has_section_word, in_section, BodyState, between_attributes, has_body_name, in_body_value, Section, guard_next, with_guard, new_section, new_promise, with_attribute, with_promise, closed_section, guard_word, section_step, within, promisee_next, attribute_next, promiser_next, value_next, BundleProgress, goes_on, ended, in_section_step, bundle_step, BodyProgress, body_goes_on, body_ended, body_value_next, body_step}
-use Rattle.cfa_tree.proofs.Lists.{append_one}
-use Rattle.cfa_tree.proofs.GuardRest.{GuardRest, GuardEarlier, guard_earlier, guard_alive, guard_starts}
+use Rattle.cfa_tree.specs.lemmas.Lists.{append_one}
+use Rattle.cfa_tree.specs.lemmas.GuardRest.{GuardRest, GuardEarlier, guard_earlier, guard_alive, guard_starts}
 use Rattle.cfa_parser.proofs.ValueRest.{ValueRest, ValueEarlier, value_earlier, value_alive, value_starts}
 
 abbrev pub with_attributes : OpenPromise → List AttributeTree → OpenPromise

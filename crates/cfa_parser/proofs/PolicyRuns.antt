@@ -9,9 +9,9 @@ use Rattle.cfa_tree.specs.Grammar.{token, Levels, dot, ampersand, not_atom, in_p
 use Rattle.cfa_tree.specs.Guards.{guard_start}
 use Rattle.cfa_parser.specs.Values.{ValueState, ended, value_step}
 use Rattle.cfa_parser.specs.Machine.{OpenSection, OpenPromise, SectionState, between_promises, has_word, in_guard, has_promiser, in_promisee, wants_attribute, in_value, no_section as no_section_yet, in_section, between_attributes, in_body_value, Heading, State, between_blocks, has_block_name, has_param, wants_first_param, wants_param, in_bundle, in_body, Machine, start, BlockWord, bundle_word, body_word, guard_next, with_guard, new_promise, with_attribute, with_promise, closed_section, guard_word, within, promisee_next, value_next, body_value_next, machine, named, with_param, new_heading, block_opened, closed_bundle, closed_body, bundle_next, body_next, step, run}
-use Rattle.cfa_tree.proofs.Lists.{append_one}
-use Rattle.cfa_tree.proofs.Levels.{left_of-none}
-use Rattle.cfa_tree.proofs.GuardRuns.{guard_run}
+use Rattle.cfa_tree.specs.lemmas.Lists.{append_one}
+use Rattle.cfa_tree.specs.lemmas.Levels.{left_of-none}
+use Rattle.cfa_tree.specs.lemmas.GuardRuns.{guard_run}
 use Rattle.cfa_parser.proofs.ValueRuns.{Behind, taken, word_behind, value_run}
 
 -- a token other than an open parenthesis ends a whole value

@@ -5,8 +5,8 @@ use Rattle.std.proofs.lemmas.Bool.{ltb-true, ltb-false, le-ltb, false≢true}
 use Rattle.std.proofs.lemmas.Str.{IsUtf8-nil, IsUtf8-append, IsUtf8-between, IsCharBoundary-after_ascii, IsCharBoundary-before_ascii, encode_ascii, length-encode, len_utf8_bounds}
 use Rattle.cfa_base.specs.declared.tokens.Kind.TheVariants.{Text}
 use Rattle.cfa_base.specs.Lexing.{is_quote, closes, is_quoted, is_reference, is_escapable, unescaped, content_of, name_of}
-use Rattle.cfa_base.proofs.Boundaries.{ends_ascii, spelled_ends}
-use Rattle.cfa_base.proofs.Taking.{Brackets, parentheses, braces, reference_of}
+use Rattle.cfa_base.specs.lemmas.Boundaries.{ends_ascii, spelled_ends}
+use Rattle.cfa_base.specs.lemmas.Taking.{Brackets, parentheses, braces, reference_of}
 use borrow.Author.Tests.{ne_eqb}
 use lib.Utf8.{scalar, scalars, low_scalar, encode, encodes}
 

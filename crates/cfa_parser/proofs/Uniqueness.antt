@@ -7,7 +7,7 @@ use Rattle.cfa_tree.specs.Grammar.{Levels, unlimited, depth_limit, ReadsWithin, 
 use Rattle.cfa_parser.specs.Laws.{Answer, tree, unexpected, too_deep, Answers}
 use Rattle.cfa_parser.specs.Machine.{between_blocks, start, machine}
 use Rattle.cfa_parser.specs.Reading.{UnexpectedToken, UnexpectedAt, TooDeepAt}
-use Rattle.cfa_tree.proofs.Lists.{append_one}
+use Rattle.cfa_tree.specs.lemmas.Lists.{append_one}
 use Rattle.cfa_parser.proofs.Limits.{run_beyond}
 use Rattle.cfa_parser.proofs.PolicyRuns.{reads_run}
 use Rattle.cfa_parser.proofs.Readings.{one_tree, whole_reads}

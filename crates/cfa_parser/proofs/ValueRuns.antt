@@ -10,8 +10,8 @@ use Rattle.cfa_tree.specs.Grammar.{token, Levels, Value, a_list, an_item, Item, 
 use Rattle.cfa_tree.specs.Room.{left_of, only_if}
 use Rattle.cfa_parser.specs.Values.{OpenList, OpenCall, ValueState, wants_value, has_word, has_paren, goes_on, with_item, with_argument, value_taken, list_closed, call_closed, going_on, new_call, value_step}
 use Rattle.cfa_parser.specs.Machine.{Machine, step, run}
-use Rattle.cfa_tree.proofs.Lists.{append_one}
-use Rattle.cfa_tree.proofs.Levels.{opens_room}
+use Rattle.cfa_tree.specs.lemmas.Lists.{append_one}
+use Rattle.cfa_tree.specs.lemmas.Levels.{opens_room}
 
 -- a value within a policy: its steps are steps of the whole
 abbrev pub ValueLifts : Levels → (ValueState → Machine) → Type 0

@@ -2,6 +2,7 @@
 -- each path, and a closing line, each ended by a newline.
 use Rattle.std.specs.Prelude.{ℕ, ◌+◌, ◌-◌, ◌<◌, ◌≤◌, ◌≡◌, List, [], ◌∷◌, ◌++◌, Bool, true, ◌&&◌, ◌||◌, ◌==◌, nat_le, length, take, get_or, map, codes, is_some, ◌⊎◌}
 use Rattle.std.specs.List.{list_all, slice_split}
+use Rattle.cfa_base.specs.declared.limits.TheConstants.{MOST_SOURCE_BYTES}
 use Rattle.cfa_outside.specs.Paths.{path_of}
 use Rattle.cfa_parser.specs.declared.first.FirstPromise.{FirstPromise}
 use Rattle.cfa_parser.specs.declared.first.FirstErr.{FirstErr}
@@ -59,7 +60,7 @@ pub record IsForm (head lines : List (List ℕ)) (tail : List ℕ) (paths : List
 
 -- the text is one of the form: of at most 1,048,576 bytes, and made of the form's lines for some paths
 pub record IsOfForm (text : List ℕ) : Type 0 where
-  pub short : length text ≤ 1048576
+  pub short : length text ≤ MOST_SOURCE_BYTES
   pub paths : List (List ℕ)
   pub form : IsForm head_lines (whole_lines text) (tail_of text) paths
 
@@ -90,4 +91,4 @@ Numbered n (p ∷ ps) = (p.line ≡ n) × Numbered (n + 1) ps
 -- a refusal carries the first bad line, or 0 for a text that is too long
 abbrev pub Refuses : List ℕ → FirstErr → Type 0
 Refuses text NoMemory = Unit {0}
-Refuses text (OtherForm m) = ((m ≡ 0) × (1048576 < length text)) ⊎ ((length text ≤ 1048576) × FirstBad 1 head_lines (whole_lines text) (tail_of text) m)
+Refuses text (OtherForm m) = ((m ≡ 0) × (MOST_SOURCE_BYTES < length text)) ⊎ ((length text ≤ MOST_SOURCE_BYTES) × FirstBad 1 head_lines (whole_lines text) (tail_of text) m)

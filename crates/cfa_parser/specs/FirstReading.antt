@@ -1,4 +1,4 @@
--- A reading of the first form, line by line: what the parts of `read_first` compute.
+-- Of the code alone: a reading of the first form, line by line: what the parts of `read_first` compute.
 use Rattle.std.specs.Prelude.{ℕ, ◌+◌, ◌-◌, ◌≡◌, List, [], ◌∷◌, ◌++◌, Bool, ◌&&◌, ◌==◌, nat_le, if◌then◌else◌, length, take, drop, Option, Some, None, Result, Ok, Err}
 use Rattle.std.specs.Str.{bytes_eq}
 use Rattle.cfa_parser.specs.declared.first.FirstPromise.{FirstPromise}

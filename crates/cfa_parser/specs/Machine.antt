@@ -1,4 +1,4 @@
--- Reading a policy token by token: what was read so far, and what one more token makes of it. Each step looks at one
+-- Of the code alone: reading a policy token by token, what was read so far, and what one more token makes of it. Each step looks at one
 -- token alone. That these steps are the grammar is proved, not assumed.
 use Rattle.std.specs.Prelude.{ℕ, List, [], ◌∷◌, ◌++◌, Option, Some, None, if◌then◌else◌, codes}
 use Rattle.std.specs.Str.{bytes_eq}

@@ -1,4 +1,4 @@
--- The state that a reader of the program is in, without where it lies in memory. A stack stands innermost first.
+-- Of the code alone: the state that a reader of the program is in, without where it lies in memory. A stack stands innermost first.
 use Rattle.std.specs.Prelude.{List, map, reverse, option_map}
 use Rattle.cfa_tree.specs.SeenGuards.{seen_guard}
 use Rattle.cfa_tree.specs.Plain.{plain_expr, plain_value, plain_attribute, plain_promise, plain_section, plain_named, plain_block}
@@ -56,7 +56,7 @@ seen_value_progress (ValueGoesOn v) = values.goes_on (seen_value v)
 seen_value_progress (ValueEnded v) = values.ended (plain_value v)
 
 abbrev pub seen_open_section : OpenSection → machine.OpenSection
-seen_open_section s = record { kind = s.kind; place = s.place; promises = map plain_promise s.promises.items; guard = option_map plain_expr s.guard }
+seen_open_section s = record { kind = s.kind; place = s.place; promises = map plain_promise s.promises.promises; guard = option_map plain_expr s.promises.guard }
 
 abbrev pub seen_open_promise : OpenPromise → machine.OpenPromise
 seen_open_promise o = record { promiser = o.promiser; place = o.place; promisee = option_map plain_value o.promisee; attributes = map plain_attribute o.attributes.items }

@@ -1,4 +1,4 @@
--- Reading a value token by token: the calls and lists that are open, and what one more token makes of them.
+-- Of the code alone: reading a value token by token, the calls and lists that are open, and what one more token makes of them.
 use Rattle.std.specs.Prelude.{ℕ, List, [], ◌∷◌, ◌++◌, length, Option, Some, None}
 use Rattle.cfa_base.specs.declared.places.Place.{Place}
 use Rattle.cfa_base.specs.declared.tokens.Kind.{Kind}

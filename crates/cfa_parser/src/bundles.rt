@@ -1,9 +1,8 @@
 // The reading of bundles and bodies behind their brace, token by token.
 ghost use Rattle.std.specs.Prelude.{◌≡◌, ◌++◌, ◌∷◌, [], Some, None, IfOk, IfErr, map};
-ghost use Rattle.cfa_tree.specs.Grammar.{unlimited, depth_limit};
 ghost use Rattle.cfa_tree.specs.Plain.{plain_attribute, plain_section, plain_value};
 ghost use Rattle.cfa_parser.specs.Machine.{closed_section, section_step, within, in_section_step, bundle_step, body_step, body_value_next, between_promises, between_attributes, has_word, has_section_word, no_section, has_body_name};
-ghost use Rattle.cfa_parser.specs.Refused.{Refused, OnlyMemory};
+ghost use Rattle.cfa_parser.specs.Refused.{Takes, OnlyMemory};
 ghost use Rattle.cfa_parser.specs.Seen.{seen_value_progress, seen_open_section, seen_section_state, seen_bundle_state, seen_bundle_progress, seen_body_state, seen_body_progress};
 
 use crate::ParseErr;
@@ -11,7 +10,7 @@ use crate::sections::{OpenSection, SectionState, take_in_section};
 use crate::values::{ValueProgress, ValueState, take_in_value, value_start};
 use cfa_base::{Kind, Name, Place};
 use cfa_lexer::Token;
-use cfa_tree::{Attribute, Promises, Section};
+use cfa_tree::{Attribute, Section};
 use std::alloc::Global;
 
 // Where the reading stands within a bundle.
@@ -46,13 +45,14 @@ pub enum BodyProgress {
 
 fn with_section(sections: Vec<Section>, section: OpenSection) -> Result<Vec<Section>, ParseErr>
     ensures ok { IfOk result
-        (λ all. map plain_section all.items ≡ map plain_section sections.items ++ closed_section (seen_open_section section) ∷ []) }
+        (λ all. map plain_section all.items
+        ≡ map plain_section sections.items ++ closed_section (seen_open_section section) ∷ []) }
     ensures memory { IfErr result OnlyMemory }
 {
     let mut sections = sections;
     sections.push(Section {
         kind: section.kind,
-        promises: Promises::from_vec(section.promises),
+        promises: section.promises.into_promises(),
         place: section.place,
     })?;
     Ok(sections)
@@ -65,11 +65,9 @@ fn stay_in_section(
     state: SectionState,
     token: &Token<'_>,
 ) -> Result<BundleProgress, ParseErr>
-    ensures ok { IfOk result
-        (λ b. within (map plain_section sections.items) (section_step depth_limit (seen_open_section section) (seen_section_state state) token.now.kind token.now.text.now token.now.place) ≡ Some (seen_bundle_progress b)) }
-    ensures refused { IfErr result
-        (Refused token.now.place (within (map plain_section sections.items) (section_step depth_limit (seen_open_section section) (seen_section_state state) token.now.kind token.now.text.now token.now.place))
-        (within (map plain_section sections.items) (section_step unlimited (seen_open_section section) (seen_section_state state) token.now.kind token.now.text.now token.now.place))) }
+    ensures { Takes seen_bundle_progress token.now (λ limit k x p. within
+        (map plain_section sections.items) (section_step limit (seen_open_section section)
+        (seen_section_state state) k x p)) result }
 {
     let standing = take_in_section(alloc, section, state, token)?;
     Ok(BundleProgress::GoesOn(
@@ -84,11 +82,8 @@ fn take_between_promises(
     section: OpenSection,
     token: &Token<'_>,
 ) -> Result<BundleProgress, ParseErr>
-    ensures ok { IfOk result
-        (λ b. in_section_step depth_limit (map plain_section sections.items) (seen_open_section section) between_promises token.now.kind token.now.text.now token.now.place ≡ Some (seen_bundle_progress b)) }
-    ensures refused { IfErr result
-        (Refused token.now.place (in_section_step depth_limit (map plain_section sections.items) (seen_open_section section) between_promises token.now.kind token.now.text.now token.now.place)
-        (in_section_step unlimited (map plain_section sections.items) (seen_open_section section) between_promises token.now.kind token.now.text.now token.now.place)) }
+    ensures { Takes seen_bundle_progress token.now (λ limit. in_section_step limit
+        (map plain_section sections.items) (seen_open_section section) between_promises) result }
 {
     match token.kind {
         Kind::CloseBrace => Ok(BundleProgress::Ended(with_section(sections, section)?)),
@@ -110,11 +105,9 @@ fn take_behind_word(
     place: Place,
     token: &Token<'_>,
 ) -> Result<BundleProgress, ParseErr>
-    ensures ok { IfOk result
-        (λ b. in_section_step depth_limit (map plain_section sections.items) (seen_open_section section) (has_word name place) token.now.kind token.now.text.now token.now.place ≡ Some (seen_bundle_progress b)) }
-    ensures refused { IfErr result
-        (Refused token.now.place (in_section_step depth_limit (map plain_section sections.items) (seen_open_section section) (has_word name place) token.now.kind token.now.text.now token.now.place)
-        (in_section_step unlimited (map plain_section sections.items) (seen_open_section section) (has_word name place) token.now.kind token.now.text.now token.now.place)) }
+    ensures { Takes seen_bundle_progress token.now (λ limit. in_section_step limit
+        (map plain_section sections.items) (seen_open_section section)
+        (has_word name place)) result }
 {
     match token.kind {
         Kind::Colon => Ok(BundleProgress::GoesOn(
@@ -141,11 +134,9 @@ fn take_in_open_section(
     state: SectionState,
     token: &Token<'_>,
 ) -> Result<BundleProgress, ParseErr>
-    ensures ok { IfOk result
-        (λ b. in_section_step depth_limit (map plain_section sections.items) (seen_open_section section) (seen_section_state state) token.now.kind token.now.text.now token.now.place ≡ Some (seen_bundle_progress b)) }
-    ensures refused { IfErr result
-        (Refused token.now.place (in_section_step depth_limit (map plain_section sections.items) (seen_open_section section) (seen_section_state state) token.now.kind token.now.text.now token.now.place)
-        (in_section_step unlimited (map plain_section sections.items) (seen_open_section section) (seen_section_state state) token.now.kind token.now.text.now token.now.place)) }
+    ensures { Takes seen_bundle_progress token.now (λ limit. in_section_step limit
+        (map plain_section sections.items) (seen_open_section section)
+        (seen_section_state state)) result }
 {
     match state {
         SectionState::BetweenPromises => take_between_promises(alloc, sections, section, token),
@@ -161,11 +152,8 @@ fn take_first_word(
     sections: Vec<Section>,
     token: &Token<'_>,
 ) -> Result<BundleProgress, ParseErr>
-    ensures ok { IfOk result
-        (λ b. bundle_step depth_limit (map plain_section sections.items) no_section token.now.kind token.now.text.now token.now.place ≡ Some (seen_bundle_progress b)) }
-    ensures refused { IfErr result
-        (Refused token.now.place (bundle_step depth_limit (map plain_section sections.items) no_section token.now.kind token.now.text.now token.now.place)
-        (bundle_step unlimited (map plain_section sections.items) no_section token.now.kind token.now.text.now token.now.place)) }
+    ensures { Takes seen_bundle_progress token.now (λ limit. bundle_step limit
+        (map plain_section sections.items) no_section) result }
 {
     match token.kind {
         Kind::Word => {
@@ -184,11 +172,8 @@ fn take_colon(
     place: Place,
     token: &Token<'_>,
 ) -> Result<BundleProgress, ParseErr>
-    ensures ok { IfOk result
-        (λ b. bundle_step depth_limit (map plain_section sections.items) (has_section_word word place) token.now.kind token.now.text.now token.now.place ≡ Some (seen_bundle_progress b)) }
-    ensures refused { IfErr result
-        (Refused token.now.place (bundle_step depth_limit (map plain_section sections.items) (has_section_word word place) token.now.kind token.now.text.now token.now.place)
-        (bundle_step unlimited (map plain_section sections.items) (has_section_word word place) token.now.kind token.now.text.now token.now.place)) }
+    ensures { Takes seen_bundle_progress token.now (λ limit. bundle_step limit
+        (map plain_section sections.items) (has_section_word word place)) result }
 {
     match token.kind {
         Kind::Colon => Ok(BundleProgress::GoesOn(
@@ -209,11 +194,8 @@ pub fn take_in_bundle(
     state: BundleState,
     token: &Token<'_>,
 ) -> Result<BundleProgress, ParseErr>
-    ensures ok { IfOk result
-        (λ b. bundle_step depth_limit (map plain_section sections.items) (seen_bundle_state state) token.now.kind token.now.text.now token.now.place ≡ Some (seen_bundle_progress b)) }
-    ensures refused { IfErr result
-        (Refused token.now.place (bundle_step depth_limit (map plain_section sections.items) (seen_bundle_state state) token.now.kind token.now.text.now token.now.place)
-        (bundle_step unlimited (map plain_section sections.items) (seen_bundle_state state) token.now.kind token.now.text.now token.now.place)) }
+    ensures { Takes seen_bundle_progress token.now (λ limit. bundle_step limit
+        (map plain_section sections.items) (seen_bundle_state state)) result }
 {
     match state {
         BundleState::NoSection => take_first_word(alloc, sections, token),
@@ -229,11 +211,8 @@ fn take_body_name(
     attributes: Vec<Attribute>,
     token: &Token<'_>,
 ) -> Result<BodyProgress, ParseErr>
-    ensures ok { IfOk result
-        (λ b. body_step depth_limit (map plain_attribute attributes.items) between_attributes token.now.kind token.now.text.now token.now.place ≡ Some (seen_body_progress b)) }
-    ensures refused { IfErr result
-        (Refused token.now.place (body_step depth_limit (map plain_attribute attributes.items) between_attributes token.now.kind token.now.text.now token.now.place)
-        (body_step unlimited (map plain_attribute attributes.items) between_attributes token.now.kind token.now.text.now token.now.place)) }
+    ensures { Takes seen_body_progress token.now (λ limit. body_step limit
+        (map plain_attribute attributes.items) between_attributes) result }
 {
     match token.kind {
         Kind::Word => {
@@ -252,11 +231,8 @@ fn take_body_arrow(
     place: Place,
     token: &Token<'_>,
 ) -> Result<BodyProgress, ParseErr>
-    ensures ok { IfOk result
-        (λ b. body_step depth_limit (map plain_attribute attributes.items) (has_body_name name place) token.now.kind token.now.text.now token.now.place ≡ Some (seen_body_progress b)) }
-    ensures refused { IfErr result
-        (Refused token.now.place (body_step depth_limit (map plain_attribute attributes.items) (has_body_name name place) token.now.kind token.now.text.now token.now.place)
-        (body_step unlimited (map plain_attribute attributes.items) (has_body_name name place) token.now.kind token.now.text.now token.now.place)) }
+    ensures { Takes seen_body_progress token.now (λ limit. body_step limit
+        (map plain_attribute attributes.items) (has_body_name name place)) result }
 {
     match token.kind {
         Kind::FatArrow => Ok(BodyProgress::GoesOn(
@@ -274,11 +250,9 @@ fn take_behind_body_value(
     progress: ValueProgress,
     token: &Token<'_>,
 ) -> Result<BodyProgress, ParseErr>
-    ensures ok { IfOk result
-        (λ b. body_value_next (map plain_attribute attributes.items) name place (Some (seen_value_progress progress)) token.now.kind ≡ Some (seen_body_progress b)) }
-    ensures refused { IfErr result
-        (Refused token.now.place (body_value_next (map plain_attribute attributes.items) name place (Some (seen_value_progress progress)) token.now.kind)
-        (body_value_next (map plain_attribute attributes.items) name place (Some (seen_value_progress progress)) token.now.kind)) }
+    ensures { Takes seen_body_progress token.now (λ _ k _ _. body_value_next
+        (map plain_attribute attributes.items) name place (Some
+        (seen_value_progress progress)) k) result }
 {
     let mut attributes = attributes;
     match progress {
@@ -304,11 +278,9 @@ fn take_body_value(
     value: ValueState,
     token: &Token<'_>,
 ) -> Result<BodyProgress, ParseErr>
-    ensures ok { IfOk result
-        (λ b. body_step depth_limit (map plain_attribute attributes.items) (seen_body_state (BodyState.InBodyValue name place value)) token.now.kind token.now.text.now token.now.place ≡ Some (seen_body_progress b)) }
-    ensures refused { IfErr result
-        (Refused token.now.place (body_step depth_limit (map plain_attribute attributes.items) (seen_body_state (BodyState.InBodyValue name place value)) token.now.kind token.now.text.now token.now.place)
-        (body_step unlimited (map plain_attribute attributes.items) (seen_body_state (BodyState.InBodyValue name place value)) token.now.kind token.now.text.now token.now.place)) }
+    ensures { Takes seen_body_progress token.now (λ limit. body_step limit
+        (map plain_attribute attributes.items) (seen_body_state
+        (BodyState.InBodyValue name place value))) result }
 {
     let progress = take_in_value(alloc, value, token)?;
     take_behind_body_value(attributes, name, place, progress, token)
@@ -321,11 +293,8 @@ pub fn take_in_body(
     state: BodyState,
     token: &Token<'_>,
 ) -> Result<BodyProgress, ParseErr>
-    ensures ok { IfOk result
-        (λ b. body_step depth_limit (map plain_attribute attributes.items) (seen_body_state state) token.now.kind token.now.text.now token.now.place ≡ Some (seen_body_progress b)) }
-    ensures refused { IfErr result
-        (Refused token.now.place (body_step depth_limit (map plain_attribute attributes.items) (seen_body_state state) token.now.kind token.now.text.now token.now.place)
-        (body_step unlimited (map plain_attribute attributes.items) (seen_body_state state) token.now.kind token.now.text.now token.now.place)) }
+    ensures { Takes seen_body_progress token.now (λ limit. body_step limit
+        (map plain_attribute attributes.items) (seen_body_state state)) result }
 {
     match state {
         BodyState::BetweenAttributes => take_body_name(alloc, attributes, token),

@@ -4,7 +4,7 @@ ghost use Rattle.std.specs.List.{list_all};
 ghost use Rattle.cfa_parser.specs.FirstForm.{is_path_char, is_first_path, line_parts, whole_lines, tail_of, head_lines, all_but_last, last_of, IsForm, Numbered, Refuses, paths_of};
 ghost use Rattle.cfa_parser.specs.FirstReading.{middle, is_framed, promise_of, read_body, read_head, ErrIs};
 
-use cfa_base::{Name, NoMemory};
+use cfa_base::{MOST_SOURCE_BYTES, Name, NoMemory};
 use cfa_outside::{Path, PathErr};
 use std::alloc::{AllocError, AllocFailed, Global};
 use std::str;
@@ -125,7 +125,8 @@ fn read_body(
     tail: &[u8],
 ) -> Result<Vec<FirstPromise>, FirstErr>
     requires { number + length lines.now < 2 ^ 32 }
-    ensures ok { IfOk result (λ v. read_body number (map (λ x. x.now) lines.now) tail.now ≡ Ok v.items) }
+    ensures ok { IfOk result
+        (λ v. read_body number (map (λ x. x.now) lines.now) tail.now ≡ Ok v.items) }
     ensures err { IfErr result (ErrIs (read_body number (map (λ x. x.now) lines.now) tail.now)) }
 {
     let mut promises = Vec::new(alloc);
@@ -155,8 +156,10 @@ fn read_lines(
     tail: &[u8],
 ) -> Result<Vec<FirstPromise>, FirstErr>
     requires { length heads.now + length lines.now + 1 < 2 ^ 32 }
-    ensures ok { IfOk result (λ v. read_head 1 (map (λ x. x.now) heads.now) (map (λ x. x.now) lines.now) tail.now ≡ Ok v.items) }
-    ensures err { IfErr result (ErrIs (read_head 1 (map (λ x. x.now) heads.now) (map (λ x. x.now) lines.now) tail.now)) }
+    ensures ok { IfOk result (λ v. read_head 1 (map (λ x. x.now) heads.now)
+        (map (λ x. x.now) lines.now) tail.now ≡ Ok v.items) }
+    ensures err { IfErr result (ErrIs (read_head 1 (map (λ x. x.now) heads.now)
+        (map (λ x. x.now) lines.now) tail.now)) }
 {
     for i in 0..heads.len() {
         if lines.len() <= i {
@@ -170,9 +173,11 @@ fn read_lines(
 }
 
 fn read_headed(alloc: Global, lines: &[&[u8]], tail: &[u8]) -> Result<Vec<FirstPromise>, FirstErr>
-    requires { length lines.now ≤ 1048577 }
-    ensures ok { IfOk result (λ v. read_head 1 head_lines (map (λ x. x.now) lines.now) tail.now ≡ Ok v.items) }
-    ensures err { IfErr result (ErrIs (read_head 1 head_lines (map (λ x. x.now) lines.now) tail.now)) }
+    requires { length lines.now ≤ MOST_SOURCE_BYTES + 1 }
+    ensures ok { IfOk result
+        (λ v. read_head 1 head_lines (map (λ x. x.now) lines.now) tail.now ≡ Ok v.items) }
+    ensures err { IfErr result
+        (ErrIs (read_head 1 head_lines (map (λ x. x.now) lines.now) tail.now)) }
 {
     let first = b"bundle agent main".as_slice();
     let second = b"{".as_slice();
@@ -183,9 +188,12 @@ fn read_headed(alloc: Global, lines: &[&[u8]], tail: &[u8]) -> Result<Vec<FirstP
 
 fn read_parts(alloc: Global, parts: &[&[u8]]) -> Result<Vec<FirstPromise>, FirstErr>
     requires some { 0 < length parts.now }
-    requires fits { length parts.now ≤ 1048577 }
-    ensures ok { IfOk result (λ v. read_head 1 head_lines (all_but_last (map (λ x. x.now) parts.now)) (last_of (map (λ x. x.now) parts.now)) ≡ Ok v.items) }
-    ensures err { IfErr result (ErrIs (read_head 1 head_lines (all_but_last (map (λ x. x.now) parts.now)) (last_of (map (λ x. x.now) parts.now)))) }
+    requires fits { length parts.now ≤ MOST_SOURCE_BYTES + 1 }
+    ensures ok { IfOk result (λ v. read_head 1 head_lines
+        (all_but_last (map (λ x. x.now) parts.now)) (last_of (map (λ x. x.now) parts.now))
+        ≡ Ok v.items) }
+    ensures err { IfErr result (ErrIs (read_head 1 head_lines
+        (all_but_last (map (λ x. x.now) parts.now)) (last_of (map (λ x. x.now) parts.now)))) }
 {
     let count = parts.len() - 1;
     let tail = parts[count];
@@ -198,13 +206,14 @@ fn read_parts(alloc: Global, parts: &[&[u8]]) -> Result<Vec<FirstPromise>, First
 /// `    "PATH" create => "true";`, and the line `}`, each ended by a newline, and at most 1,048,576 bytes in all. A path here
 /// is an absolute path of ASCII letters, digits, `/`, `.`, `_` and `-`. What stands after the last newline is no line.
 pub fn read_first(alloc: Global, source: &[u8]) -> Result<Vec<FirstPromise>, FirstErr>
-    ensures form { IfOk result (λ v. IsForm head_lines (whole_lines source.now) (tail_of source.now) (paths_of v.items)) }
+    ensures form { IfOk result (λ v.
+        IsForm head_lines (whole_lines source.now) (tail_of source.now) (paths_of v.items)) }
     ensures lines { IfOk result (λ v. Numbered 4 v.items) }
-    ensures short { OnOk result (length source.now ≤ 1048576) }
-    ensures few { IfOk result (λ v. length v.items ≤ 1048576) }
+    ensures short { OnOk result (length source.now ≤ MOST_SOURCE_BYTES) }
+    ensures few { IfOk result (λ v. length v.items ≤ MOST_SOURCE_BYTES) }
     ensures refused { IfErr result (Refuses source.now) }
 {
-    if source.len() > 1_048_576 {
+    if source.len() > MOST_SOURCE_BYTES {
         return Err(FirstErr::OtherForm(0));
     }
     let parts = split_lines(alloc, source)?;

@@ -2,7 +2,7 @@
 ghost use Rattle.std.specs.Prelude.{◌≡◌, Some, IfOk, IfErr, option_map};
 ghost use Rattle.cfa_tree.specs.Plain.{plain_named};
 ghost use Rattle.cfa_parser.specs.Machine.{block_word, named, with_param, has_block_word, has_kind, has_block_name, wants_first_param, has_param, wants_param, has_params, heading_step};
-ghost use Rattle.cfa_parser.specs.Refused.{Refused, OnlyMemory};
+ghost use Rattle.cfa_parser.specs.Refused.{Takes, OnlyMemory};
 ghost use Rattle.cfa_parser.specs.Seen.{seen_block_word, seen_heading, seen_heading_state, seen_heading_progress};
 
 use crate::ParseErr;
@@ -74,7 +74,8 @@ pub fn block_word(word: &str) -> Option<BlockWord>
 
 fn with_param(alloc: Global, heading: Heading, token: &Token<'_>) -> Result<Heading, ParseErr>
     ensures ok { IfOk result
-        (λ h. seen_heading h ≡ with_param (seen_heading heading) (named token.now.text.now token.now.place)) }
+        (λ h. seen_heading h
+        ≡ with_param (seen_heading heading) (named token.now.text.now token.now.place)) }
     ensures memory { IfErr result OnlyMemory }
 {
     let mut heading = heading;
@@ -89,11 +90,8 @@ fn take_kind(
     place: Place,
     token: &Token<'_>,
 ) -> Result<HeadingProgress, ParseErr>
-    ensures ok { IfOk result
-        (λ h. heading_step (has_block_word (seen_block_word block) place) token.now.kind token.now.text.now token.now.place ≡ Some (seen_heading_progress h)) }
-    ensures refused { IfErr result
-        (Refused token.now.place (heading_step (has_block_word (seen_block_word block) place) token.now.kind token.now.text.now token.now.place)
-        (heading_step (has_block_word (seen_block_word block) place) token.now.kind token.now.text.now token.now.place)) }
+    ensures { Takes seen_heading_progress token.now (λ _. heading_step (has_block_word
+        (seen_block_word block) place)) result }
 {
     match token.kind {
         Kind::Word => Ok(HeadingProgress::GoesOn(HeadingState::HasKind(
@@ -113,11 +111,8 @@ fn take_name(
     kind: Named,
     token: &Token<'_>,
 ) -> Result<HeadingProgress, ParseErr>
-    ensures ok { IfOk result
-        (λ h. heading_step (has_kind (seen_block_word block) place (plain_named kind)) token.now.kind token.now.text.now token.now.place ≡ Some (seen_heading_progress h)) }
-    ensures refused { IfErr result
-        (Refused token.now.place (heading_step (has_kind (seen_block_word block) place (plain_named kind)) token.now.kind token.now.text.now token.now.place)
-        (heading_step (has_kind (seen_block_word block) place (plain_named kind)) token.now.kind token.now.text.now token.now.place)) }
+    ensures { Takes seen_heading_progress token.now (λ _. heading_step (has_kind
+        (seen_block_word block) place (plain_named kind))) result }
 {
     match token.kind {
         Kind::Word => {
@@ -136,11 +131,8 @@ fn take_name(
 
 // The parameters or the brace behind a block's name.
 fn take_behind_name(heading: Heading, token: &Token<'_>) -> Result<HeadingProgress, ParseErr>
-    ensures ok { IfOk result
-        (λ h. heading_step (has_block_name (seen_heading heading)) token.now.kind token.now.text.now token.now.place ≡ Some (seen_heading_progress h)) }
-    ensures refused { IfErr result
-        (Refused token.now.place (heading_step (has_block_name (seen_heading heading)) token.now.kind token.now.text.now token.now.place)
-        (heading_step (has_block_name (seen_heading heading)) token.now.kind token.now.text.now token.now.place)) }
+    ensures { Takes seen_heading_progress token.now (λ _. heading_step (has_block_name
+        (seen_heading heading))) result }
 {
     match token.kind {
         Kind::OpenParen => Ok(HeadingProgress::GoesOn(HeadingState::WantsFirstParam(heading))),
@@ -155,11 +147,8 @@ fn take_first_param(
     heading: Heading,
     token: &Token<'_>,
 ) -> Result<HeadingProgress, ParseErr>
-    ensures ok { IfOk result
-        (λ h. heading_step (wants_first_param (seen_heading heading)) token.now.kind token.now.text.now token.now.place ≡ Some (seen_heading_progress h)) }
-    ensures refused { IfErr result
-        (Refused token.now.place (heading_step (wants_first_param (seen_heading heading)) token.now.kind token.now.text.now token.now.place)
-        (heading_step (wants_first_param (seen_heading heading)) token.now.kind token.now.text.now token.now.place)) }
+    ensures { Takes seen_heading_progress token.now (λ _. heading_step (wants_first_param
+        (seen_heading heading))) result }
 {
     match token.kind {
         Kind::Word => Ok(HeadingProgress::GoesOn(HeadingState::HasParam(with_param(
@@ -172,11 +161,8 @@ fn take_first_param(
 
 // A comma or the end behind a parameter.
 fn take_behind_param(heading: Heading, token: &Token<'_>) -> Result<HeadingProgress, ParseErr>
-    ensures ok { IfOk result
-        (λ h. heading_step (has_param (seen_heading heading)) token.now.kind token.now.text.now token.now.place ≡ Some (seen_heading_progress h)) }
-    ensures refused { IfErr result
-        (Refused token.now.place (heading_step (has_param (seen_heading heading)) token.now.kind token.now.text.now token.now.place)
-        (heading_step (has_param (seen_heading heading)) token.now.kind token.now.text.now token.now.place)) }
+    ensures { Takes seen_heading_progress token.now (λ _. heading_step (has_param
+        (seen_heading heading))) result }
 {
     match token.kind {
         Kind::Comma => Ok(HeadingProgress::GoesOn(HeadingState::WantsParam(heading))),
@@ -191,11 +177,8 @@ fn take_param(
     heading: Heading,
     token: &Token<'_>,
 ) -> Result<HeadingProgress, ParseErr>
-    ensures ok { IfOk result
-        (λ h. heading_step (wants_param (seen_heading heading)) token.now.kind token.now.text.now token.now.place ≡ Some (seen_heading_progress h)) }
-    ensures refused { IfErr result
-        (Refused token.now.place (heading_step (wants_param (seen_heading heading)) token.now.kind token.now.text.now token.now.place)
-        (heading_step (wants_param (seen_heading heading)) token.now.kind token.now.text.now token.now.place)) }
+    ensures { Takes seen_heading_progress token.now (λ _. heading_step (wants_param
+        (seen_heading heading))) result }
 {
     match token.kind {
         Kind::Word => Ok(HeadingProgress::GoesOn(HeadingState::HasParam(with_param(
@@ -207,11 +190,8 @@ fn take_param(
 
 // The brace behind the parameters.
 fn take_brace(heading: Heading, token: &Token<'_>) -> Result<HeadingProgress, ParseErr>
-    ensures ok { IfOk result
-        (λ h. heading_step (has_params (seen_heading heading)) token.now.kind token.now.text.now token.now.place ≡ Some (seen_heading_progress h)) }
-    ensures refused { IfErr result
-        (Refused token.now.place (heading_step (has_params (seen_heading heading)) token.now.kind token.now.text.now token.now.place)
-        (heading_step (has_params (seen_heading heading)) token.now.kind token.now.text.now token.now.place)) }
+    ensures { Takes seen_heading_progress token.now (λ _. heading_step (has_params
+        (seen_heading heading))) result }
 {
     match token.kind {
         Kind::OpenBrace => Ok(HeadingProgress::Opened(heading)),
@@ -225,11 +205,8 @@ pub fn take_in_heading(
     state: HeadingState,
     token: &Token<'_>,
 ) -> Result<HeadingProgress, ParseErr>
-    ensures ok { IfOk result
-        (λ h. heading_step (seen_heading_state state) token.now.kind token.now.text.now token.now.place ≡ Some (seen_heading_progress h)) }
-    ensures refused { IfErr result
-        (Refused token.now.place (heading_step (seen_heading_state state) token.now.kind token.now.text.now token.now.place)
-        (heading_step (seen_heading_state state) token.now.kind token.now.text.now token.now.place)) }
+    ensures { Takes seen_heading_progress token.now (λ _. heading_step
+        (seen_heading_state state)) result }
 {
     match state {
         HeadingState::HasBlockWord(block, place) => take_kind(alloc, block, place, token),

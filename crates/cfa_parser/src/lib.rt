@@ -6,6 +6,7 @@ mod errors;
 mod first;
 mod headings;
 mod laws;
+mod promises;
 mod reader;
 mod sections;
 mod texts;
@@ -15,6 +16,3 @@ pub use errors::ParseErr;
 pub use first::{FirstErr, FirstPromise, read_first};
 pub use laws::reading_is_unique;
 pub use reader::parse;
-
-#[cfg(test)]
-mod tests;

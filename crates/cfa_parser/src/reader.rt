@@ -2,11 +2,11 @@
 ghost use Rattle.std.specs.Prelude.{◌≡◌, ◌++◌, ◌∷◌, [], Some, IfOk, IfErr, IsErrOf, map, option_map};
 ghost use Rattle.cfa_base.specs.declared.places.Place as declared;
 ghost use Rattle.cfa_lexer.specs.Lexed.{plain};
-ghost use Rattle.cfa_tree.specs.Grammar.{unlimited, depth_limit, ReadsWithin};
+ghost use Rattle.cfa_tree.specs.Grammar.{depth_limit, ReadsWithin};
 ghost use Rattle.cfa_tree.specs.Plain.{plain_attribute, plain_block, plain_policy, plain_section};
-ghost use Rattle.cfa_parser.specs.Machine.{start, machine, closed_bundle, closed_body, block_opened, bundle_next, body_next, within_blocks, heading_step, bundle_step, body_step, state_step, between_blocks, step, run, whole};
+ghost use Rattle.cfa_parser.specs.Machine.{start, closed_bundle, closed_body, block_opened, bundle_next, body_next, within_blocks, heading_step, bundle_step, body_step, state_step, between_blocks, step, run, whole};
 ghost use Rattle.cfa_parser.specs.Reading.{UnexpectedAt, TooDeepAt};
-ghost use Rattle.cfa_parser.specs.Refused.{Refused, OnlyMemory, StopsAtToken};
+ghost use Rattle.cfa_parser.specs.Refused.{StepsTo, Takes, OnlyMemory, StopsAtToken};
 ghost use Rattle.cfa_parser.specs.Seen.{seen_heading, seen_heading_state, seen_bundle_state, seen_body_state, seen_state, seen_reader, seen_block_word};
 
 use crate::ParseErr;
@@ -45,7 +45,8 @@ fn with_bundle(
     sections: Vec<Section>,
 ) -> Result<Vec<Block>, ParseErr>
     ensures ok { IfOk result
-        (λ all. map plain_block all.items ≡ map plain_block blocks.items ++ closed_bundle (seen_heading heading) (map plain_section sections.items) ∷ []) }
+        (λ all. map plain_block all.items ≡ map plain_block blocks.items
+        ++ closed_bundle (seen_heading heading) (map plain_section sections.items) ∷ []) }
     ensures memory { IfErr result OnlyMemory }
 {
     let mut blocks = blocks;
@@ -65,7 +66,8 @@ fn with_body(
     attributes: Vec<Attribute>,
 ) -> Result<Vec<Block>, ParseErr>
     ensures ok { IfOk result
-        (λ all. map plain_block all.items ≡ map plain_block blocks.items ++ closed_body (seen_heading heading) (map plain_attribute attributes.items) ∷ []) }
+        (λ all. map plain_block all.items ≡ map plain_block blocks.items
+        ++ closed_body (seen_heading heading) (map plain_attribute attributes.items) ∷ []) }
     ensures memory { IfErr result OnlyMemory }
 {
     let mut blocks = blocks;
@@ -81,7 +83,8 @@ fn with_body(
 
 // A block behind its brace.
 fn opened(alloc: Global, heading: Heading) -> State
-    ensures { seen_state result ≡ block_opened (seen_block_word heading.block) (seen_heading heading) }
+    ensures { seen_state result
+        ≡ block_opened (seen_block_word heading.block) (seen_heading heading) }
 {
     match heading.block {
         BlockWord::Bundle => State::InBundle(heading, Vec::new(alloc), BundleState::NoSection),
@@ -90,11 +93,8 @@ fn opened(alloc: Global, heading: Heading) -> State
 }
 
 fn take_block_word(blocks: Vec<Block>, token: &Token<'_>) -> Result<Reader, ParseErr>
-    ensures ok { IfOk result
-        (λ r. state_step depth_limit (map plain_block blocks.items) between_blocks token.now.kind token.now.text.now token.now.place ≡ Some (seen_reader r)) }
-    ensures refused { IfErr result
-        (Refused token.now.place (state_step depth_limit (map plain_block blocks.items) between_blocks token.now.kind token.now.text.now token.now.place)
-        (state_step unlimited (map plain_block blocks.items) between_blocks token.now.kind token.now.text.now token.now.place)) }
+    ensures { Takes seen_reader token.now (λ limit. state_step limit
+        (map plain_block blocks.items) between_blocks) result }
 {
     match token.kind {
         Kind::Word => match block_word(token.text) {
@@ -114,11 +114,8 @@ fn take_heading_token(
     heading: HeadingState,
     token: &Token<'_>,
 ) -> Result<Reader, ParseErr>
-    ensures ok { IfOk result
-        (λ r. within_blocks (map plain_block blocks.items) (heading_step (seen_heading_state heading) token.now.kind token.now.text.now token.now.place) ≡ Some (seen_reader r)) }
-    ensures refused { IfErr result
-        (Refused token.now.place (within_blocks (map plain_block blocks.items) (heading_step (seen_heading_state heading) token.now.kind token.now.text.now token.now.place))
-        (within_blocks (map plain_block blocks.items) (heading_step (seen_heading_state heading) token.now.kind token.now.text.now token.now.place))) }
+    ensures { Takes seen_reader token.now (λ _ k x p. within_blocks (map plain_block blocks.items)
+        (heading_step (seen_heading_state heading) k x p)) result }
 {
     match take_in_heading(alloc, heading, token)? {
         HeadingProgress::GoesOn(state) => Ok(Reader {
@@ -140,11 +137,9 @@ fn take_bundle_token(
     state: BundleState,
     token: &Token<'_>,
 ) -> Result<Reader, ParseErr>
-    ensures ok { IfOk result
-        (λ r. bundle_next (map plain_block blocks.items) (seen_heading heading) (bundle_step depth_limit (map plain_section sections.items) (seen_bundle_state state) token.now.kind token.now.text.now token.now.place) ≡ Some (seen_reader r)) }
-    ensures refused { IfErr result
-        (Refused token.now.place (bundle_next (map plain_block blocks.items) (seen_heading heading) (bundle_step depth_limit (map plain_section sections.items) (seen_bundle_state state) token.now.kind token.now.text.now token.now.place))
-        (bundle_next (map plain_block blocks.items) (seen_heading heading) (bundle_step unlimited (map plain_section sections.items) (seen_bundle_state state) token.now.kind token.now.text.now token.now.place))) }
+    ensures { Takes seen_reader token.now (λ limit k x p. bundle_next
+        (map plain_block blocks.items) (seen_heading heading) (bundle_step limit
+        (map plain_section sections.items) (seen_bundle_state state) k x p)) result }
 {
     match take_in_bundle(alloc, sections, state, token)? {
         BundleProgress::GoesOn(sections, state) => Ok(Reader {
@@ -166,11 +161,9 @@ fn take_body_token(
     state: BodyState,
     token: &Token<'_>,
 ) -> Result<Reader, ParseErr>
-    ensures ok { IfOk result
-        (λ r. body_next (map plain_block blocks.items) (seen_heading heading) (body_step depth_limit (map plain_attribute attributes.items) (seen_body_state state) token.now.kind token.now.text.now token.now.place) ≡ Some (seen_reader r)) }
-    ensures refused { IfErr result
-        (Refused token.now.place (body_next (map plain_block blocks.items) (seen_heading heading) (body_step depth_limit (map plain_attribute attributes.items) (seen_body_state state) token.now.kind token.now.text.now token.now.place))
-        (body_next (map plain_block blocks.items) (seen_heading heading) (body_step unlimited (map plain_attribute attributes.items) (seen_body_state state) token.now.kind token.now.text.now token.now.place))) }
+    ensures { Takes seen_reader token.now (λ limit k x p. body_next (map plain_block blocks.items)
+        (seen_heading heading) (body_step limit (map plain_attribute attributes.items)
+        (seen_body_state state) k x p)) result }
 {
     match take_in_body(alloc, attributes, state, token)? {
         BodyProgress::GoesOn(attributes, state) => Ok(Reader {
@@ -186,9 +179,8 @@ fn take_body_token(
 
 // What one more token makes of a policy.
 fn take(alloc: Global, reader: Reader, token: &Token<'_>) -> Result<Reader, ParseErr>
-    ensures ok { IfOk result (λ r. step depth_limit (seen_reader reader) (plain token.now) ≡ Some (seen_reader r)) }
-    ensures refused { IfErr result
-        (Refused token.now.place (step depth_limit (seen_reader reader) (plain token.now)) (step unlimited (seen_reader reader) (plain token.now))) }
+    ensures { StepsTo seen_reader token.now.place
+        (λ limit. step limit (seen_reader reader) (plain token.now)) result }
 {
     let Reader { blocks, state } = reader;
     match state {
@@ -217,7 +209,8 @@ impl Reader {
 
 // What all the tokens make of nothing, or the first token that is refused.
 fn take_all(alloc: Global, tokens: &[Token<'_>]) -> Result<Reader, ParseErr>
-    ensures ok { IfOk result (λ r. run depth_limit (Some start) (map plain tokens.now) ≡ Some (seen_reader r)) }
+    ensures ok { IfOk result
+        (λ r. run depth_limit (Some start) (map plain tokens.now) ≡ Some (seen_reader r)) }
     ensures refused { IfErr result (StopsAtToken (map plain tokens.now)) }
 {
     let mut reader = Reader::new(alloc);
@@ -244,9 +237,13 @@ fn whole_policy(reader: Reader) -> Option<Policy>
 /// first token with which no policy begins, or the first that opens a 17th level, whichever stands first.
 pub fn parse(alloc: Global, tokens: &[Token<'_>], end: Place) -> Result<Policy, ParseErr>
     // The tokens read as this policy, places included.
-    ensures reads { IfOk result (λ policy. ReadsWithin depth_limit (map plain tokens.now) (plain_policy policy)) }
-    ensures unexpected { (place : declared.Place) → IsErrOf result (ParseErr.Unexpected place) → UnexpectedAt (map plain tokens.now) end place }
-    ensures too_deep { (place : declared.Place) → IsErrOf result (ParseErr.TooDeep place) → TooDeepAt (map plain tokens.now) place }
+    ensures reads { IfOk result
+        (λ policy. ReadsWithin depth_limit (map plain tokens.now) (plain_policy policy)) }
+    ensures unexpected { (place : declared.Place) →
+        IsErrOf result (ParseErr.Unexpected place) →
+        UnexpectedAt (map plain tokens.now) end place }
+    ensures too_deep { (place : declared.Place) →
+        IsErrOf result (ParseErr.TooDeep place) → TooDeepAt (map plain tokens.now) place }
 {
     let reader = take_all(alloc, tokens)?;
     whole_policy(reader).ok_or(ParseErr::Unexpected(end))

@@ -18,7 +18,8 @@ fn is_escapable(byte: u8) -> bool
 // Adds what a byte between quotes stands for, and says whether it is a backslash that awaits the next byte.
 fn push_unescaped(content: &mut Vec<u8>, behind_backslash: bool, byte: u8) -> Result<bool, ParseErr>
     ensures ok { IfOk result
-        (λ behind. (rest : List ℕ) → content.new.items ++ unescaped behind rest ≡ content.old.items ++ unescaped behind_backslash (byte ∷ rest)) }
+        (λ behind. (rest : List ℕ) → content.new.items ++ unescaped behind rest
+        ≡ content.old.items ++ unescaped behind_backslash (byte ∷ rest)) }
     ensures memory { IfErr result OnlyMemory }
 {
     if behind_backslash {

@@ -1,8 +1,7 @@
 // The reading of values, token by token.
 ghost use Rattle.std.specs.Prelude.{◌≡◌, ◌∷◌, Some, None, IfOk, IfErr, option_map};
-ghost use Rattle.cfa_tree.specs.Grammar.{unlimited, depth_limit};
 ghost use Rattle.cfa_tree.specs.Plain.{plain_value};
-ghost use Rattle.cfa_parser.specs.Refused.{Refused, OnlyMemory};
+ghost use Rattle.cfa_parser.specs.Refused.{StepsTo, Takes, OnlyMemory};
 ghost use Rattle.cfa_parser.specs.Seen.{seen_list, seen_call, seen_calls, seen_value, seen_value_progress};
 ghost use Rattle.cfa_parser.specs.Values.{value_taken, list_closed, call_closed, list_opened, list_ended, wants_step, paren_step, behind_step, word_step, value_step, value_start, has_item, has_argument};
 
@@ -55,7 +54,8 @@ fn value_taken(
     calls: Vec<OpenCall>,
 ) -> Result<ValueState, ParseErr>
     ensures ok { IfOk result
-        (λ s. seen_value s ≡ value_taken (plain_value value) (option_map seen_list inside) (seen_calls calls.items)) }
+        (λ s. seen_value s
+        ≡ value_taken (plain_value value) (option_map seen_list inside) (seen_calls calls.items)) }
     ensures memory { IfErr result OnlyMemory }
 {
     let mut calls = calls;
@@ -77,14 +77,16 @@ fn value_taken(
 }
 
 fn list_closed(list: OpenList, calls: Vec<OpenCall>) -> Result<ValueState, ParseErr>
-    ensures ok { IfOk result (λ s. seen_value s ≡ list_closed (seen_list list) (seen_calls calls.items)) }
+    ensures ok { IfOk result
+        (λ s. seen_value s ≡ list_closed (seen_list list) (seen_calls calls.items)) }
     ensures memory { IfErr result OnlyMemory }
 {
     value_taken(Value::List(list.items, list.place), None, calls)
 }
 
 fn call_closed(call: OpenCall, calls: Vec<OpenCall>) -> Result<ValueState, ParseErr>
-    ensures ok { IfOk result (λ s. seen_value s ≡ call_closed (seen_call call) (seen_calls calls.items)) }
+    ensures ok { IfOk result
+        (λ s. seen_value s ≡ call_closed (seen_call call) (seen_calls calls.items)) }
     ensures memory { IfErr result OnlyMemory }
 {
     value_taken(
@@ -101,11 +103,8 @@ fn open_list(
     calls: Vec<OpenCall>,
     place: Place,
 ) -> Result<ValueState, ParseErr>
-    ensures ok { IfOk result
-        (λ s. list_opened place (option_map seen_list inside) (seen_calls calls.items) ≡ Some (seen_value s)) }
-    ensures refused { IfErr result
-        (Refused place (list_opened place (option_map seen_list inside) (seen_calls calls.items))
-        (list_opened place (option_map seen_list inside) (seen_calls calls.items))) }
+    ensures { StepsTo seen_value place
+        (λ _. list_opened place (option_map seen_list inside) (seen_calls calls.items)) result }
 {
     match inside {
         Some(_) => Err(ParseErr::Unexpected(place)),
@@ -125,11 +124,8 @@ fn end_list(
     calls: Vec<OpenCall>,
     place: Place,
 ) -> Result<ValueState, ParseErr>
-    ensures ok { IfOk result
-        (λ s. list_ended (option_map seen_list inside) (seen_calls calls.items) ≡ Some (seen_value s)) }
-    ensures refused { IfErr result
-        (Refused place (list_ended (option_map seen_list inside) (seen_calls calls.items))
-        (list_ended (option_map seen_list inside) (seen_calls calls.items))) }
+    ensures { StepsTo seen_value place
+        (λ _. list_ended (option_map seen_list inside) (seen_calls calls.items)) result }
 {
     match inside {
         Some(list) => list_closed(list, calls),
@@ -143,11 +139,8 @@ fn take_wanted(
     calls: Vec<OpenCall>,
     token: &Token<'_>,
 ) -> Result<ValueState, ParseErr>
-    ensures ok { IfOk result
-        (λ s. wants_step (option_map seen_list inside) (seen_calls calls.items) token.now.kind token.now.text.now token.now.place ≡ Some (seen_value s)) }
-    ensures refused { IfErr result
-        (Refused token.now.place (wants_step (option_map seen_list inside) (seen_calls calls.items) token.now.kind token.now.text.now token.now.place)
-        (wants_step (option_map seen_list inside) (seen_calls calls.items) token.now.kind token.now.text.now token.now.place)) }
+    ensures { Takes seen_value token.now (λ _. wants_step (option_map seen_list inside)
+        (seen_calls calls.items)) result }
 {
     match token.kind {
         Kind::Text => value_taken(
@@ -182,11 +175,8 @@ fn take_behind_item(
     calls: Vec<OpenCall>,
     token: &Token<'_>,
 ) -> Result<ValueProgress, ParseErr>
-    ensures ok { IfOk result
-        (λ s. behind_step (has_item (seen_list list) (seen_calls calls.items)) token.now.kind ≡ Some (seen_value_progress s)) }
-    ensures refused { IfErr result
-        (Refused token.now.place (behind_step (has_item (seen_list list) (seen_calls calls.items)) token.now.kind)
-        (behind_step (has_item (seen_list list) (seen_calls calls.items)) token.now.kind)) }
+    ensures { Takes seen_value_progress token.now (λ _ k _ _. behind_step (has_item
+        (seen_list list) (seen_calls calls.items)) k) result }
 {
     match token.kind {
         Kind::Comma => Ok(ValueProgress::GoesOn(ValueState::WantsValue(Some(list), calls))),
@@ -200,11 +190,8 @@ fn take_behind_argument(
     calls: Vec<OpenCall>,
     token: &Token<'_>,
 ) -> Result<ValueProgress, ParseErr>
-    ensures ok { IfOk result
-        (λ s. behind_step (has_argument (seen_call call) (seen_calls calls.items)) token.now.kind ≡ Some (seen_value_progress s)) }
-    ensures refused { IfErr result
-        (Refused token.now.place (behind_step (has_argument (seen_call call) (seen_calls calls.items)) token.now.kind)
-        (behind_step (has_argument (seen_call call) (seen_calls calls.items)) token.now.kind)) }
+    ensures { Takes seen_value_progress token.now (λ _ k _ _. behind_step (has_argument
+        (seen_call call) (seen_calls calls.items)) k) result }
 {
     let mut calls = calls;
     match token.kind {
@@ -219,9 +206,8 @@ fn take_behind_argument(
 
 // A token behind a value.
 fn take_behind(value: ValueState, token: &Token<'_>) -> Result<ValueProgress, ParseErr>
-    ensures ok { IfOk result (λ s. behind_step (seen_value value) token.now.kind ≡ Some (seen_value_progress s)) }
-    ensures refused { IfErr result
-        (Refused token.now.place (behind_step (seen_value value) token.now.kind) (behind_step (seen_value value) token.now.kind)) }
+    ensures { Takes seen_value_progress token.now (λ _ k _ _. behind_step
+        (seen_value value) k) result }
 {
     match value {
         ValueState::HasItem(list, calls) => take_behind_item(list, calls, token),
@@ -242,11 +228,8 @@ fn take_behind_word(
     calls: Vec<OpenCall>,
     token: &Token<'_>,
 ) -> Result<ValueProgress, ParseErr>
-    ensures ok { IfOk result
-        (λ s. word_step depth_limit name place (option_map seen_list inside) (seen_calls calls.items) token.now.kind ≡ Some (seen_value_progress s)) }
-    ensures refused { IfErr result
-        (Refused token.now.place (word_step depth_limit name place (option_map seen_list inside) (seen_calls calls.items) token.now.kind)
-        (word_step unlimited name place (option_map seen_list inside) (seen_calls calls.items) token.now.kind)) }
+    ensures { Takes seen_value_progress token.now (λ limit k _ _. word_step limit name place
+        (option_map seen_list inside) (seen_calls calls.items) k) result }
 {
     match token.kind {
         Kind::OpenParen => {
@@ -272,11 +255,8 @@ fn take_behind_paren(
     calls: Vec<OpenCall>,
     token: &Token<'_>,
 ) -> Result<ValueState, ParseErr>
-    ensures ok { IfOk result
-        (λ s. paren_step (seen_call call) (seen_calls calls.items) token.now.kind token.now.text.now token.now.place ≡ Some (seen_value s)) }
-    ensures refused { IfErr result
-        (Refused token.now.place (paren_step (seen_call call) (seen_calls calls.items) token.now.kind token.now.text.now token.now.place)
-        (paren_step (seen_call call) (seen_calls calls.items) token.now.kind token.now.text.now token.now.place)) }
+    ensures { Takes seen_value token.now (λ _. paren_step (seen_call call)
+        (seen_calls calls.items)) result }
 {
     let mut calls = calls;
     match token.kind {
@@ -301,11 +281,8 @@ pub fn take_in_value(
     value: ValueState,
     token: &Token<'_>,
 ) -> Result<ValueProgress, ParseErr>
-    ensures ok { IfOk result
-        (λ s. value_step depth_limit (seen_value value) token.now.kind token.now.text.now token.now.place ≡ Some (seen_value_progress s)) }
-    ensures refused { IfErr result
-        (Refused token.now.place (value_step depth_limit (seen_value value) token.now.kind token.now.text.now token.now.place)
-        (value_step unlimited (seen_value value) token.now.kind token.now.text.now token.now.place)) }
+    ensures { Takes seen_value_progress token.now (λ limit. value_step limit
+        (seen_value value)) result }
 {
     match value {
         ValueState::WantsValue(inside, calls) => {

@@ -8,7 +8,7 @@ use Rattle.cfa_tree.specs.declared.expressions.Expr as declared
 use denote.Hole.Carrier
 use Rattle.cfa_tree.specs.Plain.{plain_expr}
 use Rattle.cfa_tree.specs.Tree.{ExprTrees, all_of, one_of, expr_trees}
-use Rattle.cfa_tree.proofs.Rows.{plain_expr-And, plain_expr-Or}
+use Rattle.cfa_tree.specs.lemmas.Rows.{plain_expr-And, plain_expr-Or}
 use Rattle.cfa_printer.specs.SameExpr.{same_expr, same_exprs}
 
 abbrev plain_parts : List Expr → ExprTrees

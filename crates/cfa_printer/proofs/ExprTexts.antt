@@ -6,7 +6,7 @@ use Rattle.std.specs.declared.vec.Vec.{Vec}
 use Rattle.cfa_tree.specs.declared.expressions.Expr.{Expr, And as AndOf, Or as OrOf}
 use Rattle.cfa_tree.specs.Plain.{plain_expr}
 use Rattle.cfa_tree.specs.Tree.{expr_trees}
-use Rattle.cfa_tree.proofs.Rows.{plain_expr-And, plain_expr-Or}
+use Rattle.cfa_tree.specs.lemmas.Rows.{plain_expr-And, plain_expr-Or}
 use Rattle.cfa_printer.specs.declared.expressions.Around.{Around}
 use Rattle.cfa_printer.specs.declared.expressions.Around.TheVariants.{Or, And}
 use Rattle.cfa_printer.proofs.Loops.{regrouped}

@@ -7,7 +7,7 @@ use Rattle.std.proofs.lemmas.List.{append_assoc}
 use Rattle.cfa_base.specs.declared.places.Place.{Place}
 use Rattle.cfa_base.specs.Tokens.{Token}
 use Rattle.cfa_base.specs.Lexing.{is_word_byte, is_word, place_after}
-use Rattle.cfa_base.proofs.Taking.{begins_other, takes_word, takes_bang, takes_open_paren, takes_close_paren, takes_dot, takes_bar}
+use Rattle.cfa_base.specs.lemmas.Taking.{begins_other, takes_word, takes_bang, takes_open_paren, takes_close_paren, takes_dot, takes_bar}
 use Rattle.cfa_tree.specs.Grammar.{Levels, Opens, dot, Atom, Atoms, Conj, Conjs, Guard, not_atom, in_parentheses as parenthesised, class_name, no_atom, next_atom, no_conj, next_conj}
 use Rattle.cfa_tree.specs.Grammar.Conj.{conj}
 use Rattle.cfa_tree.specs.Grammar.Guard.{guard}

@@ -7,7 +7,7 @@ use Rattle.cfa_base.specs.declared.places.Place.{Place}
 use Rattle.cfa_base.specs.declared.tokens.Kind.TheVariants.{Word, OpenBrace, CloseBrace}
 use Rattle.cfa_base.specs.Tokens.{Token}
 use Rattle.cfa_base.specs.Lexing.{is_word, place_past, place_after, first_place, ends}
-use Rattle.cfa_base.proofs.Taking.{takes_word, takes_comma, takes_open_paren, takes_close_paren, takes_open_brace, takes_close_brace}
+use Rattle.cfa_base.specs.lemmas.Taking.{takes_word, takes_comma, takes_open_paren, takes_close_paren, takes_open_brace, takes_close_brace}
 use Rattle.cfa_tree.specs.Grammar.{token, Levels, Words, last_word, next_word, Params, no_params, some_params, no_block, a_bundle, a_body, ReadsWithin}
 use Rattle.cfa_tree.specs.Tree.{AttributeTree, SectionTree, NamedTree, bundle, body, PolicyTree}
 use Rattle.cfa_tree.specs.Unplaced.{unplaced_attribute, unplaced_section, unplaced_named, unplaced}

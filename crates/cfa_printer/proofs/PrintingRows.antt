@@ -4,7 +4,7 @@ use Rattle.std.specs.Prelude.{Option, codes, true, false}
 use Rattle.cfa_base.specs.declared.places.Place.{Place}
 use Rattle.cfa_base.specs.Lexing.{content_of}
 use Rattle.cfa_tree.specs.Tree.{ExprTree, class, negated, all_of, one_of, expr_trees, ValueTree, text, word, reference, list_reference, list, call, value_trees, AttributeTree, PromiseTree, NamedTree, bundle, body}
-use Rattle.cfa_tree.proofs.PolicyA.{tree_a}
+use Rattle.cfa_tree.specs.lemmas.PolicyA.{tree_a}
 use Rattle.cfa_printer.specs.declared.expressions.Around.TheVariants.{Nothing}
 use Rattle.cfa_printer.specs.SameExpr.{same_expr}
 use Rattle.cfa_printer.specs.Printing.{quoted, printed, printed_expr, printed_value, printed_promises}

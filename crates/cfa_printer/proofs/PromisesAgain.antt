@@ -8,7 +8,7 @@ use Rattle.cfa_base.specs.declared.places.Place.{Place}
 use Rattle.cfa_base.specs.declared.tokens.Kind.TheVariants.{Word, DoubleColon, Comma, Semicolon}
 use Rattle.cfa_base.specs.Tokens.{Token}
 use Rattle.cfa_base.specs.Lexing.{content_of, place_past, place_after}
-use Rattle.cfa_base.proofs.Taking.{takes_word, takes_text, takes_comma, takes_semicolon, takes_colon, takes_double_colon, takes_fat_arrow, takes_thin_arrow}
+use Rattle.cfa_base.specs.lemmas.Taking.{takes_word, takes_text, takes_comma, takes_semicolon, takes_colon, takes_double_colon, takes_fat_arrow, takes_thin_arrow}
 use Rattle.cfa_tree.specs.Grammar.{token, Levels, Guard, Attribute, Attributes, no_attribute, last_attribute, next_attribute, Promisee, no_promisee, a_promisee, Promises, no_promise, new_guard, a_promise, Sections, no_section, a_section, BodyAttributes, no_more, one_more}
 use Rattle.cfa_tree.specs.Grammar.Attribute.{attribute}
 use Rattle.cfa_tree.specs.Tree.{ExprTree, ValueTree, AttributeTree, PromiseTree, SectionTree}

@@ -4,7 +4,7 @@ use Rattle.std.specs.Prelude.{IsTrue}
 use Rattle.cfa_base.specs.declared.places.Place.{Place}
 use Rattle.cfa_base.specs.Tokens.{Token}
 use Rattle.cfa_base.specs.Lexing.{spells, Fault, Scans, ends, a_separator, a_comment, a_token, stops}
-use Rattle.cfa_base.proofs.Taking.{reference_of}
+use Rattle.cfa_base.specs.lemmas.Taking.{reference_of}
 use Rattle.cfa_tree.specs.Grammar.{Levels, Opens, conj_of, guard_of, Atom, Atoms, Conj, Conjs, Guard, not_atom, in_parentheses, class_name, no_atom, next_atom, no_conj, next_conj, Value, Item, Args, MoreArgs, Items, MoreItems, a_list, an_item, a_text, a_reference, a_list_reference, a_word, a_call, no_args, some_args, args_end, next_arg, no_items, some_items, items_end, comma_end, next_item, Attribute, Attributes, no_attribute, last_attribute, next_attribute, Promisee, no_promisee, a_promisee, Promises, no_promise, new_guard, a_promise, Sections, no_section, a_section, Words, last_word, next_word, Params, no_params, empty_params, some_params, BodyAttributes, no_more, one_more, Policy, no_block, a_bundle, a_body}
 use Rattle.cfa_tree.specs.Grammar.Conj.{conj}
 use Rattle.cfa_tree.specs.Grammar.Guard.{guard}

@@ -3,7 +3,7 @@ use Rattle.std.proofs.Common.{◌≡◌, ◌==◌, ℕ, List, [], ◌∷◌, ref
 use Rattle.std.specs.Prelude.{IsTrue}
 use Rattle.std.specs.Str.{bytes_eq}
 use Rattle.std.proofs.lemmas.Bool.{false≢true, and_parts, and_from, eq-eqb}
-use Rattle.cfa_base.proofs.Spelled.{same_bytes}
+use Rattle.cfa_base.specs.lemmas.Spelled.{same_bytes}
 use Rattle.cfa_tree.specs.Tree.{ExprTree, class, negated, all_of, one_of, ExprTrees, no_expr, more_exprs}
 use Rattle.cfa_printer.specs.SameExpr.{same_expr, same_exprs, same_guard}
 

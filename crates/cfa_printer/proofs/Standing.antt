@@ -6,7 +6,7 @@ use Rattle.cfa_base.specs.declared.places.Place.{Place}
 use Rattle.cfa_base.specs.declared.tokens.Kind.{Kind}
 use Rattle.cfa_base.specs.Tokens.{Token}
 use Rattle.cfa_base.specs.Lexing.{is_word_byte, place_past, place_after, is_separator, Takes, Lexes, a_separator, a_token}
-use Rattle.cfa_base.proofs.Taking.{begins_failing}
+use Rattle.cfa_base.specs.lemmas.Taking.{begins_failing}
 use Rattle.cfa_tree.specs.Grammar.{token}
 
 -- from a place on, the bytes up to the rest are tokens of this line of the grammar, whatever tokens the rest is

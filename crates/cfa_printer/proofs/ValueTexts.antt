@@ -10,7 +10,7 @@ use Rattle.cfa_tree.specs.declared.attributes.Attribute.{Attribute}
 use Rattle.cfa_tree.specs.declared.values.Value.{Value, List as Listed, Call as Called}
 use Rattle.cfa_tree.specs.Plain.{plain_value, plain_attribute}
 use Rattle.cfa_tree.specs.Tree.{value_trees}
-use Rattle.cfa_tree.proofs.Rows.{plain_value-List, plain_value-Call}
+use Rattle.cfa_tree.specs.lemmas.Rows.{plain_value-List, plain_value-Call}
 use Rattle.cfa_printer.specs.Printing.{joined, in_parentheses, listed, printed_value, printed_values, printed_attribute, printed_attributes}
 use Rattle.cfa_printer.proofs.Loops.{regrouped, map-map}
 

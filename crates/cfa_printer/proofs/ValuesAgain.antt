@@ -7,7 +7,7 @@ use Rattle.cfa_base.specs.declared.places.Place.{Place}
 use Rattle.cfa_base.specs.declared.tokens.Kind.TheVariants.{OpenParen, OpenBrace}
 use Rattle.cfa_base.specs.Tokens.{Token}
 use Rattle.cfa_base.specs.Lexing.{is_word, is_name, content_of, name_of, place_past, place_after}
-use Rattle.cfa_base.proofs.Taking.{takes_word, takes_text, takes_ref, takes_list_ref, takes_comma, takes_open_paren, takes_close_paren, takes_open_brace, takes_close_brace, parentheses, name_is, reference_from}
+use Rattle.cfa_base.specs.lemmas.Taking.{takes_word, takes_text, takes_ref, takes_list_ref, takes_comma, takes_open_paren, takes_close_paren, takes_open_brace, takes_close_brace, parentheses, name_is, reference_from}
 use Rattle.cfa_tree.specs.Grammar.{token, Levels, Opens, Value, Item, Args, MoreArgs, MoreItems, a_list, an_item, a_text, a_reference, a_list_reference, a_word, a_call, no_args, some_args, args_end, next_arg, no_items, some_items, items_end, next_item}
 use Rattle.cfa_tree.specs.Tree.{ValueTree, text, word, reference, list_reference, list, call, ValueTrees, no_value, more_values, value_trees}
 use Rattle.cfa_tree.specs.Unplaced.{no_place, unplaced_value, unplaced_values}

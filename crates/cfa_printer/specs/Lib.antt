@@ -1,4 +1,5 @@
-pub mod Guards
+pub mod Appended
 pub mod Laws
+pub mod Lines
 pub mod Printing
 pub mod SameExpr

@@ -1,7 +1,7 @@
 // Attributes of promises and bodies.
 ghost use Rattle.std.specs.Prelude.{◌≡◌, ◌++◌, map, OnOk};
 ghost use Rattle.std.specs.List.{flat_map};
-ghost use Rattle.std.specs.String.{string_bytes};
+ghost use Rattle.cfa_printer.specs.Appended.{Appends};
 ghost use Rattle.cfa_tree.specs.Plain.{plain_attribute};
 ghost use Rattle.cfa_printer.specs.Printing.{printed_attribute, printed_attributes, printed_body_attribute};
 
@@ -11,7 +11,8 @@ use cfa_base::NoMemory;
 use cfa_tree::Attribute;
 
 fn push_attribute(out: &mut String, attribute: &Attribute) -> Result<(), NoMemory>
-    ensures { OnOk result (string_bytes out.new ≡ string_bytes out.old ++ printed_attribute (plain_attribute attribute.now)) }
+    ensures { OnOk result
+        (Appends out.old out.new (printed_attribute (plain_attribute attribute.now))) }
 {
     out.push_str(attribute.name.as_str())?;
     out.push_str(" => ")?;
@@ -20,7 +21,8 @@ fn push_attribute(out: &mut String, attribute: &Attribute) -> Result<(), NoMemor
 
 /// Adds the attributes of a promise.
 pub fn push_attributes(out: &mut String, attributes: &[Attribute]) -> Result<(), NoMemory>
-    ensures { OnOk result (string_bytes out.new ≡ string_bytes out.old ++ printed_attributes (map plain_attribute attributes.now)) }
+    ensures { OnOk result
+        (Appends out.old out.new (printed_attributes (map plain_attribute attributes.now))) }
 {
     if attributes.is_empty() {
         return Ok(());
@@ -34,7 +36,8 @@ pub fn push_attributes(out: &mut String, attributes: &[Attribute]) -> Result<(),
 }
 
 fn push_body_attribute(out: &mut String, attribute: &Attribute) -> Result<(), NoMemory>
-    ensures { OnOk result (string_bytes out.new ≡ string_bytes out.old ++ printed_body_attribute (plain_attribute attribute.now)) }
+    ensures { OnOk result
+        (Appends out.old out.new (printed_body_attribute (plain_attribute attribute.now))) }
 {
     out.push_str("  ")?;
     push_attribute(out, attribute)?;
@@ -44,7 +47,8 @@ fn push_body_attribute(out: &mut String, attribute: &Attribute) -> Result<(), No
 
 /// Adds the attributes of a body, each on its line.
 pub fn push_body_attributes(out: &mut String, attributes: &[Attribute]) -> Result<(), NoMemory>
-    ensures { OnOk result (string_bytes out.new ≡ string_bytes out.old ++ flat_map printed_body_attribute (map plain_attribute attributes.now)) }
+    ensures { OnOk result (Appends out.old out.new
+        (flat_map printed_body_attribute (map plain_attribute attributes.now))) }
 {
     for attribute in attributes {
         push_body_attribute(out, attribute)?;

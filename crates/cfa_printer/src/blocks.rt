@@ -1,7 +1,7 @@
 // Sections, blocks and policies.
 ghost use Rattle.std.specs.Prelude.{◌≡◌, ◌++◌, map, codes, IfOk, OnOk};
 ghost use Rattle.std.specs.List.{flat_map};
-ghost use Rattle.std.specs.String.{string_bytes};
+ghost use Rattle.cfa_printer.specs.Appended.{Appends};
 ghost use Rattle.cfa_tree.specs.Plain.{plain_named, plain_section, plain_block, plain_policy};
 ghost use Rattle.cfa_printer.specs.Printing.{joined, printed_name, printed_params, head_of, printed_section, printed_block, printed};
 
@@ -13,16 +13,17 @@ use cfa_tree::{Block, Body, Bundle, Named, Policy, Section};
 use std::alloc::Global;
 
 fn push_section(out: &mut String, section: &Section) -> Result<(), NoMemory>
-    ensures { OnOk result (string_bytes out.new ≡ string_bytes out.old ++ printed_section (plain_section section.now)) }
+    ensures { OnOk result (Appends out.old out.new (printed_section (plain_section section.now))) }
 {
     out.push_str("  ")?;
     out.push_str(section.kind.as_str())?;
     out.push_str(":\n")?;
-    push_promises(out, section.promises.as_slice())
+    push_promises(out, &section.promises)
 }
 
 fn push_sections(out: &mut String, sections: &[Section]) -> Result<(), NoMemory>
-    ensures { OnOk result (string_bytes out.new ≡ string_bytes out.old ++ flat_map printed_section (map plain_section sections.now)) }
+    ensures { OnOk result
+        (Appends out.old out.new (flat_map printed_section (map plain_section sections.now))) }
 {
     for section in sections {
         push_section(out, section)?;
@@ -31,7 +32,8 @@ fn push_sections(out: &mut String, sections: &[Section]) -> Result<(), NoMemory>
 }
 
 fn push_names(out: &mut String, names: &[Named]) -> Result<(), NoMemory>
-    ensures { OnOk result (string_bytes out.new ≡ string_bytes out.old ++ joined (codes ", ") (map printed_name (map plain_named names.now))) }
+    ensures { OnOk result (Appends out.old out.new
+        (joined (codes ", ") (map printed_name (map plain_named names.now)))) }
 {
     for (i, named) in names.iter().enumerate() {
         push_between(out, i, ", ")?;
@@ -41,7 +43,7 @@ fn push_names(out: &mut String, names: &[Named]) -> Result<(), NoMemory>
 }
 
 fn push_params(out: &mut String, params: &[Named]) -> Result<(), NoMemory>
-    ensures { OnOk result (string_bytes out.new ≡ string_bytes out.old ++ printed_params (map plain_named params.now)) }
+    ensures { OnOk result (Appends out.old out.new (printed_params (map plain_named params.now))) }
 {
     if params.is_empty() {
         return Ok(());
@@ -60,7 +62,9 @@ fn push_head(
     name: &Named,
     params: &[Named],
 ) -> Result<(), NoMemory>
-    ensures { OnOk result (string_bytes out.new ≡ string_bytes out.old ++ head_of first.now (plain_named kind.now) (plain_named name.now) (map plain_named params.now)) }
+    ensures { OnOk result (Appends out.old out.new
+        (head_of first.now (plain_named kind.now) (plain_named name.now)
+        (map plain_named params.now))) }
 {
     out.push_str(first)?;
     out.push_str(" ")?;
@@ -73,7 +77,8 @@ fn push_head(
 }
 
 fn push_bundle(out: &mut String, bundle: &Bundle) -> Result<(), NoMemory>
-    ensures { OnOk result (string_bytes out.new ≡ string_bytes out.old ++ printed_block (plain_block (Block.Bundle bundle.now))) }
+    ensures { OnOk result
+        (Appends out.old out.new (printed_block (plain_block (Block.Bundle bundle.now)))) }
 {
     push_head(
         out,
@@ -88,7 +93,8 @@ fn push_bundle(out: &mut String, bundle: &Bundle) -> Result<(), NoMemory>
 }
 
 fn push_body(out: &mut String, body: &Body) -> Result<(), NoMemory>
-    ensures { OnOk result (string_bytes out.new ≡ string_bytes out.old ++ printed_block (plain_block (Block.Body body.now))) }
+    ensures { OnOk result
+        (Appends out.old out.new (printed_block (plain_block (Block.Body body.now)))) }
 {
     push_head(out, "body", &body.kind, &body.name, body.params.as_slice())?;
     push_body_attributes(out, body.attributes.as_slice())?;
@@ -97,7 +103,7 @@ fn push_body(out: &mut String, body: &Body) -> Result<(), NoMemory>
 }
 
 fn push_block(out: &mut String, block: &Block) -> Result<(), NoMemory>
-    ensures { OnOk result (string_bytes out.new ≡ string_bytes out.old ++ printed_block (plain_block block.now)) }
+    ensures { OnOk result (Appends out.old out.new (printed_block (plain_block block.now))) }
 {
     match block {
         Block::Bundle(bundle) => push_bundle(out, bundle),

@@ -1,6 +1,6 @@
 // Class expressions.
 ghost use Rattle.std.specs.Prelude.{◌≡◌, ◌++◌, List, ℕ, OnOk};
-ghost use Rattle.std.specs.String.{string_bytes};
+ghost use Rattle.cfa_printer.specs.Appended.{Appends};
 ghost use Rattle.cfa_tree.specs.Plain.{plain_expr};
 ghost use Rattle.cfa_printer.specs.Printing.{all_of_in, one_of_in, printed_expr};
 
@@ -40,7 +40,7 @@ fn around_one_of(around: Around) -> (&'static str, &'static str)
 
 /// Adds a class expression.
 pub fn push_expr(out: &mut String, expr: &Expr, around: Around) -> Result<(), NoMemory>
-    ensures { OnOk result (string_bytes out.new ≡ string_bytes out.old ++ printed_expr around (plain_expr expr.now)) }
+    ensures { OnOk result (Appends out.old out.new (printed_expr around (plain_expr expr.now))) }
 {
     match expr {
         Expr::Class(name) => {

@@ -1,6 +1,7 @@
 // Guards of promises.
-ghost use Rattle.std.specs.Prelude.{◌≡◌, ◌++◌, option_copied, option_map, OnOk};
-ghost use Rattle.std.specs.String.{string_bytes};
+ghost use Rattle.std.specs.Prelude.{◌≡◌, OnOk};
+ghost use Rattle.cfa_printer.specs.Appended.{Appends};
+ghost use Rattle.cfa_printer.specs.Lines.{guard_tree};
 ghost use Rattle.cfa_tree.specs.Plain.{plain_expr};
 ghost use Rattle.cfa_printer.specs.Printing.{printed_guard, guard_line};
 ghost use Rattle.cfa_printer.specs.SameExpr.{same_expr, same_guard};
@@ -45,7 +46,7 @@ fn same_expr(a: &Expr, b: &Expr) -> bool
 }
 
 fn same_guard(a: Option<&Expr>, b: Option<&Expr>) -> bool
-    ensures { result ≡ same_guard (option_map plain_expr (option_copied a.entry)) (option_map plain_expr (option_copied b.entry)) }
+    ensures { result ≡ same_guard (guard_tree a.entry) (guard_tree b.entry) }
 {
     match (a, b) {
         (None, None) => true,
@@ -56,7 +57,7 @@ fn same_guard(a: Option<&Expr>, b: Option<&Expr>) -> bool
 }
 
 fn push_guard(out: &mut String, guard: Option<&Expr>) -> Result<(), NoMemory>
-    ensures { OnOk result (string_bytes out.new ≡ string_bytes out.old ++ printed_guard (option_map plain_expr (option_copied guard.entry))) }
+    ensures { OnOk result (Appends out.old out.new (printed_guard (guard_tree guard.entry))) }
 {
     match guard {
         None => {
@@ -73,8 +74,8 @@ pub fn push_guard_line(
     before: Option<&Expr>,
     guard: Option<&Expr>,
 ) -> Result<(), NoMemory>
-    ensures { OnOk result (string_bytes out.new ≡ string_bytes out.old
-        ++ guard_line (option_map plain_expr (option_copied before.entry)) (option_map plain_expr (option_copied guard.entry))) }
+    ensures { OnOk result (Appends out.old out.new
+        (guard_line (guard_tree before.entry) (guard_tree guard.entry))) }
 {
     if same_guard(before, guard) {
         return Ok(());

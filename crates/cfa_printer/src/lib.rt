@@ -7,8 +7,6 @@ mod expressions;
 mod guards;
 mod laws;
 mod promises;
-#[cfg(test)]
-mod tests;
 mod texts;
 mod values;
 

@@ -1,8 +1,9 @@
 // Promises.
-ghost use Rattle.std.specs.Prelude.{◌≡◌, ◌≤◌, ◌++◌, None, length, map, option_copied, option_map, OnOk};
-ghost use Rattle.std.specs.String.{string_bytes};
-ghost use Rattle.cfa_tree.specs.Plain.{plain_expr, plain_value, plain_promise};
-ghost use Rattle.cfa_printer.specs.Guards.{guard_above};
+ghost use Rattle.std.specs.Prelude.{◌≡◌, ◌<◌, ◌++◌, None, length, map, option_copied, option_map, OnOk};
+ghost use Rattle.cfa_printer.specs.Appended.{Appends};
+ghost use Rattle.cfa_tree.specs.Plain.{plain_value, plain_promise};
+ghost use Rattle.cfa_tree.specs.Repeats.{guard_at, guard_before};
+ghost use Rattle.cfa_printer.specs.Lines.{line_above};
 ghost use Rattle.cfa_printer.specs.Printing.{printed_promisee, printed_promise, printed_promises};
 
 use crate::attributes::push_attributes;
@@ -10,10 +11,11 @@ use crate::guards::push_guard_line;
 use crate::texts::push_quoted;
 use crate::values::push_value;
 use cfa_base::NoMemory;
-use cfa_tree::{Expr, Promise, Value};
+use cfa_tree::{Expr, Promise, Promises, Value};
 
 fn push_promisee(out: &mut String, promisee: &Option<Value>) -> Result<(), NoMemory>
-    ensures { OnOk result (string_bytes out.new ≡ string_bytes out.old ++ printed_promisee (option_map plain_value promisee.now)) }
+    ensures { OnOk result
+        (Appends out.old out.new (printed_promisee (option_map plain_value promisee.now))) }
 {
     match promisee {
         None => Ok(()),
@@ -25,7 +27,7 @@ fn push_promisee(out: &mut String, promisee: &Option<Value>) -> Result<(), NoMem
 }
 
 fn push_promise(out: &mut String, promise: &Promise) -> Result<(), NoMemory>
-    ensures { OnOk result (string_bytes out.new ≡ string_bytes out.old ++ printed_promise (plain_promise promise.now)) }
+    ensures { OnOk result (Appends out.old out.new (printed_promise (plain_promise promise.now))) }
 {
     out.push_str("    ")?;
     push_quoted(out, promise.promiser.as_str())?;
@@ -35,23 +37,48 @@ fn push_promise(out: &mut String, promise: &Promise) -> Result<(), NoMemory>
     Ok(())
 }
 
+// The guard of the promise at this index.
+fn guard_at(promises: &[Promise], index: usize) -> Option<&Expr>
+    requires { index < length promises.now }
+    ensures { option_copied result ≡ guard_at promises.now index }
+{
+    match &promises[index].guard {
+        None => None,
+        Some(guard) => Some(guard.expr()),
+    }
+}
+
 // The guard of the promise before the one at this index.
 fn guard_before(promises: &[Promise], index: usize) -> Option<&Expr>
-    requires { index ≤ length promises.now }
-    ensures { option_map plain_expr (option_copied result) ≡ guard_above (map plain_promise promises.now) index }
+    requires { index < length promises.now }
+    ensures { option_copied result ≡ guard_before promises.now index }
 {
     if index == 0 {
         return None;
     }
-    promises[index - 1].guard.as_ref()
+    guard_at(promises, index - 1)
+}
+
+// Adds the line of the guard of the promise at this index. Two guards are compared only where a guard's line stood
+// between their promises.
+fn push_line_above(out: &mut String, promises: &Promises, index: usize) -> Result<(), NoMemory>
+    requires { index < length promises.now }
+    ensures { OnOk result (Appends out.old out.new (line_above promises.now index)) }
+{
+    if promises.repeats_guard(index) {
+        return Ok(());
+    }
+    let items = promises.as_slice();
+    push_guard_line(out, guard_before(items, index), guard_at(items, index))
 }
 
 /// Adds the promises of a section, with the lines of their guards.
-pub fn push_promises(out: &mut String, promises: &[Promise]) -> Result<(), NoMemory>
-    ensures { OnOk result (string_bytes out.new ≡ string_bytes out.old ++ printed_promises None (map plain_promise promises.now)) }
+pub fn push_promises(out: &mut String, promises: &Promises) -> Result<(), NoMemory>
+    ensures { OnOk result
+        (Appends out.old out.new (printed_promises None (map plain_promise promises.now))) }
 {
-    for (i, promise) in promises.iter().enumerate() {
-        push_guard_line(out, guard_before(promises, i), promise.guard.as_ref())?;
+    for (i, promise) in promises.as_slice().iter().enumerate() {
+        push_line_above(out, promises, i)?;
         push_promise(out, promise)?;
     }
     Ok(())

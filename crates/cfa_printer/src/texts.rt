@@ -2,14 +2,14 @@
 ghost use Rattle.std.specs.Prelude.{◌≡◌, ◌++◌, [], if◌then◌else◌, ◌==◌, OnOk};
 ghost use Rattle.std.specs.List.{flat_map};
 ghost use Rattle.std.specs.Char.{encode_utf8};
-ghost use Rattle.std.specs.String.{string_bytes};
+ghost use Rattle.cfa_printer.specs.Appended.{Appends};
 ghost use Rattle.cfa_printer.specs.Printing.{escaped, quoted};
 
 use cfa_base::NoMemory;
 
 // Adds a character of a text in quotes.
 fn push_escaped(out: &mut String, character: char) -> Result<(), NoMemory>
-    ensures { OnOk result (string_bytes out.new ≡ string_bytes out.old ++ flat_map escaped (encode_utf8 character)) }
+    ensures { OnOk result (Appends out.old out.new (flat_map escaped (encode_utf8 character))) }
 {
     if character == '"' {
         out.push_str("\\\"")?;
@@ -25,7 +25,7 @@ fn push_escaped(out: &mut String, character: char) -> Result<(), NoMemory>
 
 // Adds each character of a text in quotes.
 fn push_content(out: &mut String, content: &str) -> Result<(), NoMemory>
-    ensures { OnOk result (string_bytes out.new ≡ string_bytes out.old ++ flat_map escaped content.now) }
+    ensures { OnOk result (Appends out.old out.new (flat_map escaped content.now)) }
 {
     for character in content.chars() {
         push_escaped(out, character)?;
@@ -35,7 +35,7 @@ fn push_content(out: &mut String, content: &str) -> Result<(), NoMemory>
 
 /// Adds a text in quotes.
 pub fn push_quoted(out: &mut String, content: &str) -> Result<(), NoMemory>
-    ensures { OnOk result (string_bytes out.new ≡ string_bytes out.old ++ quoted content.now) }
+    ensures { OnOk result (Appends out.old out.new (quoted content.now)) }
 {
     out.push_str("\"")?;
     push_content(out, content)?;
@@ -45,7 +45,7 @@ pub fn push_quoted(out: &mut String, content: &str) -> Result<(), NoMemory>
 
 /// Adds the separator before each text but the first.
 pub fn push_between(out: &mut String, index: usize, separator: &str) -> Result<(), NoMemory>
-    ensures { OnOk result (string_bytes out.new ≡ string_bytes out.old ++ (if index == 0 then [] else separator.now)) }
+    ensures { OnOk result (Appends out.old out.new (if index == 0 then [] else separator.now)) }
 {
     if index == 0 {
         return Ok(());

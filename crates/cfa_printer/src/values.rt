@@ -1,6 +1,6 @@
 // Values.
 ghost use Rattle.std.specs.Prelude.{◌≡◌, ◌++◌, OnOk};
-ghost use Rattle.std.specs.String.{string_bytes};
+ghost use Rattle.cfa_printer.specs.Appended.{Appends};
 ghost use Rattle.cfa_tree.specs.Plain.{plain_value};
 ghost use Rattle.cfa_printer.specs.Printing.{in_parentheses, printed_value};
 
@@ -10,7 +10,7 @@ use cfa_tree::Value;
 
 // Adds a text in parentheses.
 fn push_in_parentheses(out: &mut String, inner: &str) -> Result<(), NoMemory>
-    ensures { OnOk result (string_bytes out.new ≡ string_bytes out.old ++ in_parentheses inner.now) }
+    ensures { OnOk result (Appends out.old out.new (in_parentheses inner.now)) }
 {
     out.push_str("(")?;
     out.push_str(inner)?;
@@ -20,7 +20,7 @@ fn push_in_parentheses(out: &mut String, inner: &str) -> Result<(), NoMemory>
 
 /// Adds a value.
 pub fn push_value(out: &mut String, value: &Value) -> Result<(), NoMemory>
-    ensures { OnOk result (string_bytes out.new ≡ string_bytes out.old ++ printed_value (plain_value value.now)) }
+    ensures { OnOk result (Appends out.old out.new (printed_value (plain_value value.now))) }
 {
     match value {
         Value::Text(content, _) => push_quoted(out, content.as_str()),

@@ -1,5 +1,7 @@
 pub mod CallLemmas
-pub mod CheckLemmas
-pub mod InputLemmas
+pub mod Faults
+pub mod FormLemmas
+pub mod LawLemmas
+pub mod PolicyLemmas
+pub mod PrepareLemmas
 pub mod RunLemmas
-pub mod SourceLemmas

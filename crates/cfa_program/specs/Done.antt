@@ -1,43 +1,66 @@
--- What a call is to do: the entries that it adds to a site's log, the lines that it puts and its status.
-use Rattle.std.specs.Prelude.{ℕ, ◌≡◌, List, [], Option, Some, option_map, ◌⊎◌}
+-- What a call is to do: its steps, each with the entries that it adds to a site's log and the lines that it puts, and the
+-- status that it ends with. The log and the text of a call are those of its steps, one after another.
+use Rattle.std.specs.Prelude.{ℕ, ◌≡◌, List, [], ◌∷◌, flat_map}
+use Rattle.cfa_base.specs.Causes.{Rose}
+use Rattle.cfa_base.specs.Shown.{Shown, Follows}
 use Rattle.cfa_outside.specs.declared.sites.Entry.{Entry}
 use Rattle.cfa_outside.specs.Sites.{Told, adds}
 use Rattle.cfa_outside.specs.Sinks.{adds_bytes}
+use Rattle.cfa_program.specs.declared.ends.End.{End}
+use Rattle.cfa_program.specs.declared.ends.End.TheVariants.{Ended, PromiseFailed}
 
-pub record Done : Type 0 where
+pub record Step : Type 0 where
   pub entries : List Entry
   pub lines : List ℕ
+
+pub record Done : Type 0 where
+  pub steps : List Step
   pub status : ℕ
+
+abbrev pub log_of : List Step → List Entry
+log_of steps = flat_map (λ (step : Step). step.entries) steps
+
+abbrev pub text_of : List Step → List ℕ
+text_of steps = flat_map (λ (step : Step). step.lines) steps
+
+-- the work came to its end, or it did so with a promise that failed
+abbrev pub status_of : End → ℕ
+status_of Ended = 0
+status_of PromiseFailed = 2
+
+-- lines are put, and nothing else is done
+abbrev pub puts : List ℕ → Step
+puts lines = record { entries = []; lines = lines }
 
 -- a refusal puts one line
 abbrev pub refused_with : List ℕ → Done
-refused_with line = record { entries = []; lines = line; status = 1 }
+refused_with line = record { steps = puts line ∷ []; status = 1 }
 
--- the site, the sink and the status afterwards are those of something that was to be done
-pub record Stands (does : Done → Type 0) (before : Told) (out_before : Option (List ℕ)) (after : Option Told) (out_after : Option (List ℕ)) (status : ℕ) : Type 0 where
-  pub done : Done
-  pub does_is : does done
-  pub told_is : after ≡ Some (adds done.entries before)
-  pub out_is : out_after ≡ option_map (adds_bytes done.lines) out_before
+abbrev pub ends_with : End → List Step → Done
+ends_with end steps = record { steps = steps; status = status_of end }
+
+-- ---- that it was done
+
+-- a call on the object failed, or its count of faults stands at its end
+abbrev pub HasFault : {T : Type 0} → (before after : Shown T) → Type 0
+HasFault before after = Rose before.faults after.faults
+
+-- the site, the sink and the status are those of what was to be done, and no call on the two failed
+pub record IsDone (done : Done) (site site' : Shown Told) (out out' : Shown (List ℕ)) (status : ℕ) : Type 0 where
+  pub logged : Follows (adds (log_of done.steps)) site site'
+  pub put : Follows (adds_bytes (text_of done.steps)) out out'
   pub status_is : status ≡ done.status
 
--- what was to be done without the site was put, with its status
-pub record Puts (does : Done → Type 0) (out_before out_after : Option (List ℕ)) (status : ℕ) : Type 0 where
-  pub done : Done
-  pub does_is : does done
-  pub no_entries : done.entries ≡ []
-  pub out_is : out_after ≡ option_map (adds_bytes done.lines) out_before
+-- the same of what has nothing to do with a site
+pub record IsPut (done : Done) (out out' : Shown (List ℕ)) (status : ℕ) : Type 0 where
+  pub no_entry : log_of done.steps ≡ []
+  pub put : Follows (adds_bytes (text_of done.steps)) out out'
   pub status_is : status ≡ done.status
 
--- this line was put, and nothing else
-abbrev pub HasPut : List ℕ → (out_before out_after : Option (List ℕ)) → Type 0
-HasPut line out_before out_after = out_after ≡ option_map (adds_bytes line) out_before
+-- something of what may be done was done
+abbrev pub Stands :
+    (May : Done → Type 0) → (site site' : Shown Told) → (out out' : Shown (List ℕ)) → (status : ℕ) → Type 0
+Stands May site site' out out' status = (done : Done) × May done × IsDone done site site' out out' status
 
--- the status of a refusal, unless its line can't be put or memory ends
-abbrev pub IsRefusal : ℕ → Type 0
-IsRefusal status = (status ≡ 1) ⊎ ((status ≡ 4) ⊎ (status ≡ 5))
-
--- an object of the outside tells the same and has counted no fault
-pub record Untouched {A : Type 0} (told_before : Option A) (faults_before : ℕ) (told_after : Option A) (faults_after : ℕ) : Type 0 where
-  pub told : told_after ≡ told_before
-  pub faults : faults_after ≡ faults_before
+abbrev pub Puts : (May : Done → Type 0) → (out out' : Shown (List ℕ)) → (status : ℕ) → Type 0
+Puts May out out' status = (done : Done) × May done × IsPut done out out' status

@@ -1,9 +1,7 @@
 pub mod Calls
-pub mod Checks
 pub mod Done
-pub mod Failures
+pub mod Ends
 pub mod Lines
 pub mod Runs
-pub mod Shows
-pub mod Sources
+pub mod Stages
 pub mod Steps

@@ -2,28 +2,28 @@
 #![tactic(auto)]
 
 mod agent;
-mod checking;
+mod ends;
 mod host;
+mod laws;
 mod lines;
-mod refusing;
+mod performing;
+mod preparing;
 mod running;
-mod showing;
-mod sources;
-mod tasks;
 #[cfg(test)]
 mod tests;
+mod work;
 
 use agent::agent_main;
 use cfa_base::{Name, NoMemory};
+use cfa_output::Stop;
 use cfa_outside::{MemorySite, RegexPatterns, World};
+use ends::stop_status;
 use host::{HostInputs, HostSink};
 use std::alloc::Global;
 use std::env;
 use std::process::ExitCode;
 use std::rt::Clock;
 use std::time::{SystemTime, UNIX_EPOCH};
-
-const MEMORY_STATUS: u8 = 5;
 
 // The words without the program's name. None where one of them isn't UTF-8, so that they are refused.
 fn read_words(rt: &HostRuntime, alloc: Global) -> Result<Vec<Name>, NoMemory> {
@@ -69,6 +69,6 @@ fn start(rt: &HostRuntime) -> Result<u8, NoMemory> {
 fn main(rt: HostRuntime) -> ExitCode {
     match start(&rt) {
         Ok(status) => ExitCode::from(status),
-        Err(NoMemory) => ExitCode::from(MEMORY_STATUS),
+        Err(error) => ExitCode::from(stop_status(&Stop::from(error))),
     }
 }

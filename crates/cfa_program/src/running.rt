@@ -1,70 +1,17 @@
 // A run over the promises of a policy.
-ghost use Rattle.std.specs.Prelude.{◌≡◌, ◌≢◌, ◌+◌, ◌≤◌, ◌<◌, ◌^◌, ℕ, List, [], Option, Some, option_map, IfOk, OnOk, IfErr, OnErr, IfSome, IsErrOf, IsTrue, length, ◌∷◌, ◌-◌};
-ghost use Rattle.std.specs.String.{string_bytes};
-ghost use Rattle.cfa_base.specs.Causes.{Rose};
-ghost use Rattle.cfa_outside.specs.Sites.{adds, fits};
-ghost use Rattle.cfa_outside.specs.declared.sites.Entry.TheVariants.{Did};
+ghost use Rattle.std.specs.Prelude.{◌≡◌, ◌≢◌, ◌+◌, ◌≤◌, ◌<◌, ◌^◌, ◌-◌, [], ◌∷◌, IfOk, IfSome, IsTrue, length};
+ghost use Rattle.cfa_outside.specs.Sites.{fits};
 ghost use Rattle.cfa_acts.specs.Acts.{decision};
-ghost use Rattle.cfa_outside.specs.Sinks.{adds_bytes};
-ghost use Rattle.cfa_program.specs.Runs.{needs, run_of};
-ghost use Rattle.cfa_program.specs.Steps.{DoesNeeded, line_of, counted, TakesPromise, RunsAll, IsStopOf};
+ghost use Rattle.cfa_output.specs.Lines as output;
+ghost use Rattle.cfa_program.specs.Runs.{needs};
+ghost use Rattle.cfa_program.specs.Steps.{LinePut, line_of, counted, all_of, Changed, Actuated, PromiseTaken, PromisesRun};
 
-use crate::lines;
 use cfa_acts::{Act, Decision, Reason, decide};
-use cfa_base::NoMemory;
+use cfa_base::{Name, NoMemory, PromiseId};
+use cfa_output::{Item, Stop, line, put_all};
 use cfa_outside::{Change, OutsideErr, Path, PathErr, Sink, Site};
 use cfa_parser::FirstPromise;
-use std::alloc::{AllocError, Global};
-
-/// A put on the sink failed.
-#[derive(Clone, Copy, Debug, PartialEq, Eq)]
-pub struct SinkFailed;
-
-/// What stops a call before its end.
-#[derive(Clone, Copy, Debug, PartialEq, Eq)]
-pub enum Stop {
-    /// A file of the policy couldn't be read from the inputs.
-    Inputs,
-    /// A put on the sink failed.
-    Sink,
-    /// No memory was left.
-    Memory,
-    /// A pattern was refused for its size.
-    Pattern,
-}
-
-impl From<SinkFailed> for Stop {
-    ghost use Rattle.std.specs.Prelude.{◌≡◌};
-    ghost use Rattle.cfa_program.specs.declared.running.Stop.TheVariants.{Sink};
-
-    ghost from_gives = { λ _ e. e ≡ Sink };
-
-    fn from(_: SinkFailed) -> Self {
-        Stop::Sink
-    }
-}
-
-impl From<NoMemory> for Stop {
-    ghost use Rattle.std.specs.Prelude.{◌≡◌};
-    ghost use Rattle.cfa_program.specs.declared.running.Stop.TheVariants.{Memory};
-
-    ghost from_gives = { λ _ e. e ≡ Memory };
-
-    fn from(_: NoMemory) -> Self {
-        Stop::Memory
-    }
-}
-
-impl From<AllocError> for Stop {
-    ghost use Rattle.std.specs.Prelude.{◌≡◌};
-    ghost use Rattle.cfa_program.specs.declared.running.Stop.TheVariants.{Memory};
-
-    ghost from_gives = { λ _ e. e ≡ Memory };
-
-    fn from(_: AllocError) -> Self {
-        Stop::Memory
-    }
-}
+use std::alloc::Global;
 
 /// How an instance ended.
 #[derive(Clone, Copy, Debug, PartialEq, Eq)]
@@ -74,28 +21,10 @@ pub enum Outcome {
     Failed(Reason),
 }
 
-/// Puts all of the bytes, piece by piece, until the sink has them or fails.
-pub fn put_all<O: Sink>(out: &mut O, bytes: &[u8]) -> Result<(), SinkFailed>
-    ensures ok { OnOk result (O.told out.new ≡ option_map (adds_bytes bytes.now) (O.told out.old)) }
-    ensures failed { OnErr result (Rose (O.faults out.old) (O.faults out.new)) }
-    ensures later { O.faults out.old ≤ O.faults out.new }
-{
-    let mut rest = bytes;
-    while !rest.is_empty() {
-        match out.put(rest) {
-            Ok(count) => rest = &rest[count..],
-            Err(_) => return Err(SinkFailed),
-        }
-    }
-    Ok(())
-}
-
 // Does a change that is needed.
 fn change_site<S: Site>(alloc: Global, change: &Change, site: &mut S) -> Result<Outcome, NoMemory>
-    requires { IfSome (S.told site.old) (λ t. IsTrue (fits change.now t.world)) }
-    ensures done { IfOk result (λ outcome. outcome ≡ Outcome.Repaired → S.told site.new ≡ option_map (adds (Did change.now ∷ [])) (S.told site.old)) }
-    ensures fault { IfOk result (λ outcome. outcome ≢ Outcome.Repaired → (outcome ≡ Outcome.Failed Reason.Fault) × Rose (S.faults site.old) (S.faults site.new)) }
-    ensures later { S.faults site.old ≤ S.faults site.new }
+    requires { IfSome (S.shown site.old).told (λ t. IsTrue (fits change.now t.world)) }
+    ensures { IfOk result (Changed change.now (S.shown site.old) (S.shown site.new)) }
 {
     match site.change(alloc, change) {
         Ok(()) => Ok(Outcome::Repaired),
@@ -104,14 +33,15 @@ fn change_site<S: Site>(alloc: Global, change: &Change, site: &mut S) -> Result<
     }
 }
 
+// Creates a file where it is missing.
 fn create<S: Site>(alloc: Global, path: Path, site: &mut S) -> Result<Outcome, NoMemory>
-    ensures exact { IfOk result (λ outcome. outcome ≢ Outcome.Failed Reason.Fault → IfSome (S.told site.old) (λ t. DoesNeeded (decision (Act.Create path) t.world) t outcome (S.told site.new))) }
-    ensures fault { IfOk result (λ outcome. outcome ≡ Outcome.Failed Reason.Fault → Rose (S.faults site.old) (S.faults site.new)) }
-    ensures later { S.faults site.old ≤ S.faults site.new }
+    ensures { IfOk result
+        (Actuated (decision (Act.Create path)) (S.shown site.old) (S.shown site.new)) }
 {
     match decide(alloc, &Act::Create(path), site)? {
         Decision::Kept => Ok(Outcome::Kept),
         Decision::Fail(reason) => Ok(Outcome::Failed(reason)),
+        Decision::Fault(_) => Ok(Outcome::Failed(Reason::Fault)),
         Decision::Needs(change) => change_site(alloc, &change, site),
     }
 }
@@ -123,9 +53,8 @@ fn actuate<S: Site>(
     promise: &FirstPromise,
     site: &mut S,
 ) -> Result<Outcome, NoMemory>
-    ensures exact { IfOk result (λ outcome. outcome ≢ Outcome.Failed Reason.Fault → IfSome (S.told site.old) (λ t. DoesNeeded (needs promise.now.path t.world) t outcome (S.told site.new))) }
-    ensures fault { IfOk result (λ outcome. outcome ≡ Outcome.Failed Reason.Fault → Rose (S.faults site.old) (S.faults site.new)) }
-    ensures later { S.faults site.old ≤ S.faults site.new }
+    ensures { IfOk result
+        (Actuated (needs promise.now.path) (S.shown site.old) (S.shown site.new)) }
 {
     match Path::read(alloc, &promise.path) {
         Ok(path) => create(alloc, path, site),
@@ -134,14 +63,32 @@ fn actuate<S: Site>(
     }
 }
 
-// The line of an outcome; none for a kept instance.
-fn line_of(alloc: Global, number: u32, line: u32, outcome: Outcome) -> Result<String, AllocError>
-    ensures { IfOk result (λ s. string_bytes s ≡ line_of number line outcome) }
+/// Puts the line of an item.
+pub fn put_item<O: Sink>(alloc: Global, item: &Item, out: &mut O) -> Result<(), Stop>
+    ensures { LinePut (output.line_of item.now) (O.shown out.old) (O.shown out.new) result }
+{
+    let text = line(alloc, item)?;
+    put_all(out, text.as_str().as_bytes())?;
+    Ok(())
+}
+
+// Puts the line of an outcome. A kept instance has none.
+fn put_outcome<O: Sink>(
+    alloc: Global,
+    id: PromiseId,
+    outcome: Outcome,
+    out: &mut O,
+) -> Result<(), Stop>
+    ensures { LinePut (line_of id outcome) (O.shown out.old) (O.shown out.new) result }
 {
     match outcome {
-        Outcome::Kept => Ok(String::new(alloc)),
-        Outcome::Repaired => lines::repaired(alloc, number, line),
-        Outcome::Failed(reason) => lines::failed(alloc, number, line, reason),
+        Outcome::Kept => Ok(()),
+        Outcome::Repaired => put_item(alloc, &Item::Repaired(id, 1), out),
+        Outcome::Failed(reason) => {
+            let code = Name::from_text(alloc, reason.code())?;
+            let word = Name::from_text(alloc, reason.word())?;
+            put_item(alloc, &Item::Failed(id, code, word), out)
+        }
     }
 }
 
@@ -154,7 +101,7 @@ pub struct Tally {
 }
 
 fn count(tally: &mut Tally, outcome: Outcome)
-    requires { tally.old.kept + tally.old.repaired + tally.old.failed < 2 ^ 64 - 1 }
+    requires { all_of tally.old < 2 ^ 64 - 1 }
     ensures { tally.new ≡ counted tally.old outcome }
 {
     match outcome {
@@ -173,16 +120,17 @@ fn take_promise<S: Site, O: Sink>(
     out: &mut O,
     tally: &mut Tally,
 ) -> Result<(), Stop>
-    requires { tally.old.kept + tally.old.repaired + tally.old.failed < 2 ^ 64 - 1 }
-    ensures exact { OnOk result (¬ (Rose (S.faults site.old) (S.faults site.new)) → IfSome (S.told site.old) (λ t. TakesPromise number promise.now t (O.told out.old) tally.old (S.told site.new) (O.told out.new) tally.new)) }
-    ensures counts { OnOk result (tally.new.kept + tally.new.repaired + tally.new.failed ≡ tally.old.kept + tally.old.repaired + tally.old.failed + 1) }
-    ensures stopped { IfErr result (λ stop. IsStopOf (O.faults out.old) (O.faults out.new) stop) }
-    ensures later { S.faults site.old ≤ S.faults site.new }
-    ensures put_later { O.faults out.old ≤ O.faults out.new }
+    requires { all_of tally.old < 2 ^ 64 - 1 }
+    ensures { PromiseTaken number promise.now (S.shown site.old) (S.shown site.new)
+        (O.shown out.old) (O.shown out.new) tally.old tally.new result }
 {
     let outcome = actuate(alloc, promise, site)?;
-    let line = line_of(alloc, number, promise.line, outcome)?;
-    put_all(out, line.as_bytes())?;
+    let id = PromiseId {
+        bundle: Name::from_text(alloc, "main")?,
+        number,
+        line: promise.line,
+    };
+    put_outcome(alloc, id, outcome, out)?;
     count(tally, outcome);
     Ok(())
 }
@@ -195,10 +143,8 @@ pub fn run_promises<S: Site, O: Sink>(
     out: &mut O,
 ) -> Result<Tally, Stop>
     requires { length promises.now < 2 ^ 32 - 1 }
-    ensures exact { IfOk result (λ tally. ¬ (Rose (S.faults site.old) (S.faults site.new)) → IfSome (S.told site.old) (λ t. RunsAll (run_of 1 promises.now t.world) t (O.told out.old) tally (S.told site.new) (O.told out.new))) }
-    ensures stopped { IfErr result (λ stop. IsStopOf (O.faults out.old) (O.faults out.new) stop) }
-    ensures later { S.faults site.old ≤ S.faults site.new }
-    ensures put_later { O.faults out.old ≤ O.faults out.new }
+    ensures { PromisesRun promises.now (S.shown site.old) (S.shown site.new)
+        (O.shown out.old) (O.shown out.new) result }
 {
     let mut tally = Tally {
         kept: 0,

@@ -25,6 +25,9 @@ const MOTD_KEPT: &str = "total kept 1 repaired 0 failed 0 skipped 0\n";
 const BENEATH_A_FILE: &str =
     "bundle agent main\n{\n  files:\n    \"/a\" create => \"true\";\n    \"/a/b\" create => \"true\";\n}\n";
 
+const TWO_FILES: &str =
+    "bundle agent main\n{\n  files:\n    \"/a\" create => \"true\";\n    \"/b\" create => \"true\";\n}\n";
+
 const EMPTY: &str = "bundle agent main\n{\n  files:\n}\n";
 
 // A call of the program: its words, its moment, the text of `a.cf`, the call of each object that fails or is refused (0:
@@ -144,7 +147,7 @@ fn a_rerun_keeps_what_a_run_made(rt: HostRuntime) -> Result<(), Fail> {
 }
 
 // Calls on an empty world.
-const ON_AN_EMPTY_WORLD: [Case<'static>; 16] = [
+const ON_AN_EMPTY_WORLD: [Case<'static>; 18] = [
     Case {
         text: BENEATH_A_FILE,
         lines: "repaired main:1@4 1\nfailed main:2@5 F3 Obstructed\ntotal kept 0 repaired 1 failed 1 skipped 0\n",
@@ -168,6 +171,18 @@ const ON_AN_EMPTY_WORLD: [Case<'static>; 16] = [
         failing_call: 2,
         lines: "failed main:1@4 F11 Fault\ntotal kept 0 repaired 0 failed 1 skipped 0\n",
         status: 2,
+        ..PLAIN
+    },
+    Case {
+        text: TWO_FILES,
+        failing_call: 1,
+        lines: "failed main:1@4 F11 Fault\nrepaired main:2@5 1\ntotal kept 0 repaired 1 failed 1 skipped 0\n",
+        status: 2,
+        entries: 2,
+        ..PLAIN
+    },
+    Case {
+        failing_read: 2,
         ..PLAIN
     },
     Case {
@@ -260,7 +275,7 @@ fn each_call_on_an_empty_world(rt: HostRuntime) -> Result<(), Fail> {
 }
 
 // Calls whose sink fails at a put, or is full.
-const WITH_A_FAILING_SINK: [Case<'static>; 7] = [
+const WITH_A_FAILING_SINK: [Case<'static>; 8] = [
     Case {
         failing_put: 1,
         lines: "",
@@ -270,6 +285,13 @@ const WITH_A_FAILING_SINK: [Case<'static>; 7] = [
     Case {
         failing_put: 2,
         lines: "repaired main:1@4 1\n",
+        status: 4,
+        ..PLAIN
+    },
+    Case {
+        text: TWO_FILES,
+        failing_put: 1,
+        lines: "",
         status: 4,
         ..PLAIN
     },
@@ -325,9 +347,14 @@ const SHOWN: Case<'static> = Case {
 };
 
 // Policies that are shown, or refused at their first fault.
-const SHOWS: [Case<'static>; 11] = [
+const SHOWS: [Case<'static>; 12] = [
     Case {
         lines: MOTD,
+        ..SHOWN
+    },
+    Case {
+        lines: MOTD,
+        failing_read: 2,
         ..SHOWN
     },
     Case { text: "", ..SHOWN },
@@ -571,6 +598,7 @@ const MISSPELLED: &str = "bundle agent c\n{\n  files:\n    \"/c\" creat => \"tru
 struct InputsCase<'a> {
     main: &'a str,
     files: [(&'a str, &'a str); 2],
+    failing_read: u32,
     lines: &'a str,
     status: u8,
 }
@@ -578,6 +606,7 @@ struct InputsCase<'a> {
 const OF_INPUTS: InputsCase<'static> = InputsCase {
     main: WITH_INPUTS,
     files: [("b.cf", INPUT_B), ("c.cf", INPUT_C)],
+    failing_read: 0,
     lines: "valid\n",
     status: 0,
 };
@@ -588,8 +617,18 @@ const INVALID_INPUTS: InputsCase<'static> = InputsCase {
 };
 
 // Policies of three files. Files are refused in the order in which they are read, and only then the policy as a whole.
-const CHECKS_OF_INPUTS: [InputsCase<'static>; 12] = [
+const CHECKS_OF_INPUTS: [InputsCase<'static>; 14] = [
     OF_INPUTS,
+    InputsCase {
+        failing_read: 4,
+        ..OF_INPUTS
+    },
+    InputsCase {
+        failing_read: 3,
+        lines: "stopped: outside\n",
+        status: 4,
+        ..OF_INPUTS
+    },
     InputsCase {
         files: [("b.cf", "%"), ("c.cf", INPUT_C)],
         lines: "b.cf:1:1 L1 BadByte\n",
@@ -688,7 +727,8 @@ fn checks_inputs(rt: HostRuntime) -> Result<(), Fail> {
             (row.files[0].0, row.files[0].1.as_bytes()),
             (row.files[1].0, row.files[1].1.as_bytes()),
         ];
-        compare_files(&rt, rt.alloc(), &files, row.lines, row.status)?;
+        let mut inputs = inputs_of(rt.alloc(), &files, row.failing_read)?;
+        compare_inputs(&rt, rt.alloc(), &mut inputs, row.lines, row.status)?;
     }
     Ok(())
 }

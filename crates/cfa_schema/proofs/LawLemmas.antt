@@ -3,10 +3,11 @@ use Rattle.std.proofs.Common.{◌≡◌, ◌∙◌, false, List, [], ◌∷◌, 
 use Rattle.std.proofs.lemmas.Bool.{false≢true}
 use Rattle.std.proofs.lemmas.List.Elements.{All-head, All-tail}
 use Rattle.cfa_base.specs.Patterns.{is_pattern}
-use Rattle.cfa_schema.specs.Refusals.{refusal}
+use Rattle.cfa_values.specs.Refusals.{refusal}
 use Rattle.cfa_schema.specs.Valid.{KnownPattern, IsPattern, IsFirstBad, of_table, no_sequence, bad_pattern}
 use Rattle.cfa_schema.specs.Laws.{RefusalIsOne, NeverBoth}
 use Rattle.cfa_schema.proofs.LeastLemmas.{tie_is}
+use Rattle.cfa_values.specs.declared.refusals.Code.TheVariants.{BadPattern}
 
 bad_is : (p q : KnownPattern) → IsPattern p → is_pattern q.how q.text ≡ false → q ≡ p → ⊥
 bad_is p q good bad is = false≢true (sym bad ∙ ap (λ (x : KnownPattern). is_pattern x.how x.text) is ∙ good)
@@ -38,7 +39,7 @@ refusal_is_one policy r s (no_sequence none has) (no_sequence nil hasn) = refl
 refusal_is_one policy r s (no_sequence none has) (bad_pattern p nil hasn first) = absurd (false≢true (sym has ∙ hasn))
 refusal_is_one policy r s (bad_pattern p none has first) (of_table b two) = absurd (none b two.applies)
 refusal_is_one policy r s (bad_pattern p none has first) (no_sequence nil hasn) = absurd (false≢true (sym hasn ∙ has))
-refusal_is_one policy r s (bad_pattern p none has first) (bad_pattern q nil hasn second) = ap (λ (x : KnownPattern). refusal 13 x.place) (first_bad _ p q first second)
+refusal_is_one policy r s (bad_pattern p none has first) (bad_pattern q nil hasn second) = ap (λ (x : KnownPattern). refusal BadPattern x.place) (first_bad _ p q first second)
 
 pub never_both : NeverBoth
 never_both policy r valid (of_table a one) = valid.none_applies a one.applies

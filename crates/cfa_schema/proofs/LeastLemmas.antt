@@ -1,14 +1,16 @@
 -- What is noted of refusals is the first of them.
 use Rattle.std.proofs.Common.{◌≡◌, ◌∙◌, ℕ, Bool, true, false, cond, List, [], ◌∷◌, ◌++◌, Option, Some, None, ◌⊎◌, inl, inr, ⊎_elim, refl, ap, sym, subst, arith, append_assoc}
-use Rattle.std.specs.Prelude.{nat_lt, ◌==◌, ◌||◌, ◌&&◌}
+use Rattle.std.specs.Prelude.{nat_lt, ◌==◌, ◌||◌, ◌&&◌, if◌then◌else◌}
 use Rattle.std.specs.List.{Contains}
 use Rattle.std.proofs.lemmas.List.Elements.{Contains-push_cases, Contains-push, Contains-append_left}
 use Rattle.std.proofs.lemmas.List.{append-nil}
 use Rattle.std.proofs.lemmas.Bool.Decides.{nat_tests}
 use Rattle.cfa_base.specs.declared.places.Place.{Place}
-use Rattle.cfa_schema.specs.declared.refusals.Refusal.{Refusal}
-use Rattle.cfa_calls.specs.Order.{is_before}
-use Rattle.cfa_schema.specs.Refusals.{is_same_place, is_sooner, sooner, noted}
+use Rattle.cfa_values.specs.declared.refusals.Refusal.{Refusal}
+use Rattle.cfa_base.specs.Order.{is_before}
+use Rattle.cfa_values.specs.declared.refusals.Code.{Code}
+use Rattle.cfa_values.specs.declared.refusals.Code.TheVariants.{UnknownType, TypeOutOfScope, UnknownAttribute, WrongValue, UnknownBody, UnknownBundle, ArgumentCount, Duplicate, CallCycle, NoSequence, BadClassText, ReferenceOutOfScope, BadPattern}
+use Rattle.cfa_values.specs.Refusals.{number_of, is_same_place, is_sooner, sooner, noted}
 
 before_still : (p q r : Place) → is_before p q ≡ true → is_before r q ≡ false → is_before r p ≡ false
 before_still p q r before not_before = grind (arith, nat_tests)
@@ -59,14 +61,14 @@ code_still r first q below not_below = grind (arith, nat_tests)
 sooner_still : (r first q : Refusal) → is_sooner r first ≡ true → is_sooner q first ≡ false → is_sooner q r ≡ false
 unfolding is_sooner
 sooner_still r first q sooner_than not_sooner =
-    third (is_before r.place first.place) (is_same_place r.place first.place) (nat_lt r.code first.code)
-    (is_before q.place first.place) (is_same_place q.place first.place) (nat_lt q.code first.code)
-    (is_before q.place r.place) (is_same_place q.place r.place) (nat_lt q.code r.code)
+    third (is_before r.place first.place) (is_same_place r.place first.place) (nat_lt (number_of r.code) (number_of first.code))
+    (is_before q.place first.place) (is_same_place q.place first.place) (nat_lt (number_of q.code) (number_of first.code))
+    (is_before q.place r.place) (is_same_place q.place r.place) (nat_lt (number_of q.code) (number_of r.code))
     sooner_than not_sooner
     (before_still r.place first.place q.place)
     (λ same. ap (λ (p : Place). is_before p first.place) (same_is q.place r.place same))
     (λ same. (ap (λ (p : Place). is_before q.place p) (same_is r.place first.place same), ap (λ (p : Place). is_same_place q.place p) (same_is r.place first.place same)))
-    (code_still r.code first.code q.code)
+    (code_still (number_of r.code) (number_of first.code) (number_of q.code))
 
 pub not_below_itself : (n : ℕ) → nat_lt n n ≡ false
 not_below_itself n = grind (arith, nat_tests)
@@ -74,8 +76,8 @@ not_below_itself n = grind (arith, nat_tests)
 pub itself_not_sooner : (r : Refusal) → is_sooner r r ≡ false
 unfolding is_sooner
 itself_not_sooner r =
-    ap (λ b. b || (is_same_place r.place r.place && nat_lt r.code r.code)) (before_itself r.place)
-    ∙ ap (λ k. is_same_place r.place r.place && k) (not_below_itself r.code) ∙ and_false (is_same_place r.place r.place)
+    ap (λ b. b || (is_same_place r.place r.place && nat_lt (number_of r.code) (number_of r.code))) (before_itself r.place)
+    ∙ ap (λ k. is_same_place r.place r.place && k) (not_below_itself (number_of r.code)) ∙ and_false (is_same_place r.place r.place)
 
 -- the first of those for which a fact holds, if there are any
 abbrev pub Least : (Refusal → Type 0) → Option Refusal → Type 0
@@ -148,15 +150,51 @@ places_tie p q after before = grind (arith, nat_tests)
 codes_tie : (m n : ℕ) → nat_lt m n ≡ false → nat_lt n m ≡ false → m ≡ n
 codes_tie m n after before = grind (arith, nat_tests)
 
+-- the code of a number
+code_of : ℕ → Code
+code_of n =
+    if n == 1 then UnknownType else (
+    if n == 2 then TypeOutOfScope else (
+    if n == 3 then UnknownAttribute else (
+    if n == 4 then WrongValue else (
+    if n == 5 then UnknownBody else (
+    if n == 6 then UnknownBundle else (
+    if n == 7 then ArgumentCount else (
+    if n == 8 then Duplicate else (
+    if n == 9 then CallCycle else (
+    if n == 10 then NoSequence else (
+    if n == 11 then BadClassText else (
+    if n == 12 then ReferenceOutOfScope else (
+    BadPattern))))))))))))
+
+code_again : (c : Code) → code_of (number_of c) ≡ c
+unfolding code_of
+code_again UnknownType = refl
+code_again TypeOutOfScope = refl
+code_again UnknownAttribute = refl
+code_again WrongValue = refl
+code_again UnknownBody = refl
+code_again UnknownBundle = refl
+code_again ArgumentCount = refl
+code_again Duplicate = refl
+code_again CallCycle = refl
+code_again NoSequence = refl
+code_again BadClassText = refl
+code_again ReferenceOutOfScope = refl
+code_again BadPattern = refl
+
+same_code : (c d : Code) → number_of c ≡ number_of d → c ≡ d
+same_code c d e = sym (code_again c) ∙ ap code_of e ∙ code_again d
+
 pub tie_is : (r s : Refusal) → is_sooner r s ≡ false → is_sooner s r ≡ false → r ≡ s
 unfolding is_sooner
 tie_is r s e f =
-    let one = either_false (is_before r.place s.place) (is_same_place r.place s.place && nat_lt r.code s.code) e in
-    let two = either_false (is_before s.place r.place) (is_same_place s.place r.place && nat_lt s.code r.code) f in
+    let one = either_false (is_before r.place s.place) (is_same_place r.place s.place && nat_lt (number_of r.code) (number_of s.code)) e in
+    let two = either_false (is_before s.place r.place) (is_same_place s.place r.place && nat_lt (number_of s.code) (number_of r.code)) f in
     let there = places_tie r.place s.place one.0 two.0 in
     let back = places_tie s.place r.place two.0 one.0 in
     let places = same_is r.place s.place there in
-    let codes = codes_tie r.code s.code (ap (λ b. b && nat_lt r.code s.code) (sym there) ∙ one.1) (ap (λ b. b && nat_lt s.code r.code) (sym back) ∙ two.1) in
+    let codes = same_code r.code s.code (codes_tie (number_of r.code) (number_of s.code) (ap (λ b. b && nat_lt (number_of r.code) (number_of s.code)) (sym there) ∙ one.1) (ap (λ b. b && nat_lt (number_of s.code) (number_of r.code)) (sym back) ∙ two.1)) in
     λ i. record { code = codes i; place = places i }
 
 not_sooner_by : (q p first : Refusal) (b : Bool) → is_sooner q first ≡ b → is_sooner q p ≡ false → is_sooner p first ≡ false → b ≡ false

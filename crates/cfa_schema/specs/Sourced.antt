@@ -2,6 +2,7 @@
 -- text of at most 1,048,576 bytes, with the number of its file in its places.
 use Rattle.std.specs.Prelude.{◌≡◌, ℕ, ◌+◌, ◌≤◌, List, [], ◌∷◌, ◌++◌, length}
 use Rattle.std.specs.Str.{IsUtf8}
+use Rattle.cfa_base.specs.declared.limits.TheConstants.{MOST_INPUTS, MOST_SOURCE_BYTES}
 use Rattle.cfa_base.specs.Tokens.{Token}
 use Rattle.cfa_base.specs.Lexing.{Lexes, first_place}
 use Rattle.cfa_tree.specs.Tree.{PolicyTree}
@@ -11,7 +12,7 @@ use Rattle.cfa_tree.specs.Grammar.{ReadsWithin, depth_limit}
 pub record IsRead (file : ℕ) (tree : PolicyTree) : Type 0 where
   pub source : List ℕ
   pub tokens : List Token
-  pub fits : length source ≤ 1048576
+  pub fits : length source ≤ MOST_SOURCE_BYTES
   pub utf8 : IsUtf8 source
   pub lexes : Lexes (first_place file) source tokens
   pub reads : ReadsWithin depth_limit tokens tree
@@ -28,6 +29,6 @@ joined (tree ∷ more) = tree ++ joined more
 -- the main file, and its inputs behind it
 pub record IsSourced (policy : PolicyTree) : Type 0 where
   pub parts : List PolicyTree
-  pub count : length parts ≤ 17
+  pub count : length parts ≤ MOST_INPUTS + 1
   pub read : AreRead 0 parts
   pub whole : policy ≡ joined parts

@@ -2,27 +2,25 @@
 ghost use Rattle.std.specs.Prelude.{◌≡◌, IfOk, OnOk, Some, map, not};
 ghost use Rattle.std.specs.List.{flat_map, list_any};
 ghost use Rattle.cfa_tree.specs.Plain.{plain_attribute, plain_section, plain_named, plain_block};
-ghost use Rattle.cfa_schema.specs.Contexts.{seen_context};
+ghost use Rattle.cfa_values.specs.Seen.{seen_context};
 ghost use Rattle.cfa_kinds.specs.Kinds.{required};
-ghost use Rattle.cfa_schema.specs.Known.{name_in};
-ghost use Rattle.cfa_schema.specs.Refusals.{noted};
-ghost use Rattle.cfa_schema.specs.Settings.{seen_item};
-ghost use Rattle.cfa_schema.specs.Valid.{has_attribute, other_type, section_refusals, is_misnamed, lacks_required, body_by, block_refusals};
-ghost use Rattle.cfa_schema.specs.Values.{repeated};
+ghost use Rattle.cfa_values.specs.Values.{name_in, repeated};
+ghost use Rattle.cfa_values.specs.Refusals.{noted};
+ghost use Rattle.cfa_values.specs.Kept.{seen_item};
+ghost use Rattle.cfa_values.specs.Attributes.{has_attribute};
+ghost use Rattle.cfa_schema.specs.Valid.{other_type, section_refusals, is_misnamed, lacks_required, body_by, block_refusals};
 
-use crate::attributes::{Table, has_attribute, note_attributes};
-use crate::knowing::Definitions;
 use crate::promises::note_promises;
-use crate::refusals::{Refusal, TYPE_OUT_OF_SCOPE, UNKNOWN_TYPE, WRONG_VALUE, note_if};
-use crate::repeating::{Item, note_repeated};
-use crate::settings::{Context, Home};
-use cfa_base::{NoMemory, Place};
-use cfa_calls::NameIndex;
+use cfa_base::{NameIndex, NoMemory, Place};
 use cfa_kinds::{
     BodyType, BundleType, body_type, bundle_type, has_promise_type, is_foreign_body_type,
     is_foreign_bundle_type, is_foreign_promise_type, promise_type, required,
 };
 use cfa_tree::{Attribute, Block, Body, Bundle, Named, Section};
+use cfa_values::{
+    Code, Context, Definitions, Home, Item, Refusal, Table, has_attribute, note_attributes,
+    note_if, note_repeated,
+};
 use std::alloc::Global;
 
 // Notes the word of a type that this profile leaves out, or that is unknown.
@@ -30,9 +28,9 @@ fn note_other_type(is_foreign: bool, place: Place, first: &mut Option<Refusal>)
     ensures { first.new ≡ noted first.old (other_type is_foreign place) }
 {
     let code = if is_foreign {
-        TYPE_OUT_OF_SCOPE
+        Code::TypeOutOfScope
     } else {
-        UNKNOWN_TYPE
+        Code::UnknownType
     };
     note_if(first, true, code, place);
 }
@@ -44,7 +42,8 @@ fn note_section(
     section: &Section,
     first: &mut Option<Refusal>,
 ) -> Result<(), NoMemory>
-    ensures { OnOk result (first.new ≡ noted first.old (section_refusals (seen_context context.now) within (plain_section section.now))) }
+    ensures { OnOk result (first.new ≡ noted first.old
+        (section_refusals (seen_context context.now) within (plain_section section.now))) }
 {
     let kind = section.kind.as_str();
     match promise_type(kind) {
@@ -53,7 +52,7 @@ fn note_section(
                 let promises = section.promises.as_slice();
                 note_promises(alloc, context, promise_type, promises, first)
             } else {
-                note_if(first, true, TYPE_OUT_OF_SCOPE, section.place);
+                note_if(first, true, Code::TypeOutOfScope, section.place);
                 Ok(())
             }
         }
@@ -71,7 +70,9 @@ fn note_sections(
     sections: &[Section],
     first: &mut Option<Refusal>,
 ) -> Result<(), NoMemory>
-    ensures { OnOk result (first.new ≡ noted first.old (flat_map (section_refusals (seen_context context.now) within) (map plain_section sections.now))) }
+    ensures { OnOk result (first.new ≡ noted first.old
+        (flat_map (section_refusals (seen_context context.now) within)
+        (map plain_section sections.now))) }
 {
     for section in sections {
         note_section(alloc, context, within, section, first)?;
@@ -115,7 +116,8 @@ fn note_bundle(
     bundle: &Bundle,
     first: &mut Option<Refusal>,
 ) -> Result<(), NoMemory>
-    ensures { OnOk result (first.new ≡ noted first.old (block_refusals definitions.now (plain_block (Block.Bundle bundle.now)))) }
+    ensures { OnOk result (first.new ≡ noted first.old
+        (block_refusals definitions.now (plain_block (Block.Bundle bundle.now)))) }
 {
     note_params(alloc, bundle.params.as_slice(), first)?;
     let kind = bundle.kind.name.as_str();
@@ -148,7 +150,9 @@ fn is_misnamed(body_type: BodyType, name: &str) -> bool
 
 // Whether one of the names is that of no attribute.
 fn lacks_one(names: &[&str], attributes: &[Attribute]) -> bool
-    ensures { result ≡ list_any (λ name. not (has_attribute (map plain_attribute attributes.now) name.now)) names.now }
+    ensures { result
+        ≡ list_any (λ name. not (has_attribute (map plain_attribute attributes.now) name.now))
+        names.now }
 {
     names.iter().any(|name| !has_attribute(attributes, name))
 }
@@ -167,7 +171,9 @@ fn note_body_of(
     body: &Body,
     first: &mut Option<Refusal>,
 ) -> Result<(), NoMemory>
-    ensures { OnOk result (first.new ≡ noted first.old (body_by (seen_context context.now) (plain_named body.now.kind) (plain_named body.now.name) (map plain_attribute body.now.attributes) (Some body_type))) }
+    ensures { OnOk result (first.new ≡ noted first.old
+        (body_by (seen_context context.now) (plain_named body.now.kind) (plain_named body.now.name)
+        (map plain_attribute body.now.attributes) (Some body_type))) }
 {
     let attributes = body.attributes.as_slice();
     let place = body.name.place;
@@ -175,13 +181,13 @@ fn note_body_of(
     note_if(
         first,
         is_misnamed(body_type, name),
-        TYPE_OUT_OF_SCOPE,
+        Code::TypeOutOfScope,
         place,
     );
     note_if(
         first,
         lacks_required(body_type, attributes),
-        WRONG_VALUE,
+        Code::WrongValue,
         place,
     );
     note_attributes(alloc, context, Table::OfBody(body_type), attributes, first)
@@ -193,7 +199,8 @@ fn note_body<'a>(
     body: &'a Body,
     first: &mut Option<Refusal>,
 ) -> Result<(), NoMemory>
-    ensures { OnOk result (first.new ≡ noted first.old (block_refusals definitions.now (plain_block (Block.Body body.now)))) }
+    ensures { OnOk result (first.new
+        ≡ noted first.old (block_refusals definitions.now (plain_block (Block.Body body.now)))) }
 {
     let params = body.params.as_slice();
     note_params(alloc, params, first)?;
@@ -220,7 +227,8 @@ fn note_block(
     block: &Block,
     first: &mut Option<Refusal>,
 ) -> Result<(), NoMemory>
-    ensures { OnOk result (first.new ≡ noted first.old (block_refusals definitions.now (plain_block block.now))) }
+    ensures { OnOk result (first.new
+        ≡ noted first.old (block_refusals definitions.now (plain_block block.now))) }
 {
     match block {
         Block::Bundle(bundle) => note_bundle(alloc, definitions, bundle, first),
@@ -235,7 +243,8 @@ pub(crate) fn note_blocks(
     blocks: &[Block],
     first: &mut Option<Refusal>,
 ) -> Result<(), NoMemory>
-    ensures { OnOk result (first.new ≡ noted first.old (flat_map (block_refusals definitions.now) (map plain_block blocks.now))) }
+    ensures { OnOk result (first.new ≡ noted first.old
+        (flat_map (block_refusals definitions.now) (map plain_block blocks.now))) }
 {
     for block in blocks {
         note_block(alloc, definitions, block, first)?;

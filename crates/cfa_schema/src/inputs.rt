@@ -1,20 +1,16 @@
 // The files that are read with a policy.
 ghost use Rattle.std.specs.Prelude.{◌≡◌, IfOk, map, take};
 ghost use Rattle.cfa_tree.specs.Plain.{plain_policy, plain_value};
-ghost use Rattle.cfa_schema.specs.Collected.{item_name};
-ghost use Rattle.cfa_schema.specs.Known.{inputs_of, names_listed};
+ghost use Rattle.cfa_values.specs.Kept.{item_name};
+ghost use Rattle.cfa_schema.specs.Control.{inputs_of, names_listed};
 
-use crate::attributes::value_named;
-use crate::controls::{control_attributes, listed_names};
-use crate::repeating::Item;
-use cfa_base::{Name, Names, NoMemory};
+use crate::control::{control_attributes, listed_names};
+use cfa_base::{MOST_INPUTS, Name, Names, NoMemory};
 use cfa_tree::{Policy, Value};
+use cfa_values::{Item, value_named};
 use std::alloc::Global;
 
-/// How many files a policy may have beside the main file.
-const INPUT_LIMIT: usize = 16;
-
-fn copy_names(alloc: Global, items: &[Item<'_>]) -> Result<Names, NoMemory>
+pub(crate) fn copy_names(alloc: Global, items: &[Item<'_>]) -> Result<Names, NoMemory>
     ensures { IfOk result (λ names. names ≡ map item_name items.now) }
 {
     let mut names = Names::new(alloc);
@@ -25,13 +21,14 @@ fn copy_names(alloc: Global, items: &[Item<'_>]) -> Result<Names, NoMemory>
 }
 
 fn first_items<'a>(items: &'a [Item<'a>]) -> &'a [Item<'a>]
-    ensures { result.now ≡ take 16 items.now }
+    ensures { result.now ≡ take MOST_INPUTS items.now }
 {
-    &items[..items.len().min(INPUT_LIMIT)]
+    &items[..items.len().min(MOST_INPUTS)]
 }
 
 fn first_listed(alloc: Global, value: &Value) -> Result<Names, NoMemory>
-    ensures { IfOk result (λ names. names ≡ take 16 (names_listed (plain_value value.now))) }
+    ensures { IfOk result (λ names.
+        names ≡ take MOST_INPUTS (names_listed (plain_value value.now))) }
 {
     let listed = listed_names(alloc, value)?;
     copy_names(alloc, first_items(&listed))
@@ -39,7 +36,7 @@ fn first_listed(alloc: Global, value: &Value) -> Result<Names, NoMemory>
 
 /// The names of the files that are read with a main file: the first 16 that its first `body common control` lists in
 /// `inputs` as words or as texts without references.
-#[tactic(auto, unfolding(crate::specs::Known::inputs_of))]
+#[tactic(auto, unfolding(crate::specs::Control::inputs_of))]
 pub fn input_names(alloc: Global, policy: &Policy) -> Result<Names, NoMemory>
     ensures { IfOk result (λ names. names ≡ inputs_of (plain_policy policy.now)) }
 {

@@ -1,22 +1,21 @@
 // The patterns of a policy that are known before the run.
-ghost use Rattle.std.specs.Prelude.{◌≡◌, ◌++◌, IfErr, IfOk, IsErrOf, OnOk, All, map, option_map};
+ghost use Rattle.std.specs.Prelude.{◌≡◌, ◌++◌, IfErr, IfOk, OnOk, All, map, option_map};
 ghost use Rattle.std.specs.List.{flat_map};
-ghost use Rattle.cfa_base.specs.Causes.{Rose};
-ghost use Rattle.cfa_base.specs.Patterns.{refuses};
-ghost use Rattle.cfa_tree.specs.Plain.{plain_attribute, plain_block, plain_policy, plain_promise, plain_section};
-ghost use Rattle.cfa_schema.specs.Collected.{one_or_none, promiser_how, pattern_of_promiser, seen_pattern};
-ghost use Rattle.cfa_schema.specs.Faults.{IfBad, IfTooBig, HasFirstBad, HasRefused, IsBadAt, IsRefusedAs};
+ghost use Rattle.cfa_base.specs.Patterns.{SizeRefusal};
+ghost use Rattle.cfa_tree.specs.Plain.{plain_attribute, plain_block, plain_policy, plain_promise, plain_section, plain_value};
+ghost use Rattle.cfa_schema.specs.Collected.{one_or_none, promiser_how, pattern_of_promiser, seen_pattern, IfRefused, HasFirstBad, HasRefused, IsBad, IsRefusedAs};
+ghost use Rattle.cfa_schema.specs.Errors.{refused_for_size};
 ghost use Rattle.cfa_kinds.specs.Kinds.{promise_type};
-ghost use Rattle.cfa_schema.specs.Valid.{IsPattern, pattern_in_attribute, patterns_in_block, patterns_in_section, patterns_of};
-ghost use Rattle.cfa_schema.specs.declared.patterns.PatternFault.TheVariants.{NoMemory};
+ghost use Rattle.cfa_values.specs.Values.{known_named};
+ghost use Rattle.cfa_schema.specs.Valid.{IsPattern, pattern_in_attribute, pattern_named, patterns_in_block, patterns_in_section, patterns_of};
 
-use crate::controls::known_item;
-use crate::wanting::is_known;
+use crate::errors::SchemaErr;
 use cfa_base as base;
 use cfa_base::{How, Name, PatternErr, Patterns, Place};
-use cfa_kinds::{PromiseType, promise_type};
-use cfa_tree::{Attribute, Block, Body, Policy, Promise, Section};
-use std::alloc::{AllocError, AllocFailed, Global};
+use cfa_kinds::{BodyType, Kind, PromiseType, body_attribute, body_type, promise_type};
+use cfa_tree::{Attribute, Block, Body, Policy, Promise, Section, Value};
+use cfa_values::{Code, Refusal, is_known, known_item};
+use std::alloc::Global;
 
 /// A pattern that is known before the run, how it is to match, and its place.
 #[derive(Clone, Copy, Debug)]
@@ -24,25 +23,6 @@ struct KnownPattern<'a> {
     how: How,
     text: &'a str,
     place: Place,
-}
-
-/// Why the patterns of a policy weren't all built.
-#[derive(Debug, Drop)]
-pub(crate) enum PatternFault {
-    /// The first text that is no pattern stands here.
-    Bad(Place),
-    /// The pattern of this text was refused for its size.
-    TooBig(Name),
-    /// No memory was left for a pattern.
-    NoMemory,
-}
-
-impl From<base::NoMemory> for PatternFault {
-    ghost from_gives = { λ _ e. e ≡ NoMemory };
-
-    fn from(_: base::NoMemory) -> Self {
-        PatternFault::NoMemory
-    }
 }
 
 // How the promisers of a type of promises match, where they are patterns.
@@ -62,7 +42,9 @@ fn add_promisers<'a>(
     how: How,
     promises: &'a [Promise],
 ) -> Result<(), base::NoMemory>
-    ensures { OnOk result (map seen_pattern patterns.new.items ≡ map seen_pattern patterns.old.items ++ flat_map (pattern_of_promiser how) (map plain_promise promises.now)) }
+    ensures { OnOk result (map seen_pattern patterns.new.items
+        ≡ map seen_pattern patterns.old.items ++ flat_map (pattern_of_promiser how)
+        (map plain_promise promises.now)) }
 {
     for promise in promises {
         let text = promise.promiser.as_str();
@@ -81,7 +63,8 @@ fn add_of_section<'a>(
     patterns: &mut Vec<KnownPattern<'a>>,
     section: &'a Section,
 ) -> Result<(), base::NoMemory>
-    ensures { OnOk result (map seen_pattern patterns.new.items ≡ map seen_pattern patterns.old.items ++ patterns_in_section (plain_section section.now)) }
+    ensures { OnOk result (map seen_pattern patterns.new.items
+        ≡ map seen_pattern patterns.old.items ++ patterns_in_section (plain_section section.now)) }
 {
     match how_promisers_match(section.kind.as_str()) {
         Some(how) => add_promisers(patterns, how, section.promises.as_slice()),
@@ -93,7 +76,9 @@ fn add_of_sections<'a>(
     patterns: &mut Vec<KnownPattern<'a>>,
     sections: &'a [Section],
 ) -> Result<(), base::NoMemory>
-    ensures { OnOk result (map seen_pattern patterns.new.items ≡ map seen_pattern patterns.old.items ++ flat_map patterns_in_section (map plain_section sections.now)) }
+    ensures { OnOk result (map seen_pattern patterns.new.items
+        ≡ map seen_pattern patterns.old.items ++ flat_map patterns_in_section
+        (map plain_section sections.now)) }
 {
     for section in sections {
         add_of_section(patterns, section)?;
@@ -101,13 +86,21 @@ fn add_of_sections<'a>(
     Ok(())
 }
 
-fn pattern_in(attribute: &Attribute) -> Option<KnownPattern<'_>>
-    ensures { one_or_none (option_map seen_pattern result) ≡ pattern_in_attribute (plain_attribute attribute.now) }
+fn pattern_in(body_type: BodyType, attribute: &Attribute) -> Option<KnownPattern<'_>>
+    ensures { one_or_none (option_map seen_pattern result)
+        ≡ pattern_in_attribute body_type (plain_attribute attribute.now) }
 {
-    if attribute.name.as_str() != "select_line_matching" {
-        return None;
+    match body_attribute(body_type, attribute.name.as_str()) {
+        Some(Kind::Pattern) => known_pattern(&attribute.value),
+        _ => None,
     }
-    let item = known_item(&attribute.value)?;
+}
+
+fn known_pattern(value: &Value) -> Option<KnownPattern<'_>>
+    ensures { one_or_none (option_map seen_pattern result)
+        ≡ pattern_named (known_named (plain_value value.now)) }
+{
+    let item = known_item(value)?;
     Some(KnownPattern {
         how: How::Whole,
         text: item.name,
@@ -115,28 +108,43 @@ fn pattern_in(attribute: &Attribute) -> Option<KnownPattern<'_>>
     })
 }
 
-fn add_of_body<'a>(
+fn add_of_attributes<'a>(
     patterns: &mut Vec<KnownPattern<'a>>,
-    body: &'a Body,
+    body_type: BodyType,
+    attributes: &'a [Attribute],
 ) -> Result<(), base::NoMemory>
-    ensures { OnOk result (map seen_pattern patterns.new.items ≡ map seen_pattern patterns.old.items ++ patterns_in_block (plain_block (Block.Body body.now))) }
+    ensures { OnOk result (map seen_pattern patterns.new.items
+        ≡ map seen_pattern patterns.old.items
+        ++ flat_map (pattern_in_attribute body_type) (map plain_attribute attributes.now)) }
 {
-    if body.kind.name.as_str() != "location" {
-        return Ok(());
-    }
-    for attribute in body.attributes.as_slice() {
-        if let Some(pattern) = pattern_in(attribute) {
+    for attribute in attributes {
+        if let Some(pattern) = pattern_in(body_type, attribute) {
             patterns.push(pattern)?;
         }
     }
     Ok(())
 }
 
+fn add_of_body<'a>(
+    patterns: &mut Vec<KnownPattern<'a>>,
+    body: &'a Body,
+) -> Result<(), base::NoMemory>
+    ensures { OnOk result (map seen_pattern patterns.new.items
+        ≡ map seen_pattern patterns.old.items
+        ++ patterns_in_block (plain_block (Block.Body body.now))) }
+{
+    match body_type(body.kind.name.as_str()) {
+        Some(body_type) => add_of_attributes(patterns, body_type, body.attributes.as_slice()),
+        None => Ok(()),
+    }
+}
+
 fn add_of_block<'a>(
     patterns: &mut Vec<KnownPattern<'a>>,
     block: &'a Block,
 ) -> Result<(), base::NoMemory>
-    ensures { OnOk result (map seen_pattern patterns.new.items ≡ map seen_pattern patterns.old.items ++ patterns_in_block (plain_block block.now)) }
+    ensures { OnOk result (map seen_pattern patterns.new.items
+        ≡ map seen_pattern patterns.old.items ++ patterns_in_block (plain_block block.now)) }
 {
     match block {
         Block::Bundle(bundle) => add_of_sections(patterns, bundle.sections.as_slice()),
@@ -150,7 +158,8 @@ fn patterns_of<'a>(
     alloc: Global,
     policy: &'a Policy,
 ) -> Result<Vec<KnownPattern<'a>>, base::NoMemory>
-    ensures { IfOk result (λ patterns. map seen_pattern patterns.items ≡ patterns_of (plain_policy policy.now)) }
+    ensures { IfOk result (λ patterns. map seen_pattern patterns.items
+        ≡ patterns_of (plain_policy policy.now)) }
 {
     let mut patterns = Vec::new(alloc);
     for block in policy.blocks.as_slice() {
@@ -164,25 +173,21 @@ fn build_one<P: Patterns>(
     alloc: Global,
     pattern: KnownPattern<'_>,
     pats: &mut P,
-) -> Result<(), PatternFault>
+) -> Result<(), SchemaErr>
     ensures good { OnOk result (IsPattern (seen_pattern pattern.entry)) }
-    ensures bad { IfErr result (λ e. IfBad e (IsBadAt (seen_pattern pattern.entry))) }
-    ensures too_big { IfErr result (λ e. IfTooBig e (IsRefusedAs (seen_pattern pattern.entry))) }
-    ensures too_big_told { IfErr result (λ e. IfTooBig e (λ t. P.told pats.new ≡ option_map (refuses t) (P.told pats.old))) }
-    ensures too_big_rose { IfErr result (λ e. IfTooBig e (λ t. Rose (P.refusals pats.old) (P.refusals pats.new))) }
-    ensures ok_told { OnOk result (P.told pats.new ≡ P.told pats.old) }
-    ensures ok_count { OnOk result (P.refusals pats.new ≡ P.refusals pats.old) }
-    ensures bad_told { IfErr result (λ e. IfBad e (λ place. P.told pats.new ≡ P.told pats.old)) }
-    ensures bad_count { IfErr result (λ e. IfBad e (λ place. P.refusals pats.new ≡ P.refusals pats.old)) }
-    ensures memory_told { IsErrOf result PatternFault.NoMemory → P.told pats.new ≡ P.told pats.old }
-    ensures memory_count { IsErrOf result PatternFault.NoMemory → P.refusals pats.new ≡ P.refusals pats.old }
+    ensures bad { IfErr result (λ e. IfRefused e (IsBad (seen_pattern pattern.entry))) }
+    ensures shown { SizeRefusal (IsRefusedAs (seen_pattern pattern.entry)) (refused_for_size result)
+        (P.shown pats.old) (P.shown pats.new) }
 {
     let text = Name::from_text(alloc, pattern.text)?;
     match pats.build(alloc, &text, pattern.how) {
         Ok(_) => Ok(()),
-        Err(PatternErr::Bad) => Err(PatternFault::Bad(pattern.place)),
-        Err(PatternErr::TooBig) => Err(PatternFault::TooBig(text)),
-        Err(PatternErr::NoMemory) => Err(PatternFault::NoMemory),
+        Err(PatternErr::Bad) => Err(SchemaErr::Refused(Refusal {
+            code: Code::BadPattern,
+            place: pattern.place,
+        })),
+        Err(PatternErr::TooBig) => Err(SchemaErr::PatternTooBig(text)),
+        Err(PatternErr::NoMemory) => Err(SchemaErr::NoMemory),
     }
 }
 
@@ -190,18 +195,12 @@ fn build_all<P: Patterns>(
     alloc: Global,
     patterns: &[KnownPattern<'_>],
     pats: &mut P,
-) -> Result<(), PatternFault>
+) -> Result<(), SchemaErr>
     ensures good { OnOk result (All IsPattern (map seen_pattern patterns.now)) }
-    ensures bad { IfErr result (λ e. IfBad e (HasFirstBad (map seen_pattern patterns.now))) }
-    ensures too_big { IfErr result (λ e. IfTooBig e (HasRefused (map seen_pattern patterns.now))) }
-    ensures too_big_told { IfErr result (λ e. IfTooBig e (λ t. P.told pats.new ≡ option_map (refuses t) (P.told pats.old))) }
-    ensures too_big_rose { IfErr result (λ e. IfTooBig e (λ t. Rose (P.refusals pats.old) (P.refusals pats.new))) }
-    ensures ok_told { OnOk result (P.told pats.new ≡ P.told pats.old) }
-    ensures ok_count { OnOk result (P.refusals pats.new ≡ P.refusals pats.old) }
-    ensures bad_told { IfErr result (λ e. IfBad e (λ place. P.told pats.new ≡ P.told pats.old)) }
-    ensures bad_count { IfErr result (λ e. IfBad e (λ place. P.refusals pats.new ≡ P.refusals pats.old)) }
-    ensures memory_told { IsErrOf result PatternFault.NoMemory → P.told pats.new ≡ P.told pats.old }
-    ensures memory_count { IsErrOf result PatternFault.NoMemory → P.refusals pats.new ≡ P.refusals pats.old }
+    ensures bad { IfErr result (λ e. IfRefused e (HasFirstBad (map seen_pattern patterns.now))) }
+    ensures shown { SizeRefusal (HasRefused (map seen_pattern patterns.now))
+        (refused_for_size result)
+        (P.shown pats.old) (P.shown pats.new) }
 {
     for pattern in patterns {
         build_one(alloc, *pattern, pats)?;
@@ -209,25 +208,19 @@ fn build_all<P: Patterns>(
     Ok(())
 }
 
-/// Builds the patterns that are known before the run, in text order, up to the first that isn't built. `Bad` has the place
-/// of the first that is none, and `TooBig` the text of one that the builder refused for its size; all before it are
+/// Builds the patterns that are known before the run, in text order, up to the first that isn't built. `Refused` has the
+/// first that is none, and `PatternTooBig` the text of one that the builder refused for its size; all before it are
 /// patterns.
 pub(crate) fn check_patterns<P: Patterns>(
     alloc: Global,
     policy: &Policy,
     pats: &mut P,
-) -> Result<(), PatternFault>
+) -> Result<(), SchemaErr>
     ensures good { OnOk result (All IsPattern (patterns_of (plain_policy policy.now))) }
-    ensures bad { IfErr result (λ e. IfBad e (HasFirstBad (patterns_of (plain_policy policy.now)))) }
-    ensures too_big { IfErr result (λ e. IfTooBig e (HasRefused (patterns_of (plain_policy policy.now)))) }
-    ensures too_big_told { IfErr result (λ e. IfTooBig e (λ t. P.told pats.new ≡ option_map (refuses t) (P.told pats.old))) }
-    ensures too_big_rose { IfErr result (λ e. IfTooBig e (λ t. Rose (P.refusals pats.old) (P.refusals pats.new))) }
-    ensures ok_told { OnOk result (P.told pats.new ≡ P.told pats.old) }
-    ensures ok_count { OnOk result (P.refusals pats.new ≡ P.refusals pats.old) }
-    ensures bad_told { IfErr result (λ e. IfBad e (λ place. P.told pats.new ≡ P.told pats.old)) }
-    ensures bad_count { IfErr result (λ e. IfBad e (λ place. P.refusals pats.new ≡ P.refusals pats.old)) }
-    ensures memory_told { IsErrOf result PatternFault.NoMemory → P.told pats.new ≡ P.told pats.old }
-    ensures memory_count { IsErrOf result PatternFault.NoMemory → P.refusals pats.new ≡ P.refusals pats.old }
+    ensures bad { IfErr result
+        (λ e. IfRefused e (HasFirstBad (patterns_of (plain_policy policy.now)))) }
+    ensures shown { SizeRefusal (HasRefused (patterns_of (plain_policy policy.now)))
+        (refused_for_size result) (P.shown pats.old) (P.shown pats.new) }
 {
     let patterns = patterns_of(alloc, policy)?;
     build_all(alloc, &patterns, pats)

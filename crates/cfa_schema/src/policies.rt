@@ -2,27 +2,26 @@
 ghost use Rattle.std.specs.Prelude.{◌≡◌, IfOk, OnOk, Some, [], map, codes, option_map};
 ghost use Rattle.std.specs.List.{flat_map, filter_map};
 ghost use Rattle.cfa_tree.specs.Plain.{plain_attribute, plain_block, plain_policy};
-ghost use Rattle.cfa_schema.specs.Known.{value_of, known_of, is_agent, bundle_named};
-ghost use Rattle.cfa_schema.specs.Refusals.{noted};
-ghost use Rattle.cfa_schema.specs.Settings.{seen_item};
+ghost use Rattle.cfa_values.specs.Attributes.{value_of};
+ghost use Rattle.cfa_schema.specs.Defined.{definitions_of};
+ghost use Rattle.cfa_values.specs.Definitions.{is_agent, bundle_named};
+ghost use Rattle.cfa_values.specs.Refusals.{noted};
+ghost use Rattle.cfa_values.specs.Kept.{seen_item};
 ghost use Rattle.cfa_schema.specs.Valid.{bundle_name, body_name, repeated_bodies_after, main_refusals, default_refusals, refusals};
-ghost use Rattle.cfa_schema.specs.Values.{repeated};
+ghost use Rattle.cfa_values.specs.Values.{repeated};
 
-use crate::attributes::has_attribute;
 use crate::blocks::note_blocks;
-use crate::controls::control_attributes;
-use crate::knowing::Definitions;
-use crate::pairs::PairIndex;
-use crate::refusals::{ARGUMENT_COUNT, DUPLICATE, Refusal, note_if};
-use crate::repeating::{Item, note_repeated};
-use cfa_base::NoMemory;
+use crate::control::control_attributes;
+use cfa_base::{NoMemory, PairIndex};
 use cfa_kinds::BundleType;
 use cfa_tree::{Attribute, Block, Policy};
+use cfa_values::{Code, Definitions, Item, Refusal, has_attribute, note_if, note_repeated};
 use std::alloc::Global;
 
 // The names of bundles with their places.
 fn bundle_items<'a>(alloc: Global, blocks: &'a [Block]) -> Result<Vec<Item<'a>>, NoMemory>
-    ensures { IfOk result (λ items. map seen_item items.items ≡ filter_map bundle_name (map plain_block blocks.now)) }
+    ensures { IfOk result (λ items. map seen_item items.items
+        ≡ filter_map bundle_name (map plain_block blocks.now)) }
 {
     let mut items = Vec::new(alloc);
     for block in blocks {
@@ -42,13 +41,14 @@ fn note_repeated_bodies(
     blocks: &[Block],
     first: &mut Option<Refusal>,
 ) -> Result<(), NoMemory>
-    ensures { OnOk result (first.new ≡ noted first.old (repeated_bodies_after [] (filter_map body_name (map plain_block blocks.now)))) }
+    ensures { OnOk result (first.new ≡ noted first.old
+        (repeated_bodies_after [] (filter_map body_name (map plain_block blocks.now)))) }
 {
     let mut bodies = PairIndex::new(alloc);
     for block in blocks {
         if let Block::Body(body) = block {
             let is_new = bodies.add(body.kind.name.as_str(), body.name.name.as_str())?;
-            note_if(first, !is_new, DUPLICATE, body.name.place);
+            note_if(first, !is_new, Code::Duplicate, body.name.place);
         }
     }
     Ok(())
@@ -62,12 +62,13 @@ fn is_agent(bundle_type: Option<BundleType>) -> bool
 
 // Notes a bundle `main` that is activated without arguments and has parameters.
 fn note_main(definitions: &Definitions<'_>, first: &mut Option<Refusal>)
-    ensures { first.new ≡ noted first.old (main_refusals (bundle_named definitions.now (codes "main"))) }
+    ensures { first.new ≡ noted first.old
+        (main_refusals (bundle_named definitions.now (codes "main"))) }
 {
     match definitions.find_bundle("main") {
         Some(main) => {
             let is_wrong = is_agent(main.bundle_type) && main.params > 0;
-            note_if(first, is_wrong, ARGUMENT_COUNT, main.place);
+            note_if(first, is_wrong, Code::ArgumentCount, main.place);
         }
         None => {}
     }
@@ -75,7 +76,9 @@ fn note_main(definitions: &Definitions<'_>, first: &mut Option<Refusal>)
 
 // Notes what is wrong with the sequence that there is without a bundlesequence.
 fn note_default(definitions: &Definitions<'_>, control: &[Attribute], first: &mut Option<Refusal>)
-    ensures { first.new ≡ noted first.old (default_refusals definitions.now (value_of (codes "bundlesequence") (map plain_attribute control.now))) }
+    ensures { first.new ≡ noted first.old
+        (default_refusals definitions.now
+        (value_of (codes "bundlesequence") (map plain_attribute control.now))) }
 {
     if !has_attribute(control, "bundlesequence") {
         note_main(definitions, first);
@@ -89,7 +92,7 @@ pub(crate) fn note_table(
     definitions: &Definitions<'_>,
     first: &mut Option<Refusal>,
 ) -> Result<(), NoMemory>
-    requires { definitions.now ≡ known_of (plain_policy policy.now) }
+    requires { definitions.now ≡ definitions_of (plain_policy policy.now) }
     ensures { OnOk result (first.new ≡ noted first.old (refusals (plain_policy policy.now))) }
 {
     let blocks = policy.blocks.as_slice();

@@ -2,20 +2,19 @@
 ghost use Rattle.std.specs.Prelude.{◌≡◌, OnOk, map, count_by, option_map, option_copied};
 ghost use Rattle.std.specs.List.{flat_map};
 ghost use Rattle.cfa_tree.specs.Plain.{plain_attribute, plain_value, plain_promise};
-ghost use Rattle.cfa_schema.specs.Contexts.{seen_context};
+ghost use Rattle.cfa_values.specs.Seen.{seen_context};
 ghost use Rattle.cfa_kinds.specs.Kinds.{choices};
-ghost use Rattle.cfa_schema.specs.Refusals.{noted};
-ghost use Rattle.cfa_schema.specs.Valid.{has_attribute, lacks_choice, is_wrong_promiser, promisee_refusals, promise_refusals};
+ghost use Rattle.cfa_values.specs.Refusals.{noted};
+ghost use Rattle.cfa_values.specs.Attributes.{has_attribute};
+ghost use Rattle.cfa_schema.specs.Valid.{lacks_choice, is_wrong_promiser, promisee_refusals, promise_refusals};
 
-use crate::attributes::{Table, has_attribute, note_attributes};
-use crate::refusals::{Refusal, WRONG_VALUE, note_if};
-use crate::settings::{Context, note_text_scope};
-use crate::values::note_value;
-use crate::wanting::note_item;
 use cfa_base::{NoMemory, is_word};
 use cfa_kinds::{Kind, PromiseType, choices};
 use cfa_tree::{Attribute, Promise, Value};
-use cfa_vars::list_reference;
+use cfa_values::{
+    Code, Context, Refusal, Table, has_attribute, is_list_reference, note_attributes, note_if,
+    note_item, note_text_scope, note_value,
+};
 use std::alloc::Global;
 
 // The promiser of a vars promise is a word, and no other is wholly a list reference.
@@ -24,13 +23,14 @@ fn is_wrong_promiser(promise_type: PromiseType, promiser: &str) -> bool
 {
     match promise_type {
         PromiseType::Vars => !is_word(promiser.as_bytes()),
-        _ => list_reference(promiser).is_some(),
+        _ => is_list_reference(promiser),
     }
 }
 
 // How many of the names are those of attributes.
 fn count_present(names: &[&str], attributes: &[Attribute]) -> usize
-    ensures { result ≡ count_by (λ name. has_attribute (map plain_attribute attributes.now) name.now) names.now }
+    ensures { result ≡ count_by (λ name. has_attribute
+        (map plain_attribute attributes.now) name.now) names.now }
 {
     names
         .iter()
@@ -52,7 +52,9 @@ fn note_promisee(
     promisee: Option<&Value>,
     first: &mut Option<Refusal>,
 ) -> Result<(), NoMemory>
-    ensures { OnOk result (first.new ≡ noted first.old (promisee_refusals (seen_context context.now) (option_map plain_value (option_copied promisee.entry)))) }
+    ensures { OnOk result (first.new ≡ noted first.old
+        (promisee_refusals (seen_context context.now)
+        (option_map plain_value (option_copied promisee.entry)))) }
 {
     match promisee {
         Some(list @ Value::List(_, _)) => note_value(alloc, context, Kind::List, list, first),
@@ -71,7 +73,8 @@ fn note_promise(
     promise: &Promise,
     first: &mut Option<Refusal>,
 ) -> Result<(), NoMemory>
-    ensures { OnOk result (first.new ≡ noted first.old (promise_refusals (seen_context context.now) promise_type (plain_promise promise.now))) }
+    ensures { OnOk result (first.new ≡ noted first.old
+        (promise_refusals (seen_context context.now) promise_type (plain_promise promise.now))) }
 {
     let place = promise.place;
     let promiser = promise.promiser.as_str();
@@ -80,14 +83,14 @@ fn note_promise(
     note_if(
         first,
         is_wrong_promiser(promise_type, promiser),
-        WRONG_VALUE,
+        Code::WrongValue,
         place,
     );
     note_text_scope(context, promiser, place, first);
     note_if(
         first,
         lacks_choice(promise_type, attributes),
-        WRONG_VALUE,
+        Code::WrongValue,
         place,
     );
     note_promisee(alloc, context, promise.promisee.as_ref(), first)?;
@@ -102,7 +105,9 @@ pub(crate) fn note_promises(
     promises: &[Promise],
     first: &mut Option<Refusal>,
 ) -> Result<(), NoMemory>
-    ensures { OnOk result (first.new ≡ noted first.old (flat_map (promise_refusals (seen_context context.now) promise_type) (map plain_promise promises.now))) }
+    ensures { OnOk result (first.new ≡ noted first.old
+        (flat_map (promise_refusals (seen_context context.now) promise_type)
+        (map plain_promise promises.now))) }
 {
     for promise in promises {
         note_promise(alloc, context, promise_type, promise, first)?;

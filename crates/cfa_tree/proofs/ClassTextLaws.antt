@@ -7,7 +7,7 @@ use Rattle.cfa_base.specs.declared.places.Place.{Place}
 use Rattle.cfa_base.specs.Tokens.{Token}
 use Rattle.cfa_base.specs.Lexing.{first_place, Fault, Scans}
 use Rattle.cfa_base.specs.Scanned.{scan}
-use Rattle.cfa_base.proofs.Scanning.{scan_scans, scans_same}
+use Rattle.cfa_base.specs.lemmas.Scanning.{scan_scans, scans_same}
 use Rattle.cfa_tree.specs.Tree.{ExprTree}
 use Rattle.cfa_tree.specs.Guards.{GuardState, guard_start}
 use Rattle.cfa_tree.specs.ClassTexts.{stays_on_line, IsExpression, guard_by_all, guard_by_bytes, expression_of}

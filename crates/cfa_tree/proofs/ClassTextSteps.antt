@@ -8,7 +8,7 @@ use Rattle.std.proofs.lemmas.Str.{IsUtf8-drop, IsCharBoundary-after_ascii}
 use Rattle.cfa_base.specs.declared.tokens.Kind.{Kind}
 use Rattle.cfa_base.specs.declared.places.Place.{Place}
 use Rattle.cfa_base.specs.Lexing.{first_place, place_past, place_after}
-use Rattle.cfa_base.proofs.Boundaries.{boundary_behind}
+use Rattle.cfa_base.specs.lemmas.Boundaries.{boundary_behind}
 use Rattle.cfa_tree.specs.Grammar.{depth_limit}
 use Rattle.cfa_tree.specs.Guards.{GuardState, guard_start, guard_step}
 use Rattle.cfa_tree.specs.ClassTexts.{state_of, whole_guard, guard_by_bytes, expression_of}

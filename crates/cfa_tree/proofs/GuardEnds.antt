@@ -6,9 +6,9 @@ use Rattle.cfa_tree.specs.Tree.{ExprTree}
 use Rattle.cfa_tree.specs.Grammar.{Guard, depth_limit}
 use Rattle.cfa_tree.specs.Guards.{GuardState, wants_atom, has_atom, GuardProgress, goes_on, ended, guard_start, guard_step, level_tree}
 use Rattle.cfa_tree.specs.ClassTexts.{state_of, whole_guard, guard_by}
-use Rattle.cfa_tree.proofs.Levels.{left_of-none}
-use Rattle.cfa_tree.proofs.GuardRest.{GuardRest, GuardEarlier, guard_earlier, guard_starts, whole_rest}
-use Rattle.cfa_tree.proofs.GuardRuns.{guard_run}
+use Rattle.cfa_tree.specs.lemmas.Levels.{left_of-none}
+use Rattle.cfa_tree.specs.lemmas.GuardRest.{GuardRest, GuardEarlier, guard_earlier, guard_starts, whole_rest}
+use Rattle.cfa_tree.specs.lemmas.GuardRuns.{guard_run}
 
 one_earlier : (g : GuardState) (t : Token) (ts : List Token) (tree : ExprTree) (o : Option GuardProgress) → GuardEarlier depth_limit g t o →
     ((next : GuardState) → guard_by ts next ≡ Some tree → GuardRest depth_limit next ts tree []) →

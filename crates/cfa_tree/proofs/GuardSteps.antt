@@ -1,15 +1,12 @@
 -- What the code does with a guard is a step of the machine.
-use Rattle.std.proofs.Common.{◌≡◌, ◌≢◌, ℕ, suc, zero, ◌+◌, ◌-◌, ◌<◌, ◌≤◌, Bool, true, nat_lt, List, [], ◌∷◌, ◌++◌, length, get_or, take, map, None, refl, ap, ◌∙◌, sym, arith}
+use Rattle.std.proofs.Common.{◌≡◌, ◌≢◌, ℕ, suc, zero, ◌+◌, ◌-◌, ◌<◌, ◌≤◌, Bool, true, nat_lt, List, [], ◌∷◌, ◌++◌, length, get_or, take, map, refl, ap, ◌∙◌, sym, arith}
 use Rattle.std.proofs.lemmas.Bool.{ltb_from_iff, lt-ltb, ltb-true}
 use Rattle.std.proofs.lemmas.List.{take_all, take_more, reverse-append}
-use Rattle.cfa_base.specs.declared.tokens.Kind.{Kind}
-use Rattle.cfa_base.specs.declared.tokens.Kind.TheVariants.{Word, CloseParen, OpenParen, Bang, Dot, And, Or}
 use Rattle.cfa_tree.specs.Tree.{ExprTree, all_of, one_of, expr_trees}
-use Rattle.cfa_tree.specs.Grammar.{Levels, conj_of, guard_of, depth_limit}
+use Rattle.cfa_tree.specs.Grammar.{conj_of, guard_of, depth_limit}
 use Rattle.cfa_tree.specs.declared.guards.GuardLevel.{GuardLevel}
 use Rattle.cfa_tree.specs.Room.{has_room}
-use Rattle.cfa_tree.specs.Guards as guards
-use Rattle.cfa_tree.specs.Guards.{more_levels, level_count, wants_step, has_step, guard_end}
+use Rattle.cfa_tree.specs.Guards.{more_levels, level_count}
 use Rattle.cfa_tree.specs.SeenGuards.{seen_level, seen_levels}
 
 pub conj_of-many : {E : Type 0} (f : E → ExprTree) (es : List E) → length es ≢ 1 → conj_of (map f es) ≡ all_of (expr_trees (map f es))
@@ -47,22 +44,6 @@ room_left levels i left n past so_far =
     let whole : level_count (seen_levels (take i levels)) ≡ count = ap (λ z. level_count (seen_levels z)) (take_all i levels past) in
     let sum : more_levels n count ≡ n + count = more_levels-sum n count in
     ltb_from_iff {b = nat_lt n left} ((λ (e : nat_lt n left ≡ true). let h : n < left = ltb-true n left e in omega (arith, h, whole, sum, so_far)), (λ (h : more_levels n count < 16). lt-ltb n left (omega (arith, h, whole, sum, so_far))))
-
--- the kinds that begin no atom
-pub wants_step-other : (limit : Levels) (level : guards.GuardLevel) (outer : List guards.GuardLevel) (k : Kind) (x : List ℕ) → k ≢ Word → k ≢ Bang → k ≢ OpenParen → wants_step limit level outer k x ≡ None
-wants_step-other limit level outer Word x a b c = absurd (a refl)
-wants_step-other limit level outer Bang x a b c = absurd (b refl)
-wants_step-other limit level outer OpenParen x a b c = absurd (c refl)
-wants_step-other limit level outer _ x a b c = refl
-
--- the kinds that continue no guard
-pub has_step-other : (cs es : List ExprTree) (outer : List guards.GuardLevel) (k : Kind) → k ≢ Dot → k ≢ And → k ≢ Or → k ≢ CloseParen → has_step cs es outer k ≡ guard_end cs es outer
-has_step-other cs es outer Dot a b c d = absurd (a refl)
-has_step-other cs es outer And a b c d = absurd (b refl)
-has_step-other cs es outer Or a b c d = absurd (c refl)
-has_step-other cs es outer CloseParen a b c d = absurd (d refl)
-has_step-other cs es [] _ a b c d = refl
-has_step-other cs es (level ∷ outer) _ a b c d = refl
 
 -- where there is room for a negation more, its count fits
 pub room_fits : (n c : ℕ) (room : Bool) → room ≡ has_room depth_limit (more_levels n c) → room ≡ true → n < 16

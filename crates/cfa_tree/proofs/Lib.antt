@@ -2,13 +2,7 @@ pub mod ClassFrontLemmas
 pub mod ClassTextLaws
 pub mod ClassTextRows
 pub mod ClassTextSteps
-pub mod Copies
 pub mod GuardEnds
-pub mod GuardRest
-pub mod GuardRuns
 pub mod GuardSteps
 pub mod Joined
-pub mod Levels
-pub mod Lists
-pub mod PolicyA
-pub mod Rows
+pub mod RepeatLemmas

@@ -4,7 +4,9 @@ pub mod ClassTexts
 pub mod Grammar
 pub mod Guards
 pub mod Laws
+pub mod lemmas
 pub mod Plain
+pub mod Repeats
 pub mod Room
 pub mod SeenGuards
 pub mod Tree

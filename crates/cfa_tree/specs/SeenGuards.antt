@@ -1,6 +1,9 @@
 -- The state that a reader of guards is in, without where it lies in memory, and when it refuses a token. Levels stand
 -- innermost first.
 use Rattle.std.specs.Prelude.{◌≡◌, List, map, reverse, Option, None, IsSome}
+use Rattle.std.specs.declared.alloc.Global.{Global}
+use Rattle.std.specs.declared.vec.Vec.{Vec}
+use Rattle.cfa_tree.specs.declared.expressions.Expr.{Expr}
 use Rattle.cfa_tree.specs.declared.guards.GuardLevel.{GuardLevel}
 use Rattle.cfa_tree.specs.declared.guards.GuardState.{GuardState}
 use Rattle.cfa_tree.specs.declared.guards.GuardState.TheVariants.{WantsAtom, HasAtom}
@@ -10,6 +13,10 @@ use Rattle.cfa_tree.specs.declared.guards.GuardErr.{GuardErr}
 use Rattle.cfa_tree.specs.declared.guards.GuardErr.TheVariants.{Unexpected, TooDeep, NoMemory}
 use Rattle.cfa_tree.specs.Guards as guards
 use Rattle.cfa_tree.specs.Plain.{plain_expr}
+use Rattle.cfa_tree.specs.Tree.{ExprTree}
+
+abbrev pub seen_exprs : Vec Expr Global → List ExprTree
+seen_exprs exprs = map plain_expr exprs.items
 
 abbrev pub seen_level : GuardLevel → guards.GuardLevel
 seen_level l = record { conjs = map plain_expr l.conjs.items; atoms = map plain_expr l.atoms.items; negations = l.negations }

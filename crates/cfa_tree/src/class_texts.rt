@@ -1,10 +1,9 @@
 // The reading of class texts.
 ghost use Rattle.std.specs.Prelude.{◌≡◌, ◌<◌, length, slice_index, false, Some, None, IfOk, IsErrOf};
-ghost use Rattle.std.specs.List.{take_while};
-ghost use Rattle.cfa_base.specs.Lexing.{is_word_byte};
+ghost use Rattle.std.specs.List.{list_all};
 ghost use Rattle.cfa_tree.specs.ClassErrs.{err_of};
-ghost use Rattle.cfa_tree.specs.ClassFronts.{is_blank, symbol_of, TellsFront};
-ghost use Rattle.cfa_tree.specs.ClassTexts.{IsExpression, expression_of, state_of, whole_guard};
+ghost use Rattle.cfa_tree.specs.ClassFronts.{is_blank, TellsFront};
+ghost use Rattle.cfa_tree.specs.ClassTexts.{IsExpression, stays_on_line, expression_of, state_of, whole_guard};
 ghost use Rattle.cfa_tree.specs.Grammar.{depth_limit};
 ghost use Rattle.cfa_tree.specs.Guards.{guard_step};
 ghost use Rattle.cfa_tree.specs.Plain.{plain_expr};
@@ -14,7 +13,8 @@ ghost use Rattle.cfa_tree.specs.Tree.{ExprTree};
 use crate::guards::level_expr;
 use crate::{Expr, GuardErr, GuardProgress, GuardState, guard_start, take_in_guard};
 use cfa_base as base;
-use cfa_base::{Kind, Name, is_word_byte, word_len};
+use cfa_base::{Kind, Name};
+use cfa_lexer::token_len;
 use std::alloc::Global;
 use thiserror::Error;
 
@@ -57,20 +57,17 @@ fn is_blank(byte: u8) -> bool
     byte == b' ' || byte == b'\t'
 }
 
-// The longest symbol of a guard that two bytes begin with, and how many bytes it has.
-fn symbol(first: u8, second: u8) -> Option<(Kind, usize)>
-    ensures { result ≡ symbol_of first second }
+// Whether a class text may have this byte.
+fn stays_on_line(byte: u8) -> bool
+    ensures { result ≡ stays_on_line byte }
 {
-    match (first, second) {
-        (b'|', b'|') => Some((Kind::Or, 2)),
-        (b'|', _) => Some((Kind::Or, 1)),
-        (b'(', _) => Some((Kind::OpenParen, 1)),
-        (b')', _) => Some((Kind::CloseParen, 1)),
-        (b'!', _) => Some((Kind::Bang, 1)),
-        (b'.', _) => Some((Kind::Dot, 1)),
-        (b'&', _) => Some((Kind::And, 1)),
-        _ => None,
-    }
+    !matches!(byte, b'\n' | b'\r' | b'#')
+}
+
+fn stay_on_line(bytes: &[u8]) -> bool
+    ensures { result ≡ list_all stays_on_line bytes.now }
+{
+    bytes.iter().all(|byte| stays_on_line(*byte))
 }
 
 // The kind of the longest token at the front and how many bytes it has, or `None` where no guard goes on so.
@@ -79,12 +76,14 @@ fn front_token(bytes: &[u8]) -> Option<(Kind, usize)>
     requires begun { is_blank (slice_index bytes.now 0) ≡ false }
     ensures { TellsFront bytes.now result }
 {
-    let first = bytes[0];
-    if is_word_byte(first) {
-        return Some((Kind::Word, word_len(bytes)));
+    let Some((kind, len)) = token_len(bytes) else {
+        return None;
+    };
+    if stay_on_line(&bytes[..len]) {
+        Some((kind, len))
+    } else {
+        None
     }
-    let second = if bytes.len() > 1 { bytes[1] } else { 0 };
-    symbol(first, second)
 }
 
 // A token, which may not end the expression.
@@ -95,8 +94,10 @@ fn take_token(
     text: &str,
 ) -> Result<GuardState, ExprErr>
     ensures ok { IfOk result
-        (λ g. state_of (guard_step depth_limit (seen_guard guard) kind text.now) ≡ Some (seen_guard g)) }
-    ensures bad { IsErrOf result ExprErr.BadExpression → state_of (guard_step depth_limit (seen_guard guard) kind text.now) ≡ None }
+        (λ g. state_of (guard_step depth_limit (seen_guard guard) kind text.now)
+        ≡ Some (seen_guard g)) }
+    ensures bad { IsErrOf result ExprErr.BadExpression →
+        state_of (guard_step depth_limit (seen_guard guard) kind text.now) ≡ None }
 {
     match take_in_guard(alloc, guard, kind, text)? {
         GuardProgress::GoesOn(guard) => Ok(guard),
@@ -151,7 +152,8 @@ pub fn read_expr(alloc: Global, text: &Name) -> Result<Expr, ExprErr>
     ensures value { IfOk result (λ e. expression_of text.now ≡ Some (plain_expr e)) }
     ensures bad { IsErrOf result ExprErr.BadExpression → expression_of text.now ≡ None }
     ensures reads { IfOk result (λ e. IsExpression text.now (plain_expr e)) }
-    ensures none_reads { IsErrOf result ExprErr.BadExpression → (tree : ExprTree) → ¬ IsExpression text.now tree }
+    ensures none_reads { IsErrOf result ExprErr.BadExpression →
+        (tree : ExprTree) → ¬ IsExpression text.now tree }
 {
     read_text(alloc, text.as_str())
 }

@@ -5,7 +5,7 @@ ghost use Rattle.cfa_tree.specs.Plain.{plain_expr};
 ghost use Rattle.cfa_tree.specs.Tree.{class};
 ghost use Rattle.cfa_tree.specs.Guards.{more_levels, level_count, negated_by, level_tree, atom_taken, after_and, after_or, wants_step, has_step, guard_step, guard_end, paren_closed, empty_level, guard_start, has_atom};
 ghost use Rattle.cfa_tree.specs.Room.{has_room};
-ghost use Rattle.cfa_tree.specs.SeenGuards.{seen_level, seen_levels, seen_guard, seen_guard_progress, GuardRefused};
+ghost use Rattle.cfa_tree.specs.SeenGuards.{seen_exprs, seen_level, seen_levels, seen_guard, seen_guard_progress, GuardRefused};
 ghost use Rattle.cfa_tree.specs.declared.guards.GuardErr.TheVariants.{NoMemory};
 
 use crate::Expr;
@@ -140,7 +140,8 @@ fn atom_taken(
     outer: Vec<GuardLevel>,
 ) -> Result<GuardState, base::NoMemory>
     ensures { IfOk result
-        (λ s. seen_guard s ≡ atom_taken (seen_level level) (plain_expr expr) (seen_levels outer.items)) }
+        (λ s. seen_guard s
+        ≡ atom_taken (seen_level level) (plain_expr expr) (seen_levels outer.items)) }
 {
     let GuardLevel {
         conjs,
@@ -153,7 +154,8 @@ fn atom_taken(
 
 // Whether one level more may be opened.
 fn has_room(negations: usize, outer: &[GuardLevel]) -> bool
-    ensures { result ≡ has_room depth_limit (more_levels negations (level_count (seen_levels outer.now))) }
+    ensures { result
+        ≡ has_room depth_limit (more_levels negations (level_count (seen_levels outer.now))) }
 {
     let mut left = DEPTH_LIMIT;
     for level in outer {
@@ -170,9 +172,10 @@ fn take_wanted(
     text: &str,
 ) -> Result<GuardState, GuardErr>
     ensures ok { IfOk result
-        (λ s. wants_step depth_limit (seen_level level) (seen_levels outer.items) kind text.now ≡ Some (seen_guard s)) }
-    ensures refused { IfErr result
-        (GuardRefused (wants_step depth_limit (seen_level level) (seen_levels outer.items) kind text.now)
+        (λ s. wants_step depth_limit (seen_level level) (seen_levels outer.items) kind text.now
+        ≡ Some (seen_guard s)) }
+    ensures refused { IfErr result (GuardRefused
+        (wants_step depth_limit (seen_level level) (seen_levels outer.items) kind text.now)
         (wants_step unlimited (seen_level level) (seen_levels outer.items) kind text.now)) }
 {
     let mut level = level;
@@ -207,10 +210,11 @@ fn end_guard(
     outer: Vec<GuardLevel>,
 ) -> Result<GuardProgress, GuardErr>
     ensures ok { IfOk result
-        (λ g. guard_end (map plain_expr conjs.items) (map plain_expr atoms.items) (seen_levels outer.items) ≡ Some (seen_guard_progress g)) }
-    ensures refused { IfErr result
-        (GuardRefused (guard_end (map plain_expr conjs.items) (map plain_expr atoms.items) (seen_levels outer.items))
-        (guard_end (map plain_expr conjs.items) (map plain_expr atoms.items) (seen_levels outer.items))) }
+        (λ g. guard_end (seen_exprs conjs) (seen_exprs atoms) (seen_levels outer.items)
+        ≡ Some (seen_guard_progress g)) }
+    ensures refused { IfErr result (GuardRefused
+        (guard_end (seen_exprs conjs) (seen_exprs atoms) (seen_levels outer.items))
+        (guard_end (seen_exprs conjs) (seen_exprs atoms) (seen_levels outer.items))) }
 {
     if outer.is_empty() {
         Ok(GuardProgress::Ended(level_expr(conjs, atoms)?))
@@ -227,7 +231,8 @@ fn close_paren(
     outer: Vec<GuardLevel>,
 ) -> Result<GuardProgress, base::NoMemory>
     ensures { IfOk result
-        (λ g. paren_closed (map plain_expr conjs.items) (map plain_expr atoms.items) (seen_levels outer.items) ≡ Some (seen_guard_progress g)) }
+        (λ g. paren_closed (seen_exprs conjs) (seen_exprs atoms) (seen_levels outer.items)
+        ≡ Some (seen_guard_progress g)) }
 {
     let mut outer = outer;
     let expr = level_expr(conjs, atoms)?;
@@ -245,7 +250,8 @@ fn after_or(
     outer: Vec<GuardLevel>,
 ) -> Result<GuardState, base::NoMemory>
     ensures { IfOk result
-        (λ g. seen_guard g ≡ after_or (map plain_expr conjs.items) (map plain_expr atoms.items) (seen_levels outer.items)) }
+        (λ g. seen_guard g
+        ≡ after_or (seen_exprs conjs) (seen_exprs atoms) (seen_levels outer.items)) }
 {
     let mut conjs = conjs;
     conjs.push(joined_atoms(atoms))?;
@@ -259,7 +265,8 @@ fn after_or(
 
 // A further atom of the last conj.
 fn after_and(conjs: Vec<Expr>, atoms: Vec<Expr>, outer: Vec<GuardLevel>) -> GuardState
-    ensures { seen_guard result ≡ after_and (map plain_expr conjs.items) (map plain_expr atoms.items) (seen_levels outer.items) }
+    ensures { seen_guard result
+        ≡ after_and (seen_exprs conjs) (seen_exprs atoms) (seen_levels outer.items) }
 {
     let level = GuardLevel {
         conjs,
@@ -277,10 +284,11 @@ fn take_behind(
     kind: Kind,
 ) -> Result<GuardProgress, GuardErr>
     ensures ok { IfOk result
-        (λ g. has_step (map plain_expr conjs.items) (map plain_expr atoms.items) (seen_levels outer.items) kind ≡ Some (seen_guard_progress g)) }
-    ensures refused { IfErr result
-        (GuardRefused (has_step (map plain_expr conjs.items) (map plain_expr atoms.items) (seen_levels outer.items) kind)
-        (has_step (map plain_expr conjs.items) (map plain_expr atoms.items) (seen_levels outer.items) kind)) }
+        (λ g. has_step (seen_exprs conjs) (seen_exprs atoms) (seen_levels outer.items) kind
+        ≡ Some (seen_guard_progress g)) }
+    ensures refused { IfErr result (GuardRefused
+        (has_step (seen_exprs conjs) (seen_exprs atoms) (seen_levels outer.items) kind)
+        (has_step (seen_exprs conjs) (seen_exprs atoms) (seen_levels outer.items) kind)) }
 {
     match kind {
         Kind::Dot => Ok(GuardProgress::GoesOn(after_and(conjs, atoms, outer))),
@@ -318,7 +326,8 @@ pub fn take_in_guard(
     text: &str,
 ) -> Result<GuardProgress, GuardErr>
     ensures ok { IfOk result
-        (λ g. guard_step depth_limit (seen_guard guard) kind text.now ≡ Some (seen_guard_progress g)) }
+        (λ g. guard_step depth_limit (seen_guard guard) kind text.now
+        ≡ Some (seen_guard_progress g)) }
     ensures refused { IfErr result
         (GuardRefused (guard_step depth_limit (seen_guard guard) kind text.now)
         (guard_step unlimited (seen_guard guard) kind text.now)) }

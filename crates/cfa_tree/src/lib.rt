@@ -6,6 +6,7 @@ mod attributes;
 mod blocks;
 mod class_texts;
 mod expressions;
+mod guarded;
 mod guards;
 mod joining;
 mod laws;
@@ -17,15 +18,13 @@ pub use attributes::{Attribute, Attributes};
 pub use blocks::{Block, Blocks, Body, Bundle, Named, Params, Policy};
 pub use class_texts::{ExprErr, read_expr};
 pub use expressions::Expr;
+pub use guarded::GuardedPromises;
 pub use guards::{
     DEPTH_LIMIT, GuardErr, GuardLevel, GuardProgress, GuardState, guard_start, guard_with_class,
     take_in_guard,
 };
 pub use joining::join;
 pub use laws::expressions_are_read;
-pub use promises::{Promise, Promises};
+pub use promises::{Guard, Promise, Promises};
 pub use sections::{Section, Sections};
 pub use values::Value;
-
-#[cfg(test)]
-mod tests;

@@ -18,7 +18,7 @@ use Rattle.cfa_vars.specs.References.{literal, reference, pieces, names_in}
 use Rattle.cfa_vars.specs.Scopes.{InScope, look, key_of}
 use Rattle.cfa_vars.specs.Expansion.{Chosen}
 use Rattle.cfa_vars.specs.Choices.{Lists, list_under, lists_named, all_choices, extended, seen_lists, first_unset}
-use Rattle.cfa_vars.proofs.ExpansionLemmas.{names_in_more, names_in_none}
+use Rattle.cfa_vars.specs.lemmas.Names.{names_in_more, names_in_none}
 
 -- the first name that is found in two lists, one after the other
 find_past : {X : Type 0} (t : Bool) (x : X) (inner outer other : Option X) → cond t (Some x) inner ≡ None → (inner ≡ None → outer ≡ other) → cond t (Some x) outer ≡ other

@@ -1,22 +1,13 @@
 -- The names and the filled text of a text, from its first reference on.
 use Rattle.std.proofs.Common.{◌≡◌, ◌<◌, ◌≤◌, ℕ, Bool, true, false, cond, List, [], ◌∷◌, ◌++◌, length, map, find, is_none, MatchBool, Some, None, unwrap_or, refl, arith, ap, sym, ◌∙◌}
-use Rattle.std.specs.List.{filter_map, flat_map}
+use Rattle.std.specs.List.{flat_map}
 use Rattle.std.proofs.lemmas.List.{append-nil, append_assoc, length-append}
 use Rattle.std.proofs.lemmas.Bool.{false≢true}
 use Rattle.std.proofs.lemmas.Bool.Decides.{nat_tests}
-use Rattle.cfa_vars.specs.References.{Piece, literal, reference, pieces, name_in, names_in}
+use Rattle.cfa_vars.specs.References.{Piece, literal, reference, pieces}
 use Rattle.cfa_vars.specs.Scopes.{InScope}
+use Rattle.cfa_vars.specs.lemmas.Names.{names_in_more, names_in_none}
 use Rattle.cfa_vars.specs.Expansion.{Chosen, scalar, filled_piece, filled, first_unresolved, within_limit}
-
-names-literals : (bytes : List ℕ) (ps : List Piece) → filter_map name_in (map literal bytes ++ ps) ≡ filter_map name_in ps
-names-literals [] ps = refl
-names-literals (b ∷ bs) ps = names-literals bs ps
-
-pub names_in_more : (text before name after : List ℕ) → pieces text ≡ map literal before ++ reference name ∷ pieces after → names_in text ≡ name ∷ names_in after
-names_in_more text before name after h = ap (filter_map name_in) h ∙ names-literals before (reference name ∷ pieces after)
-
-pub names_in_none : (text : List ℕ) → pieces text ≡ map literal text → names_in text ≡ []
-names_in_none text h = ap (filter_map name_in) (h ∙ sym (append-nil (map literal text))) ∙ names-literals text []
 
 module _ (scopes : InScope) (choice : Chosen) where
   filled-literals : (bytes : List ℕ) (ps : List Piece) → flat_map (filled_piece scopes choice) (map literal bytes ++ ps) ≡ bytes ++ flat_map (filled_piece scopes choice) ps

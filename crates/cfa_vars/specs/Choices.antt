@@ -7,6 +7,7 @@ use Rattle.std.specs.Borrow.{Bor}
 use Rattle.std.specs.List.{flat_map, filter_map, list_any}
 use Rattle.std.specs.Str.{bytes_eq}
 use Rattle.indexmap.specs.IndexMap.{insert_all}
+use Rattle.cfa_base.specs.declared.limits.TheConstants.{MOST_COMBINATIONS}
 use Rattle.cfa_vars.specs.declared.scoping.Datum.{Datum}
 use Rattle.cfa_vars.specs.declared.scoping.Datum.TheVariants.{Text as text_of, List as list_of}
 use Rattle.cfa_vars.specs.declared.choosing.Choices.{Choices}
@@ -28,9 +29,13 @@ list_under key (Some (list_of items)) = Some (key, items)
 abbrev pub lists_named : InScope → List (List ℕ) → Lists
 lists_named scopes names = filter_map (λ name. list_under (key_of scopes name) (look scopes name)) names
 
+-- lists, and behind them the list variables among these names that aren't among them, in the order of the names
+abbrev pub gathered : InScope → Lists → List (List ℕ) → Lists
+gathered scopes lists names = insert_all bytes_eq lists (lists_named scopes names)
+
 -- the list variables among these names, each once, in the order of the first name of each
 abbrev pub lists_among : InScope → List (List ℕ) → Lists
-lists_among scopes names = insert_all bytes_eq [] (lists_named scopes names)
+lists_among scopes names = gathered scopes [] names
 
 -- all ways to choose an item of each list, the first list outermost
 abbrev pub all_choices : Lists → List Chosen
@@ -46,7 +51,7 @@ abbrev pub seen_lists : List (Bor (List ℕ) × Bor (List (List ℕ))) → Lists
 seen_lists entries = map (λ e. (e.0.now, e.1.now)) entries
 
 unfoldable pub are_too_many : Lists → Bool
-are_too_many lists = list_any (λ l. nat_lt 4096 (length l.1)) lists || nat_lt 4096 (length (all_choices lists))
+are_too_many lists = list_any (λ l. nat_lt MOST_COMBINATIONS (length l.1)) lists || nat_lt MOST_COMBINATIONS (length (all_choices lists))
 
 -- the first of these names that refers to nothing
 abbrev pub first_unset : InScope → List (List ℕ) → Option (List ℕ)

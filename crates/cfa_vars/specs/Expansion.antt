@@ -3,6 +3,7 @@
 -- than 65,536 bytes is too long.
 use Rattle.std.specs.Prelude.{ℕ, List, [], ◌∷◌, length, nat_le, Option, Some, None, unwrap_or, find, is_none, if◌then◌else◌}
 use Rattle.std.specs.List.{flat_map}
+use Rattle.cfa_base.specs.declared.limits.TheConstants.{MOST_TEXT_BYTES}
 use Rattle.cfa_vars.specs.declared.scoping.Datum.{Datum}
 use Rattle.cfa_vars.specs.declared.scoping.Datum.TheVariants.{Text as text_of, List as list_of}
 use Rattle.cfa_vars.specs.declared.expanding.Expanded.{Expanded}
@@ -37,7 +38,7 @@ abbrev pub first_unresolved : InScope → Chosen → List ℕ → Option (List �
 first_unresolved scopes choice text = find (λ name. is_none (scalar scopes choice name)) (names_in text)
 
 abbrev pub within_limit : List ℕ → Option (List ℕ)
-within_limit whole = if nat_le (length whole) 65536 then Some whole else None
+within_limit whole = if nat_le (length whole) MOST_TEXT_BYTES then Some whole else None
 
 abbrev pub done_or_too_long : Option (List ℕ) → Expanded
 done_or_too_long (Some whole) = Done whole

@@ -3,3 +3,4 @@ pub mod Named
 pub mod Scopes
 pub mod Expansion
 pub mod Choices
+pub mod lemmas

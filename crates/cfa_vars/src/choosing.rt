@@ -1,21 +1,16 @@
 // The combinations of the items of lists.
 ghost use Rattle.std.specs.Prelude.{◌≡◌, ◌++◌, ◌∷◌, [], ◌+◌, ◌<◌, drop, IfOk, OnOk, is_none, length, map, option_copied, ◌==◌};
 ghost use Rattle.std.specs.List.{list_any, flat_map};
-ghost use Rattle.std.specs.Str.{bytes_eq};
-ghost use Rattle.indexmap.specs.IndexMap.{insert_all};
 ghost use Rattle.cfa_vars.specs.References.{names_in};
 ghost use Rattle.cfa_vars.specs.Scopes.{in_scope, look};
-ghost use Rattle.cfa_vars.specs.Choices.{lists_named, all_choices, extended, seen_lists, are_too_many, first_unset, lists_among, choices_of};
+ghost use Rattle.cfa_vars.specs.Choices.{all_choices, extended, gathered, seen_lists, are_too_many, first_unset, lists_among, choices_of};
 
 use crate::looking::{Scopes, Variable, list_key, look_up};
 use crate::references::first_reference;
-use cfa_base::{Name, Names, NoMemory};
+use cfa_base::{MOST_COMBINATIONS, Name, Names, NoMemory};
 use indexmap::IndexMap;
 use std::alloc::Global;
 use std::marker::Model;
-
-// The most combinations, and the most items of a list.
-const LIMIT: usize = 4_096;
 
 /// One combination: for each list variable its key (`list_key`) with the item that is chosen, in the order in which
 /// the lists are referred to.
@@ -131,7 +126,8 @@ fn first_unset_in<'t>(text: &'t str, scopes: &Scopes<'_>) -> Option<&'t str>
 }
 
 fn first_unset<'t>(texts: &'t [Name], scopes: &Scopes<'_>) -> Option<&'t str>
-    ensures { option_copied result ≡ first_unset (in_scope scopes.now) (flat_map names_in texts.now) }
+    ensures { option_copied result
+        ≡ first_unset (in_scope scopes.now) (flat_map names_in texts.now) }
 {
     for text in texts {
         if let Some(name) = first_unset_in(text.as_str(), scopes) {
@@ -147,7 +143,7 @@ fn gather_name<'a>(
     scopes: &Scopes<'a>,
 ) -> Result<(), NoMemory>
     ensures { OnOk result (seen_lists lists.new.entries
-        ≡ insert_all bytes_eq (seen_lists lists.old.entries) (lists_named (in_scope scopes.now) (name.now ∷ []))) }
+        ≡ gathered (in_scope scopes.now) (seen_lists lists.old.entries) (name.now ∷ [])) }
 {
     if let Some(Variable::List(items)) = look_up(scopes, name) {
         let _same = lists.insert(list_key(scopes, name), items)?;
@@ -161,7 +157,7 @@ fn gather_text<'a>(
     scopes: &Scopes<'a>,
 ) -> Result<(), NoMemory>
     ensures { OnOk result (seen_lists lists.new.entries
-        ≡ insert_all bytes_eq (seen_lists lists.old.entries) (lists_named (in_scope scopes.now) (names_in text.now))) }
+        ≡ gathered (in_scope scopes.now) (seen_lists lists.old.entries) (names_in text.now)) }
 {
     let mut rest = text;
     while let Some(found) = first_reference(rest) {
@@ -172,7 +168,8 @@ fn gather_text<'a>(
 }
 
 fn gather<'a>(alloc: Global, texts: &'a [Name], scopes: &Scopes<'a>) -> Result<Lists<'a>, NoMemory>
-    ensures { IfOk result (λ lists. seen_lists lists.entries ≡ lists_among (in_scope scopes.now) (flat_map names_in texts.now)) }
+    ensures { IfOk result (λ lists. seen_lists lists.entries
+        ≡ lists_among (in_scope scopes.now) (flat_map names_in texts.now)) }
 {
     let mut lists = IndexMap::new(alloc);
     for text in texts {
@@ -204,12 +201,12 @@ fn are_too_many(lists: &Lists<'_>) -> bool
     for place in 0..count_of(lists) {
         let (_, items) = list_at(lists, place);
         let length = items.as_slice().len();
-        if length > LIMIT {
+        if length > MOST_COMBINATIONS {
             return true;
         }
-        count = (count * length).min(LIMIT + 1);
+        count = (count * length).min(MOST_COMBINATIONS + 1);
     }
-    count > LIMIT
+    count > MOST_COMBINATIONS
 }
 
 fn has_empty(lists: &Lists<'_>) -> bool
@@ -233,7 +230,8 @@ fn extend_one(
     key: &str,
     items: &[Name],
 ) -> Result<(), NoMemory>
-    ensures { OnOk result (done.new.items ≡ done.old.items ++ map (λ item. choice ++ (key.now, item) ∷ []) items.now) }
+    ensures { OnOk result (done.new.items
+        ≡ done.old.items ++ map (λ item. choice ++ (key.now, item) ∷ []) items.now) }
 {
     if items.is_empty() {
         return Ok(());

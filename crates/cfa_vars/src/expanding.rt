@@ -7,11 +7,8 @@ ghost use Rattle.cfa_vars.specs.Expansion.{scalar, filled, first_unresolved, wit
 
 use crate::looking::{Scopes, Variable, list_key, look_up};
 use crate::references::first_reference;
-use cfa_base::{Name, NoMemory};
+use cfa_base::{MOST_TEXT_BYTES, Name, NoMemory};
 use std::alloc::Global;
-
-// The most bytes that an expanded text may have.
-const LIMIT: usize = 65_536;
 
 /// What an expansion gives.
 #[derive(Debug, Drop)]
@@ -80,13 +77,13 @@ fn put_in<'a>(scopes: &Scopes<'a>, choice: &'a [(Name, Name)], name: &str) -> &'
 
 // Adds a part to a text if the whole stays within the limit, and tells whether it did.
 fn add(whole: &mut String, part: &str) -> Result<bool, NoMemory>
-    requires { string_len whole.old ≤ LIMIT }
+    requires { string_len whole.old ≤ MOST_TEXT_BYTES }
     ensures added { IfOk result (λ fits. MatchBool fits
         (string_bytes whole.new ≡ string_bytes whole.old ++ part.now)
-        (LIMIT < length (string_bytes whole.old ++ part.now))) }
-    ensures within { string_len whole.new ≤ LIMIT }
+        (MOST_TEXT_BYTES < length (string_bytes whole.old ++ part.now))) }
+    ensures within { string_len whole.new ≤ MOST_TEXT_BYTES }
 {
-    if part.len() > LIMIT - whole.len() {
+    if part.len() > MOST_TEXT_BYTES - whole.len() {
         return Ok(false);
     }
     whole.push_str(part)?;

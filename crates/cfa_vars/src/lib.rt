@@ -7,11 +7,9 @@ mod expanding;
 mod looking;
 mod references;
 mod scoping;
-#[cfg(test)]
-mod tests;
 
 pub use choosing::{Choice, ChoiceList, Choices, combinations};
 pub use expanding::{Expanded, expand};
-pub use looking::{Scopes, Variable, list_key, look_up};
-pub use references::{Reference, first_reference, list_reference, split_name};
+pub use looking::{Scopes, Variable, constant, list_key, look_up};
+pub use references::{Reference, closing, first_reference, list_reference, split_name};
 pub use scoping::{Datum, Scope};

@@ -50,7 +50,8 @@ fn find_shared<'a>(shared: &'a [(Name, Scope)], bundle: &str) -> Option<&'a Scop
     None
 }
 
-fn constant(word: &str) -> Option<&'static str>
+/// What a word of the bundle `const` stands for: `n` the newline, `t` the tab, `dollar` a `$`. It has no others.
+pub fn constant(word: &str) -> Option<&'static str>
     ensures { option_copied result ≡ constant word.now }
 {
     match word {

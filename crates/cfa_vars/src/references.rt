@@ -17,7 +17,8 @@ fn is_name_byte(byte: u8) -> bool
 /// are. `None` where the name has no dot.
 pub fn split_name(name: &str) -> Option<(&str, &str)>
     ensures { MatchOption result (is_qualified name.now ≡ false)
-        (λ parts. (is_qualified name.now ≡ true) × (parts.0.now ≡ bundle_part name.now) × (parts.1.now ≡ word_part name.now)) }
+        (λ parts. (is_qualified name.now ≡ true)
+        × (parts.0.now ≡ bundle_part name.now) × (parts.1.now ≡ word_part name.now)) }
 {
     name.split_once('.')
 }
@@ -34,7 +35,8 @@ fn name_bytes(text: &[u8]) -> usize
     text.len()
 }
 
-fn closing(bracket: u8) -> Option<u8>
+/// The bracket that closes a reference which this one opens: `)` for `(` and `}` for `{`.
+pub fn closing(bracket: u8) -> Option<u8>
     ensures { result ≡ closing bracket }
 {
     match bracket {
@@ -96,9 +98,11 @@ fn cut(text: &str, place: usize, size: usize) -> Reference<'_>
 /// The first reference of a text, without taking memory. `None` where the text is literal bytes alone.
 pub fn first_reference(text: &str) -> Option<Reference<'_>>
     ensures first { MatchOption result (pieces text.now ≡ map literal text.now)
-        (λ r. pieces text.now ≡ map literal r.before.now ++ reference r.name.now ∷ pieces r.after.now) }
+        (λ r. pieces text.now
+        ≡ map literal r.before.now ++ reference r.name.now ∷ pieces r.after.now) }
     ensures name { IfSome result (λ r. IsTrue (is_name r.name.now)) }
-    ensures after { IfSome result (λ r. r.after.now ≡ drop (length r.before.now + length r.name.now + 3) text.now) }
+    ensures after { IfSome result (λ r. r.after.now
+        ≡ drop (length r.before.now + length r.name.now + 3) text.now) }
     ensures shorter { IfSome result (λ r. length r.after.now < length text.now) }
 {
     let bytes = text.as_bytes();

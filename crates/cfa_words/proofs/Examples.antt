@@ -1,5 +1,5 @@
 -- Command lines and what they ask for, computed from the definition.
-use Rattle.std.proofs.Common.{◌≡◌, ◌∷◌, [], Option, Some, None, true, false, refl, codes, List}
+use Rattle.std.proofs.Common.{◌≡◌, ◌∷◌, [], Bool, Option, Some, None, true, false, refl, codes, List}
 use Rattle.cfa_words.specs.Words.{Text, asked}
 use Rattle.cfa_words.specs.declared.words.Request.{Request}
 use Rattle.cfa_words.specs.declared.words.Request.TheVariants.{Run, Check, Show}
@@ -11,22 +11,26 @@ a_cf = codes "a.cf"
 abbrev run_with : Text → Option Request
 run_with word = asked (codes "run" ∷ a_cf ∷ word ∷ [])
 
+-- a run of a policy with these classes, by locks or not, and strict or not
+abbrev run_of : Text → List Text → Bool → Bool → Option Request
+run_of policy classes locks strict = Some (Run policy (record { classes = classes; locks = locks; strict = strict }))
+
 abbrev refused : Option Request
 refused = None
 
 abbrev with_classes : List Text → Option Request
-with_classes names = Some (Run a_cf names false false)
+with_classes names = run_of a_cf names true false
 
-plain_run : asked (codes "run" ∷ a_cf ∷ []) ≡ Some (Run a_cf [] false false)
+plain_run : asked (codes "run" ∷ a_cf ∷ []) ≡ run_of a_cf [] true false
 plain_run = refl
 
-lock_before : asked (codes "-K" ∷ codes "run" ∷ a_cf ∷ []) ≡ Some (Run a_cf [] true false)
+lock_before : asked (codes "-K" ∷ codes "run" ∷ a_cf ∷ []) ≡ run_of a_cf [] false false
 lock_before = refl
 
-lock_after : run_with (codes "--no-lock") ≡ Some (Run a_cf [] true false)
+lock_after : run_with (codes "--no-lock") ≡ run_of a_cf [] false false
 lock_after = refl
 
-strict_run : run_with (codes "--strict") ≡ Some (Run a_cf [] false true)
+strict_run : run_with (codes "--strict") ≡ run_of a_cf [] true true
 strict_run = refl
 
 attached : run_with (codes "-Da,b") ≡ with_classes (codes "a" ∷ codes "b" ∷ [])
@@ -41,10 +45,10 @@ long_equals_sign = refl
 next_word : asked (codes "run" ∷ codes "--define" ∷ codes "web,Hr10" ∷ a_cf ∷ []) ≡ with_classes (codes "web" ∷ codes "Hr10" ∷ [])
 next_word = refl
 
-bundled : run_with (codes "-KDa") ≡ Some (Run a_cf (codes "a" ∷ []) true false)
+bundled : run_with (codes "-KDa") ≡ run_of a_cf (codes "a" ∷ []) false false
 bundled = refl
 
-ended : asked (codes "--" ∷ codes "run" ∷ codes "-K" ∷ []) ≡ Some (Run (codes "-K") [] false false)
+ended : asked (codes "--" ∷ codes "run" ∷ codes "-K" ∷ []) ≡ run_of (codes "-K") [] true false
 ended = refl
 
 dash_alone : asked (codes "show" ∷ codes "-" ∷ []) ≡ Some (Show (codes "-"))

@@ -1,4 +1,4 @@
--- What a line that was read gives, as the definition of command lines says it.
+-- Of the code alone: what a line that was read gives, as the definition of command lines says it.
 use Rattle.std.specs.Prelude.{List, [], ◌∷◌, Option, Some, None, option_map}
 use Rattle.std.specs.Borrow.{Bor}
 use Rattle.cfa_words.specs.declared.words.Line.{Line}

@@ -1,9 +1,10 @@
 -- How a command line is read. Its words are taken from left to right: each gives words of its own, flags and the classes
 -- of `-D`, each flag and `-D` may be given once, and the command that the first word names says which of them it takes.
-use Rattle.std.specs.Prelude.{ℕ, Bool, true, false, ◌==◌, ◌||◌, List, [], ◌∷◌, ◌++◌, Option, Some, None, codes, if◌then◌else◌, is_some, option_and_then, option_map}
+use Rattle.std.specs.Prelude.{ℕ, Bool, true, false, not, ◌==◌, ◌||◌, List, [], ◌∷◌, ◌++◌, Option, Some, None, codes, if◌then◌else◌, is_some, option_and_then, option_map}
 use Rattle.std.specs.List.{list_all, list_any, before_first, after_first, slice_split}
 use Rattle.std.specs.Str.{bytes_eq}
 use Rattle.cfa_base.specs.Lexing.{is_word}
+use Rattle.cfa_words.specs.declared.words.Options.{Options}
 use Rattle.cfa_words.specs.declared.words.Request.{Request}
 use Rattle.cfa_words.specs.declared.words.Request.TheVariants.{Run, Check, Show}
 
@@ -154,9 +155,12 @@ abbrev pub class_names : Option Text → Option (List Text)
 class_names None = Some []
 class_names (Some text) = class_list text
 
+abbrev pub options_of : Given → List Text → Options
+options_of g names = record { classes = names; locks = not g.no_lock; strict = g.strict }
+
 -- `run` takes each flag and option, `check` the classes, `show` nothing
 abbrev pub run_asked : Text → Given → Option Request
-run_asked policy g = option_map (λ names. Run policy names g.no_lock g.strict) (class_names g.classes)
+run_asked policy g = option_map (λ names. Run policy (options_of g names)) (class_names g.classes)
 
 abbrev pub check_asked : Text → Given → Option Request
 check_asked policy g =

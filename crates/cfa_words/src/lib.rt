@@ -1,8 +1,6 @@
 //! What a command line asks for, read from its words.
 #![tactic(auto)]
 
-#[cfg(test)]
-mod tests;
 mod words;
 
-pub use words::{Request, read_words};
+pub use words::{Options, Request, read_words};

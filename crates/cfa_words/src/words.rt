@@ -6,38 +6,33 @@ ghost use Rattle.clap.specs.Words.{app_of, first_value, found_of, one_text};
 ghost use Rattle.clap.specs.Values.{bool_text};
 ghost use Rattle.cfa_words.specs.Words.{asked, asked_of, class_list, class_names, given, is_class as class_test, words_asked, check_asked, run_asked, show_asked};
 ghost use Rattle.cfa_words.specs.Lines.{given_of, lines_given, text_in};
-ghost use Rattle.cfa_words.specs.Options.{command_line as command_line_app};
+ghost use Rattle.cfa_words.specs.Parser.{command_line as command_line_app};
 
 use cfa_base::{Name, Names, NoMemory, is_word};
 use clap::error::ErrorKind;
 use clap::{Arg, ArgAction, ArgMatches, Command};
 use std::alloc::{AllocError, Global};
 
-/// What a command line asks for.
+/// How a policy is to be run.
+#[derive(Debug, Drop)]
+pub struct Options {
+    /// The classes of `-D`, in their order.
+    pub classes: Names,
+    /// Locks count: `-K` was not given.
+    pub locks: bool,
+    /// `--strict` was given.
+    pub strict: bool,
+}
+
+/// What a command line asks for, with the policy's file as it was named.
 #[derive(Debug, Drop)]
 pub enum Request {
     /// `run POLICY`: reads, checks, analyses, then runs.
-    Run {
-        /// The policy's file, as it was named.
-        policy: Name,
-        /// The classes of `-D`, in their order.
-        classes: Names,
-        /// `-K` was given.
-        without_locks: bool,
-        /// `--strict` was given.
-        strict: bool,
-    },
-    /// `check POLICY`: reads, checks and analyses.
-    Check {
-        /// The policy's file, as it was named.
-        policy: Name,
-        /// The classes of `-D`, in their order.
-        classes: Names,
-    },
+    Run(Name, Options),
+    /// `check POLICY`: reads, checks and analyses, with the classes of `-D` in their order.
+    Check(Name, Names),
     /// `show POLICY`: reads the one file, and prints its canonical text.
-    Show {
-        policy: Name,
-    },
+    Show(Name),
 }
 
 // What a command line gives, before its command is looked at.
@@ -117,13 +112,19 @@ fn line_of<'a>(alloc: Global, words: &'a [&'a str]) -> Result<Option<Line<'a>>, 
 
 impl<'a> Line<'a> {
     fn of(matches: &ArgMatches<'a>) -> Line<'a>
-        ensures command { text_in result.command ≡ first_value (found_of matches.now) (codes "command") }
-        ensures argument { text_in result.argument ≡ first_value (found_of matches.now) (codes "argument") }
-        ensures extra { text_in result.extra ≡ first_value (found_of matches.now) (codes "extra") }
-        ensures classes { text_in result.classes ≡ first_value (found_of matches.now) (codes "define") }
-        ensures without_locks { (flag : Bool) → one_text (found_of matches.now) (codes "no-lock") ≡ Some (bool_text flag)
+        ensures command { text_in result.command
+            ≡ first_value (found_of matches.now) (codes "command") }
+        ensures argument { text_in result.argument
+            ≡ first_value (found_of matches.now) (codes "argument") }
+        ensures extra { text_in result.extra
+            ≡ first_value (found_of matches.now) (codes "extra") }
+        ensures classes { text_in result.classes
+            ≡ first_value (found_of matches.now) (codes "define") }
+        ensures without_locks { (flag : Bool)
+            → one_text (found_of matches.now) (codes "no-lock") ≡ Some (bool_text flag)
             → result.without_locks ≡ flag }
-        ensures strict { (flag : Bool) → one_text (found_of matches.now) (codes "strict") ≡ Some (bool_text flag)
+        ensures strict { (flag : Bool)
+            → one_text (found_of matches.now) (codes "strict") ≡ Some (bool_text flag)
             → result.strict ≡ flag }
     {
         Line {
@@ -158,12 +159,12 @@ fn run(alloc: Global, policy: &str, line: &Line) -> Result<Option<Request>, NoMe
     let Some(classes) = classes_of(alloc, line.classes)? else {
         return Ok(None);
     };
-    Ok(Some(Request::Run {
-        policy: Name::from_text(alloc, policy)?,
+    let options = Options {
         classes,
-        without_locks: line.without_locks,
+        locks: !line.without_locks,
         strict: line.strict,
-    }))
+    };
+    Ok(Some(Request::Run(Name::from_text(alloc, policy)?, options)))
 }
 
 fn check(alloc: Global, policy: &str, line: &Line) -> Result<Option<Request>, NoMemory>
@@ -175,10 +176,7 @@ fn check(alloc: Global, policy: &str, line: &Line) -> Result<Option<Request>, No
     let Some(classes) = classes_of(alloc, line.classes)? else {
         return Ok(None);
     };
-    Ok(Some(Request::Check {
-        policy: Name::from_text(alloc, policy)?,
-        classes,
-    }))
+    Ok(Some(Request::Check(Name::from_text(alloc, policy)?, classes)))
 }
 
 fn show(alloc: Global, policy: &str, line: &Line) -> Result<Option<Request>, NoMemory>
@@ -187,9 +185,7 @@ fn show(alloc: Global, policy: &str, line: &Line) -> Result<Option<Request>, NoM
     if line.without_locks || line.strict || line.classes.is_some() {
         return Ok(None);
     }
-    Ok(Some(Request::Show {
-        policy: Name::from_text(alloc, policy)?,
-    }))
+    Ok(Some(Request::Show(Name::from_text(alloc, policy)?)))
 }
 
 // The classes between the commas, or `None` where one of them is no class.
@@ -217,7 +213,8 @@ fn classes_between_commas(alloc: Global, list: &str) -> Result<Option<Names>, No
 }
 
 fn parts_of<'a>(alloc: Global, list: &'a str) -> Result<Vec<&'a str>, AllocError>
-    ensures { IfOk result (λ v. map (λ t. t.now) v.items ≡ slice_split (λ b. b == 44) list.entry.now) }
+    ensures { IfOk result (λ v. map (λ t. t.now) v.items
+        ≡ slice_split (λ b. b == 44) list.entry.now) }
 {
     list.split(',').collect(alloc)
 }

@@ -1,9 +1,12 @@
-use Rattle.std.proofs.Common.{◌≡◌, take, map}
-use Rattle.std.specs.List.{flat_map}
+use Rattle.std.proofs.Common.{◌≡◌, drop, map}
 use Rattle.std.specs.String.{string_bytes}
-use Rattle.cfa_functions.specs.Functions.{text_in}
-use Rattle.cfa_functions.specs.Calls.{argument_of}
+use Rattle.cfa_functions.specs.Functions.{concatenated, followed_by}
+use Rattle.cfa_functions.specs.Given.{argument_of}
+use Rattle.cfa_functions.proofs.SoFar.{joined}
 use Rattle.cfa_functions.proofs.making.concat.Given as goal
 
+-- what was joined and the arguments that are left give what all the arguments give
 abbrev pub invariant-loop-argument : goal.invariant-loop-argument
-invariant-loop-argument l = string_bytes l.whole ≡ flat_map text_in (map argument_of (take l.argument-index l.arguments))
+invariant-loop-argument l =
+    followed_by (joined l.is_hidden (string_bytes l.whole)) (concatenated (map argument_of (drop l.argument-index l.arguments)))
+    ≡ concatenated (map argument_of l.arguments)

@@ -2,7 +2,8 @@ use Rattle.std.proofs.Common.{◌≡◌, ◌++◌, drop, map}
 use Rattle.cfa_tree.specs.Plain.{plain_value}
 use Rattle.cfa_tree.specs.Tree.{value_trees}
 use Rattle.cfa_vars.specs.Scopes.{in_scope}
-use Rattle.cfa_functions.specs.Calls.{argument_of, arguments_given}
+use Rattle.cfa_functions.specs.Calls.{arguments_given}
+use Rattle.cfa_functions.specs.Given.{argument_of}
 use Rattle.cfa_functions.proofs.reading.+reading.Given as goal
 
 -- what was read and what is left give what all the values give

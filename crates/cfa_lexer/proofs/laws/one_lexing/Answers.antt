@@ -1,4 +1,4 @@
-use Rattle.cfa_base.proofs.Scanning.{lexes_same, first_fault_same, lexes_without_fault, lexes_or_fails}
+use Rattle.cfa_base.specs.lemmas.Scanning.{lexes_same, first_fault_same, lexes_without_fault, lexes_or_fails}
 use Rattle.cfa_lexer.proofs.laws.one_lexing.Goals as goal
 
 pub returns-clause-tokens : goal.returns-clause-tokens

@@ -1,7 +1,7 @@
 use Rattle.std.proofs.Common.{ap, ◌∙◌}
 use Rattle.cfa_base.specs.declared.places.Place.{Place}
 use Rattle.cfa_base.specs.Lexing.{place_after}
-use Rattle.cfa_base.proofs.EndPlaces.{end_place_is}
+use Rattle.cfa_base.specs.lemmas.EndPlaces.{end_place_is}
 use Rattle.cfa_lexer.proofs.lexing.end_place.Goals as goal
 
 pub returns-clause-line : goal.returns-clause-line

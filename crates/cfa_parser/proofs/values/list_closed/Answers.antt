@@ -1,5 +1,5 @@
 use Rattle.std.proofs.Common.{◌≡◌, None, IfOk, subst}
-use Rattle.cfa_tree.proofs.Rows.{plain_value-List}
+use Rattle.cfa_tree.specs.lemmas.Rows.{plain_value-List}
 use Rattle.cfa_parser.specs.Seen.{seen_value, seen_calls}
 use Rattle.cfa_parser.specs.Values.{value_taken}
 use Rattle.cfa_parser.proofs.values.list_closed.Goals as goal

@@ -1,9 +1,47 @@
-use Rattle.std.proofs.Common.{inl, inr, refl}
-use Rattle.cfa_program.proofs.RunLemmas.{some_weaker}
+use Rattle.cfa_program.proofs.CallLemmas as calls
 use Rattle.cfa_program.proofs.agent.agent_main.Goals as goal
 
-pub returns-in-Ok-clause-policy_refused : goal.returns-in-Ok-clause-policy_refused
-returns-in-Ok-clause-policy_refused g c = some_weaker (g.I.Inputs.told c.args.inputs.now) _ _ (λ lib _ so refuses. let does = so refuses in (inl (inl does.0), does.1)) c.in-Ok.ensures.policy_refused
+pub returns-clause-exact : goal.returns-clause-exact
+returns-clause-exact g c = calls.exact c.args.words.now c.args.moment (g.I.Inputs.shown c.args.inputs.now) (g.I.Inputs.shown c.call.new.inputs) (g.S.Site.shown c.args.site.now) (g.S.Site.shown c.call.new.site) (g.O.Sink.shown c.args.out.now) (g.O.Sink.shown c.call.new.out) (g.P.Patterns.shown c.args.pats.now) (g.P.Patterns.shown c.call.new.pats) c.call.result c.call.ensures
 
-pub returns-in-Err-Sink-clause-policy_refused : goal.returns-in-Err-Sink-clause-policy_refused
-returns-in-Err-Sink-clause-policy_refused g c = some_weaker (g.I.Inputs.told c.args.inputs.now) _ _ (λ lib _ so refuses. let does = so refuses in (inl (inr (inl refl)), does.1)) c.in-Err-Sink.ensures.policy_refused
+pub returns-clause-without_site : goal.returns-clause-without_site
+returns-clause-without_site g c = calls.without_site c.args.words.now c.args.moment (g.I.Inputs.shown c.args.inputs.now) (g.I.Inputs.shown c.call.new.inputs) (g.S.Site.shown c.args.site.now) (g.S.Site.shown c.call.new.site) (g.O.Sink.shown c.args.out.now) (g.O.Sink.shown c.call.new.out) (g.P.Patterns.shown c.args.pats.now) (g.P.Patterns.shown c.call.new.pats) c.call.result c.call.ensures
+
+pub returns-clause-site_untouched : goal.returns-clause-site_untouched
+returns-clause-site_untouched g c = calls.site_untouched c.args.words.now c.args.moment (g.I.Inputs.shown c.args.inputs.now) (g.I.Inputs.shown c.call.new.inputs) (g.S.Site.shown c.args.site.now) (g.S.Site.shown c.call.new.site) (g.O.Sink.shown c.args.out.now) (g.O.Sink.shown c.call.new.out) (g.P.Patterns.shown c.args.pats.now) (g.P.Patterns.shown c.call.new.pats) c.call.result c.call.ensures
+
+pub returns-clause-range : goal.returns-clause-range
+returns-clause-range g c = calls.range c.args.words.now c.args.moment (g.I.Inputs.shown c.args.inputs.now) (g.I.Inputs.shown c.call.new.inputs) (g.S.Site.shown c.args.site.now) (g.S.Site.shown c.call.new.site) (g.O.Sink.shown c.args.out.now) (g.O.Sink.shown c.call.new.out) (g.P.Patterns.shown c.args.pats.now) (g.P.Patterns.shown c.call.new.pats) c.call.result c.call.ensures
+
+pub returns-clause-refused : goal.returns-clause-refused
+returns-clause-refused g c = calls.puts_refusal c.args.words.now c.args.moment (g.I.Inputs.shown c.args.inputs.now) (g.I.Inputs.shown c.call.new.inputs) (g.S.Site.shown c.args.site.now) (g.S.Site.shown c.call.new.site) (g.O.Sink.shown c.args.out.now) (g.O.Sink.shown c.call.new.out) (g.P.Patterns.shown c.args.pats.now) (g.P.Patterns.shown c.call.new.pats) c.call.result c.call.ensures
+
+pub returns-clause-refused_untouched : goal.returns-clause-refused_untouched
+returns-clause-refused_untouched g c = calls.refused_untouched c.args.words.now c.args.moment (g.I.Inputs.shown c.args.inputs.now) (g.I.Inputs.shown c.call.new.inputs) (g.S.Site.shown c.args.site.now) (g.S.Site.shown c.call.new.site) (g.O.Sink.shown c.args.out.now) (g.O.Sink.shown c.call.new.out) (g.P.Patterns.shown c.args.pats.now) (g.P.Patterns.shown c.call.new.pats) c.call.result c.call.ensures
+
+pub returns-clause-words_refused : goal.returns-clause-words_refused
+returns-clause-words_refused g c = calls.words_refused c.args.words.now c.args.moment (g.I.Inputs.shown c.args.inputs.now) (g.I.Inputs.shown c.call.new.inputs) (g.S.Site.shown c.args.site.now) (g.S.Site.shown c.call.new.site) (g.O.Sink.shown c.args.out.now) (g.O.Sink.shown c.call.new.out) (g.P.Patterns.shown c.args.pats.now) (g.P.Patterns.shown c.call.new.pats) c.call.result c.call.ensures
+
+pub returns-clause-moment_refused : goal.returns-clause-moment_refused
+returns-clause-moment_refused g c = calls.moment_refused c.args.words.now c.args.moment (g.I.Inputs.shown c.args.inputs.now) (g.I.Inputs.shown c.call.new.inputs) (g.S.Site.shown c.args.site.now) (g.S.Site.shown c.call.new.site) (g.O.Sink.shown c.args.out.now) (g.O.Sink.shown c.call.new.out) (g.P.Patterns.shown c.args.pats.now) (g.P.Patterns.shown c.call.new.pats) c.call.result c.call.ensures
+
+pub returns-clause-policy_refused : goal.returns-clause-policy_refused
+returns-clause-policy_refused g c = calls.policy_refused c.args.words.now c.args.moment (g.I.Inputs.shown c.args.inputs.now) (g.I.Inputs.shown c.call.new.inputs) (g.S.Site.shown c.args.site.now) (g.S.Site.shown c.call.new.site) (g.O.Sink.shown c.args.out.now) (g.O.Sink.shown c.call.new.out) (g.P.Patterns.shown c.args.pats.now) (g.P.Patterns.shown c.call.new.pats) c.call.result c.taken_policies_are_not_refused.ensures c.call.ensures
+
+pub returns-clause-failed : goal.returns-clause-failed
+returns-clause-failed g c = calls.failed c.args.words.now c.args.moment (g.I.Inputs.shown c.args.inputs.now) (g.I.Inputs.shown c.call.new.inputs) (g.S.Site.shown c.args.site.now) (g.S.Site.shown c.call.new.site) (g.O.Sink.shown c.args.out.now) (g.O.Sink.shown c.call.new.out) (g.P.Patterns.shown c.args.pats.now) (g.P.Patterns.shown c.call.new.pats) c.call.result c.call.ensures
+
+pub returns-clause-outside : goal.returns-clause-outside
+returns-clause-outside g c = calls.outside c.args.words.now c.args.moment (g.I.Inputs.shown c.args.inputs.now) (g.I.Inputs.shown c.call.new.inputs) (g.S.Site.shown c.args.site.now) (g.S.Site.shown c.call.new.site) (g.O.Sink.shown c.args.out.now) (g.O.Sink.shown c.call.new.out) (g.P.Patterns.shown c.args.pats.now) (g.P.Patterns.shown c.call.new.pats) c.call.result c.call.ensures
+
+pub returns-clause-names : goal.returns-clause-names
+returns-clause-names g c = calls.names c.args.words.now c.args.moment (g.I.Inputs.shown c.args.inputs.now) (g.I.Inputs.shown c.call.new.inputs) (g.S.Site.shown c.args.site.now) (g.S.Site.shown c.call.new.site) (g.O.Sink.shown c.args.out.now) (g.O.Sink.shown c.call.new.out) (g.P.Patterns.shown c.args.pats.now) (g.P.Patterns.shown c.call.new.pats) c.call.result c.call.ensures
+
+pub returns-clause-memory : goal.returns-clause-memory
+returns-clause-memory g c = calls.memory c.args.words.now c.args.moment (g.I.Inputs.shown c.args.inputs.now) (g.I.Inputs.shown c.call.new.inputs) (g.S.Site.shown c.args.site.now) (g.S.Site.shown c.call.new.site) (g.O.Sink.shown c.args.out.now) (g.O.Sink.shown c.call.new.out) (g.P.Patterns.shown c.args.pats.now) (g.P.Patterns.shown c.call.new.pats) c.call.result c.call.ensures
+
+pub returns-clause-pattern : goal.returns-clause-pattern
+returns-clause-pattern g c = calls.pattern c.args.words.now c.args.moment (g.I.Inputs.shown c.args.inputs.now) (g.I.Inputs.shown c.call.new.inputs) (g.S.Site.shown c.args.site.now) (g.S.Site.shown c.call.new.site) (g.O.Sink.shown c.args.out.now) (g.O.Sink.shown c.call.new.out) (g.P.Patterns.shown c.args.pats.now) (g.P.Patterns.shown c.call.new.pats) c.call.result c.call.ensures
+
+pub returns-clause-patterns_kept : goal.returns-clause-patterns_kept
+returns-clause-patterns_kept g c = calls.patterns_kept c.args.words.now c.args.moment (g.I.Inputs.shown c.args.inputs.now) (g.I.Inputs.shown c.call.new.inputs) (g.S.Site.shown c.args.site.now) (g.S.Site.shown c.call.new.site) (g.O.Sink.shown c.args.out.now) (g.O.Sink.shown c.call.new.out) (g.P.Patterns.shown c.args.pats.now) (g.P.Patterns.shown c.call.new.pats) c.call.result c.call.ensures

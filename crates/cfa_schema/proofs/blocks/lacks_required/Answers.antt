@@ -1,7 +1,8 @@
 use Rattle.std.proofs.Common.{◌∙◌, ap, map}
 use Rattle.std.specs.Prelude.{not}
 use Rattle.cfa_tree.specs.Plain.{plain_attribute}
-use Rattle.cfa_schema.specs.Valid.{has_attribute, lacks_required}
+use Rattle.cfa_values.specs.Attributes.{has_attribute}
+use Rattle.cfa_schema.specs.Valid.{lacks_required}
 use Rattle.cfa_schema.proofs.BlockLemmas.{any_seen}
 use Rattle.cfa_schema.proofs.blocks.lacks_required.Goals as goal
 

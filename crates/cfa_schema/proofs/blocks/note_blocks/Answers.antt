@@ -1,7 +1,7 @@
 use Rattle.std.proofs.Common.{◌∙◌}
 use Rattle.cfa_tree.specs.Plain.{plain_block}
 use Rattle.cfa_schema.specs.Valid.{block_refusals}
-use Rattle.cfa_schema.proofs.NotedLemmas.{noted_more}
+use Rattle.cfa_values.specs.Noted.{noted_more}
 use Rattle.cfa_schema.proofs.blocks.note_blocks.Goals as goal
 
 pub loop-block-preserved : goal.loop-block-preserved

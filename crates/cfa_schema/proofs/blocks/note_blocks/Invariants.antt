@@ -1,7 +1,7 @@
 use Rattle.std.proofs.Common.{◌≡◌, drop, map}
 use Rattle.std.specs.List.{flat_map}
 use Rattle.cfa_tree.specs.Plain.{plain_block}
-use Rattle.cfa_schema.specs.Refusals.{noted}
+use Rattle.cfa_values.specs.Refusals.{noted}
 use Rattle.cfa_schema.specs.Valid.{block_refusals}
 use Rattle.cfa_schema.proofs.blocks.note_blocks.Given as goal
 

@@ -2,11 +2,10 @@ use Rattle.std.proofs.Common.{◌∙◌, ap, sym, map, None}
 use Rattle.std.proofs.lemmas.Result.{on_ok_weaker}
 use Rattle.cfa_tree.specs.Plain.{plain_attribute, plain_named}
 use Rattle.cfa_kinds.specs.Kinds.{body_type, is_foreign_body_type}
-use Rattle.cfa_schema.specs.Known.{name_in}
-use Rattle.cfa_schema.specs.Referring.{in_body}
-use Rattle.cfa_schema.specs.Refusals.{noted}
+use Rattle.cfa_values.specs.Values.{name_in, repeated}
+use Rattle.cfa_values.specs.Scope.{in_body}
+use Rattle.cfa_values.specs.Refusals.{noted}
 use Rattle.cfa_schema.specs.Valid.{other_type, body_by}
-use Rattle.cfa_schema.specs.Values.{repeated}
 use Rattle.cfa_schema.proofs.BlockLemmas.{noted_by, body_noted}
 use Rattle.cfa_schema.proofs.blocks.note_body.Goals as goal
 
@@ -24,7 +23,7 @@ returns-in_ok-names-in-Some c =
 pub returns-in-None : goal.returns-in-None
 returns-in-None c =
     let own = c.args.body.now in
-    noted_by (body_by (record { known = c.args.definitions.now; home = in_body (map name_in (map plain_named own.params)) }) (plain_named own.kind) (plain_named own.name) (map plain_attribute own.attributes)) None (body_type own.kind.name)
+    noted_by (body_by (record { definitions = c.args.definitions.now; home = in_body (map name_in (map plain_named own.params)) }) (plain_named own.kind) (plain_named own.name) (map plain_attribute own.attributes)) None (body_type own.kind.name)
     (repeated (map plain_named own.params)) c.args.first.now c.note_params.new.first c.note_other_type.new.first
     (sym c.in-None.is ∙ c.body_type.ensures ∙ ap body_type c.as_str-kind.ensures)
     (c.in_ok-note_params.ensures ∙ ap (λ ps. noted c.args.first.now (repeated (map plain_named ps))) c.as_slice-params.ensures)

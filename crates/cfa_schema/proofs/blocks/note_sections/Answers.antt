@@ -1,8 +1,8 @@
 use Rattle.std.proofs.Common.{◌∙◌}
 use Rattle.cfa_tree.specs.Plain.{plain_section}
-use Rattle.cfa_schema.specs.Contexts.{seen_context}
+use Rattle.cfa_values.specs.Seen.{seen_context}
 use Rattle.cfa_schema.specs.Valid.{section_refusals}
-use Rattle.cfa_schema.proofs.NotedLemmas.{noted_more}
+use Rattle.cfa_values.specs.Noted.{noted_more}
 use Rattle.cfa_schema.proofs.blocks.note_sections.Goals as goal
 
 pub loop-section-preserved : goal.loop-section-preserved

@@ -1,8 +1,8 @@
 use Rattle.std.proofs.Common.{◌≡◌, drop, map}
 use Rattle.std.specs.List.{flat_map}
 use Rattle.cfa_tree.specs.Plain.{plain_section}
-use Rattle.cfa_schema.specs.Contexts.{seen_context}
-use Rattle.cfa_schema.specs.Refusals.{noted}
+use Rattle.cfa_values.specs.Seen.{seen_context}
+use Rattle.cfa_values.specs.Refusals.{noted}
 use Rattle.cfa_schema.specs.Valid.{section_refusals}
 use Rattle.cfa_schema.proofs.blocks.note_sections.Given as goal
 

@@ -1,6 +1,6 @@
 use Rattle.std.proofs.Common.{◌∙◌}
 use Rattle.cfa_tree.specs.Plain.{plain_named}
-use Rattle.cfa_schema.specs.Settings.{seen_item}
+use Rattle.cfa_values.specs.Kept.{seen_item}
 use Rattle.cfa_schema.proofs.BlockLemmas.{seen_more}
 use Rattle.cfa_schema.proofs.blocks.param_items.Goals as goal
 

@@ -1,6 +1,6 @@
 use Rattle.std.proofs.Common.{◌≡◌, ◌++◌, drop, map}
 use Rattle.cfa_tree.specs.Plain.{plain_named}
-use Rattle.cfa_schema.specs.Known.{name_in}
+use Rattle.cfa_values.specs.Values.{name_in}
 use Rattle.cfa_schema.proofs.blocks.param_names.Given as goal
 
 -- the names so far and those that are left are all

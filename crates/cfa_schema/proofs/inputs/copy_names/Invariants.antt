@@ -1,5 +1,5 @@
 use Rattle.std.proofs.Common.{◌≡◌, take, map}
-use Rattle.cfa_schema.specs.Collected.{item_name}
+use Rattle.cfa_values.specs.Kept.{item_name}
 use Rattle.cfa_schema.proofs.inputs.copy_names.Given as goal
 
 abbrev pub invariant-loop-item : goal.invariant-loop-item

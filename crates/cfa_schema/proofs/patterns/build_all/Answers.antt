@@ -8,16 +8,15 @@ returns-in_err-build_one-clause-bad g c =
     let gives = err_from_is_err_and c.from_residual.result c.from_residual.ensures.1 in
     rw (gives.1, gives.2) (bad_stands c.args.patterns.now c.loop-pattern.pattern-index _ c.loop-pattern-test.true c.loop-pattern.invariant.good c.in_err-build_one.field-0.0 c.in_err-build_one.ensures.bad)
 
-pub returns-in_err-build_one-clause-too_big : goal.returns-in_err-build_one-clause-too_big
-returns-in_err-build_one-clause-too_big g c =
+pub returns-in_err-build_one-clause-shown : goal.returns-in_err-build_one-clause-shown
+returns-in_err-build_one-clause-shown g c =
     let gives = err_from_is_err_and c.from_residual.result c.from_residual.ensures.1 in
-    rw (gives.1, gives.2) (refused_stands c.args.patterns.now c.loop-pattern.pattern-index _ c.loop-pattern-test.true c.loop-pattern.invariant.good c.in_err-build_one.field-0.0 c.in_err-build_one.ensures.too_big)
+    rw (gives.1, gives.2) (refused_stands c.args.patterns.now c.loop-pattern.pattern-index _ c.loop-pattern-test.true c.loop-pattern.invariant.good c.in_err-build_one.field-0.0 _ _ _ c.loop-pattern.invariant.shown c.in_err-build_one.ensures.shown)
 
 pub loop-pattern-preserved : goal.loop-pattern-preserved
 loop-pattern-preserved g c = record {
   good = good_more c.args.patterns.now c.loop-pattern.pattern-index _ c.loop-pattern-test.true c.loop-pattern.invariant.good c.in_ok-build_one.ensures.good;
-  told = c.in_ok-build_one.ensures.ok_told ∙ c.loop-pattern.invariant.told;
-  count = c.in_ok-build_one.ensures.ok_count ∙ c.loop-pattern.invariant.count;
+  shown = c.in_ok-build_one.ensures.shown ∙ c.loop-pattern.invariant.shown;
 }
 
 pub returns-clause-good : goal.returns-clause-good

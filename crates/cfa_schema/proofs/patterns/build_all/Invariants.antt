@@ -8,6 +8,5 @@ use Rattle.cfa_schema.proofs.patterns.build_all.Given as goal
 abbrev pub invariant-loop-pattern : goal.invariant-loop-pattern
 invariant-loop-pattern g l = record {
   good : All IsPattern (map seen_pattern (take l.pattern-index l.patterns));
-  told : g.P.Patterns.told l.pats ≡ g.P.Patterns.told l.fn.pats;
-  count : g.P.Patterns.refusals l.pats ≡ g.P.Patterns.refusals l.fn.pats;
+  shown : g.P.Patterns.shown l.pats ≡ g.P.Patterns.shown l.fn.pats;
 }

@@ -1,7 +1,7 @@
 use Rattle.std.proofs.Common.{◌≡◌, ◌++◌, drop, map}
 use Rattle.std.specs.List.{filter_map}
 use Rattle.cfa_tree.specs.Plain.{plain_block}
-use Rattle.cfa_schema.specs.Settings.{seen_item}
+use Rattle.cfa_values.specs.Kept.{seen_item}
 use Rattle.cfa_schema.specs.Valid.{bundle_name}
 use Rattle.cfa_schema.proofs.policies.bundle_items.Given as goal
 

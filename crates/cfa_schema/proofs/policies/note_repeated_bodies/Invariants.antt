@@ -1,7 +1,7 @@
 use Rattle.std.proofs.Common.{◌≡◌, [], drop, map}
 use Rattle.std.specs.List.{filter_map}
 use Rattle.cfa_tree.specs.Plain.{plain_block}
-use Rattle.cfa_schema.specs.Refusals.{noted}
+use Rattle.cfa_values.specs.Refusals.{noted}
 use Rattle.cfa_schema.specs.Valid.{body_name, repeated_bodies_after}
 use Rattle.cfa_schema.proofs.PolicyLemmas.{repeated_pairs}
 use Rattle.cfa_schema.proofs.policies.note_repeated_bodies.Given as goal

@@ -1,9 +1,9 @@
 use Rattle.std.proofs.Common.{◌∙◌, ap, map}
 use Rattle.std.proofs.lemmas.Result.{on_ok_weaker}
 use Rattle.cfa_tree.specs.Plain.{plain_attribute, plain_block, plain_policy}
-use Rattle.cfa_schema.specs.Refusals.{noted}
-use Rattle.cfa_schema.specs.Settings.{seen_item}
-use Rattle.cfa_schema.specs.Values.{repeated}
+use Rattle.cfa_values.specs.Refusals.{noted}
+use Rattle.cfa_values.specs.Kept.{seen_item}
+use Rattle.cfa_values.specs.Values.{repeated}
 use Rattle.cfa_schema.proofs.PolicyLemmas.{table_noted}
 use Rattle.cfa_schema.proofs.policies.note_table.Goals as goal
 

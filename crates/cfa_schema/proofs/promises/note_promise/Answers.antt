@@ -2,7 +2,7 @@ use Rattle.std.proofs.Common.{ap, map}
 use Rattle.std.specs.Prelude.{option_map, option_copied}
 use Rattle.std.proofs.lemmas.Result.{on_ok_weaker}
 use Rattle.cfa_tree.specs.Plain.{plain_attribute, plain_value, plain_promise}
-use Rattle.cfa_schema.specs.Contexts.{seen_context}
+use Rattle.cfa_values.specs.Seen.{seen_context}
 use Rattle.cfa_schema.proofs.PromiseLemmas.{promise_noted}
 use Rattle.cfa_schema.proofs.promises.note_promise.Goals as goal
 

@@ -1,8 +1,8 @@
 use Rattle.std.proofs.Common.{◌∙◌}
 use Rattle.cfa_tree.specs.Plain.{plain_promise}
-use Rattle.cfa_schema.specs.Contexts.{seen_context}
+use Rattle.cfa_values.specs.Seen.{seen_context}
 use Rattle.cfa_schema.specs.Valid.{promise_refusals}
-use Rattle.cfa_schema.proofs.NotedLemmas.{noted_more}
+use Rattle.cfa_values.specs.Noted.{noted_more}
 use Rattle.cfa_schema.proofs.promises.note_promises.Goals as goal
 
 pub loop-promise-preserved : goal.loop-promise-preserved

@@ -1,6 +1,6 @@
 use Rattle.std.proofs.Common.{subst, Option, IfSome}
 use Rattle.cfa_tree.specs.Plain.{plain_policy}
-use Rattle.cfa_schema.specs.declared.refusals.Refusal.{Refusal}
+use Rattle.cfa_values.specs.declared.refusals.Refusal.{Refusal}
 use Rattle.cfa_schema.specs.Valid.{IsFirst, of_table}
 use Rattle.cfa_schema.proofs.VerdictLemmas.{sequence_some}
 use Rattle.cfa_schema.proofs.verdicts.first_refusal.Goals as goal

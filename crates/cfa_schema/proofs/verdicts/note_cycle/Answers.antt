@@ -1,8 +1,8 @@
 use Rattle.std.proofs.Common.{◌∙◌, ap, sym, subst, map, Option}
 use Rattle.cfa_tree.specs.Plain.{plain_policy}
-use Rattle.cfa_schema.specs.declared.refusals.Refusal.{Refusal}
+use Rattle.cfa_values.specs.declared.refusals.Refusal.{Refusal}
 use Rattle.cfa_calls.specs.Cycles.{seen_call, seen_calls}
-use Rattle.cfa_schema.specs.CycleNotes.{NotesCycle, no_cycle, first_cycle}
+use Rattle.cfa_schema.specs.Collected.{NotesCycle, no_cycle, first_cycle}
 use Rattle.cfa_schema.specs.Valid.{calls_of}
 use Rattle.cfa_schema.proofs.VerdictLemmas.{first_on, none_on}
 use Rattle.cfa_schema.proofs.verdicts.note_cycle.Goals.{in-Some, in-None}

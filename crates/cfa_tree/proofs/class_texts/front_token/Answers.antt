@@ -1,20 +1,12 @@
-use Rattle.std.proofs.Common.{◌≡◌, sym, ap, subst, arith, ◌∙◌, slice_index}
-use Rattle.std.proofs.lemmas.List.{get_or_past}
-use Rattle.cfa_base.specs.declared.tokens.Kind.TheVariants.{Word}
-use Rattle.cfa_tree.specs.ClassFronts.{IsFront, TellsFront, symbol_of}
-use Rattle.cfa_tree.proofs.ClassFrontLemmas.{word_front, symbol_front}
+use Rattle.std.proofs.Common.{sym, ◌∙◌}
+use Rattle.cfa_tree.proofs.ClassFrontLemmas.{ends_none, line_ends, on_one_line}
 use Rattle.cfa_tree.proofs.class_texts.front_token.Goals as goal
-use Rattle.cfa_tree.proofs.class_texts.front_token.Goals.{then-bytes-gt1, else-bytes-gt1}
 
-pub returns-then-is_word_byte : goal.returns-then-is_word_byte
-returns-then-is_word_byte c =
-    subst (IsFront c.args.bytes.now Word) (sym c.word_len.ensures) (word_front c.args.bytes.now c.requires.some (sym c.is_word_byte.ensures ∙ c.if-is_word_byte.true))
+pub returns-in_default : goal.returns-in_default
+returns-in_default c = ends_none c.args.bytes.now c.requires.some c.requires.begun c.in_default.ensures
 
-pub returns : goal.returns
-returns c =
-    let second : c.if-bytes-gt1.second ≡ slice_index c.args.bytes.now 1 = elim c.if-bytes-gt1.branch [
-      | then-bytes-gt1 w ↦ w.second-is
-      | else-bytes-gt1 w ↦ w.second-is ∙ sym (get_or_past c.args.bytes.now 1 0 (omega arith))
-    ] in
-    let tells = symbol_front c.args.bytes.now c.requires.some c.requires.begun (sym c.is_word_byte.ensures ∙ c.if-is_word_byte.false) in
-    subst (TellsFront c.args.bytes.now) (sym (c.symbol.ensures ∙ ap (symbol_of (slice_index c.args.bytes.now 0)) second)) tells
+pub returns-then-stay_on_line : goal.returns-then-stay_on_line
+returns-then-stay_on_line c = on_one_line c.args.bytes.now c.in-Some.kind c.in-Some.len c.in-Some.ensures (sym c.stay_on_line.ensures ∙ c.if-stay_on_line.true)
+
+pub returns-else-stay_on_line : goal.returns-else-stay_on_line
+returns-else-stay_on_line c = line_ends c.args.bytes.now c.in-Some.len (sym c.stay_on_line.ensures ∙ c.if-stay_on_line.false)

@@ -1,6 +1,6 @@
 use Rattle.std.proofs.Common.{◌∙◌, ◌≢◌, length, sym, arith}
 use Rattle.cfa_tree.specs.Plain.{plain_expr}
-use Rattle.cfa_tree.proofs.Rows.{plain_expr-And}
+use Rattle.cfa_tree.specs.lemmas.Rows.{plain_expr-And}
 use Rattle.cfa_tree.proofs.GuardSteps.{conj_of-many}
 use Rattle.cfa_tree.proofs.guards.joined_atoms.Goals as goal
 

@@ -1,6 +1,6 @@
 use Rattle.std.proofs.Common.{◌∙◌, ◌≢◌, length, sym, arith}
 use Rattle.cfa_tree.specs.Plain.{plain_expr}
-use Rattle.cfa_tree.proofs.Rows.{plain_expr-Or}
+use Rattle.cfa_tree.specs.lemmas.Rows.{plain_expr-Or}
 use Rattle.cfa_tree.proofs.GuardSteps.{guard_of-many}
 use Rattle.cfa_tree.proofs.guards.joined_conjs.Goals as goal
 

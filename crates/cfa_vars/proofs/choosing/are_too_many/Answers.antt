@@ -11,4 +11,4 @@ loop-place-preserved c =
     let so_far = subst (λ (left : Lists). StillToCount c.loop-place.count left lists) c.list_at.ensures c.loop-place.invariant in
     let same : length c.as_slice-length.result.now ≡ length items = ap length c.as_slice-length.ensures in
     let counted : min (c.loop-place.count * length items) 4097 ≡ c.min-count.result = ap (λ n. min (c.loop-place.count * n) 4097) (sym same) ∙ sym c.min-count.ensures in
-    subst (λ (n : ℕ). StillToCount n rest lists) counted (count_more c.loop-place.count c.list_at.result.0.now items rest lists so_far (omega (arith, same, c.if-length-gt-LIMIT.false)))
+    subst (λ (n : ℕ). StillToCount n rest lists) counted (count_more c.loop-place.count c.list_at.result.0.now items rest lists so_far (omega (arith, same, c.if-length-gt-MOST_COMBINATIONS.false)))

@@ -2,4 +2,4 @@ use Rattle.cfa_classes.proofs.RaisedLemmas.{status_in-none_raised}
 use Rattle.cfa_classes.proofs.raising.Statuses.new.Goals as goal
 
 pub returns-clause-all_no : goal.returns-clause-all_no
-returns-clause-all_no c = λ name. rw c.new.ensures.empty (status_in-none_raised name)
+returns-clause-all_no c = λ name. rw c.new.ensures (status_in-none_raised name)

@@ -1,0 +1,7 @@
+use Rattle.std.proofs.Common.{rules}
+use Rattle.cfa_base.proofs.IndexLemmas.{notes_pair}
+use Rattle.cfa_base.proofs.index.note_pair_if_new.Goals as goal
+
+pub returns-clause-ok : goal.returns-clause-ok
+returns-clause-ok c =
+    notes_pair c.args.pair c.args.places.now c.insert.new.self c.args.place c.in_ok-insert.ensures.updates (search rules)

@@ -1,0 +1,8 @@
+-- Lemmas on these definitions that the proofs of the crates above cite. No contract names one.
+pub mod Boundaries
+pub mod EndPlaces
+pub mod Escapes
+pub mod Scanning
+pub mod Spelled
+pub mod Taking
+pub mod TextMaps

@@ -1,0 +1,85 @@
+// Maps from texts.
+ghost use Rattle.std.specs.Prelude.{◌≡◌, OnOk, OnErr, option_copied, string_bytes};
+ghost use Rattle.std.specs.FinMap as map;
+ghost use Rattle.cfa_base.specs.TextMaps.{has_front};
+
+use crate::NoMemory;
+use std::alloc::Global;
+use std::collections::BTreeMap;
+use std::marker::Model;
+
+/// A map from texts. Contracts see a finite map from the bytes of the texts. A look-up and a change cost a logarithm of
+/// comparisons.
+#[derive(Debug, Drop)]
+pub struct TextMap<V> {
+    rows: BTreeMap<String, V>,
+}
+
+impl<V> Model for TextMap<V> {
+    ghost use Rattle.std.specs.Coded.{coded_list, coded_ℕ};
+    ghost use Rattle.std.specs.FinMap as map;
+    ghost use Rattle.std.specs.String.{string_bytes};
+    ghost use Rattle.cfa_base.specs.TextMaps.{TextMap, text_map};
+
+    ghost Value = { TextMap V };
+
+    ghost coded = { map.code (coded_list coded_ℕ) V.code };
+
+    ghost view = { λ m. text_map string_bytes m.rows.entries };
+}
+
+impl<V> TextMap<V> {
+    /// The empty map, without taking memory.
+    pub fn new(alloc: Global) -> TextMap<V>
+        ensures { result ≡ map.empty }
+    {
+        TextMap {
+            rows: BTreeMap::new(alloc),
+        }
+    }
+
+    /// The value at a text, without taking memory.
+    pub fn get(&self, key: &str) -> Option<&V>
+        ensures { option_copied result ≡ map.get self.now key.now }
+    {
+        self.rows.get(key)
+    }
+
+    /// Whether a value is at a text, without taking memory.
+    pub fn contains(&self, key: &str) -> bool
+        ensures { result ≡ map.contains_key self.now key.now }
+    {
+        self.rows.contains_key(key)
+    }
+
+    /// Puts a value at a text, in the place of the one that is there. After want of memory the map is as it was.
+    pub fn insert(&mut self, key: String, value: V) -> Result<(), NoMemory>
+    where
+        V: Drop,
+        ensures ok { OnOk result (self.new ≡ map.insert self.old (string_bytes key) value) }
+        ensures err { OnErr result (self.new ≡ self.old) }
+    {
+        self.rows.insert(key, value)?;
+        Ok(())
+    }
+
+    /// Takes out what is at a text, without taking memory.
+    pub fn remove(&mut self, key: &str)
+    where
+        V: Drop,
+        ensures { self.new ≡ map.remove self.old key.now }
+    {
+        let _ = self.rows.remove(key);
+    }
+
+    /// Whether some text of the map begins with this one, without taking memory. The first text from there on tells,
+    /// since such texts stand together.
+    pub fn has_front(&self, front: &String) -> bool
+        ensures { result ≡ has_front self.now (string_bytes front.now) }
+    {
+        match self.rows.range(front..).next() {
+            Some((key, _)) => key.as_bytes().starts_with(front.as_bytes()),
+            None => false,
+        }
+    }
+}

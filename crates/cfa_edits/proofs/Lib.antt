@@ -1,0 +1,5 @@
+pub mod DeckSteps
+pub mod FieldSteps
+pub mod InsertSteps
+pub mod TextSteps
+pub mod TextsTell

@@ -1,0 +1,293 @@
+-- The text of a script tells its edits: no field has a separator, so the parts of a text are its fields.
+use Rattle.std.proofs.Common.{◌≡◌, ◌≢◌, ℕ, ◌+◌, ◌*◌, ◌<◌, ◌≤◌, ◌%◌, Bool, true, false, ◌&&◌, List, [], ◌∷◌, ◌++◌, length, map, get_or, codes, refl, sym, ap, ap₂, ◌∙◌, arith, eqb, All, nat_eq}
+use Rattle.std.specs.Prelude.{encode_utf8}
+use Rattle.std.specs.Fmt.{decimal}
+use Rattle.std.specs.List.{join_with_byte, slice_split, list_all}
+use Rattle.std.specs.Str.Parse.{digits_value}
+use Rattle.std.proofs.lemmas.Bool.{ne_eqb, true≢false}
+use Rattle.std.proofs.lemmas.Bool.Decides.{nat_tests}
+use Rattle.std.proofs.lemmas.Fmt.{decimal_is_IsNumeral, decimal_by_steps}
+use Rattle.std.proofs.lemmas.List.{append-nil}
+use Rattle.std.proofs.lemmas.List.Elements.{All-nil, All-cons, All-head, All-tail, All-append, All-push, All-weaker}
+use Rattle.std.proofs.lemmas.List.Splits.{slice_split_none, slice_split_at}
+use Rattle.std.proofs.lemmas.Str.{encode_same}
+use Rattle.cfa_base.specs.Escapes.{escaped, is_field_byte}
+use Rattle.cfa_base.specs.lemmas.Escapes.{fields_tell_texts, escaped-avoids}
+use Rattle.cfa_base.specs.Patterns.{PatternText, pattern_of}
+use Rattle.cfa_edits.specs.Laws.{TextsTellScripts}
+use Rattle.cfa_edits.specs.Scripts.{IsSpot, IsEdit, AreEdits, spot_name, spot_pattern, block_text, edit_fields, edit_text, script_text}
+use Rattle.cfa_edits.specs.declared.edits.Edit.{Edit}
+use Rattle.cfa_edits.specs.declared.edits.Edit.TheVariants.{Delete, Field, Insert, Replace}
+use Rattle.cfa_edits.specs.declared.edits.Spot.{Spot}
+use Rattle.cfa_edits.specs.declared.edits.Spot.TheVariants.{Start, End, Before, After}
+
+-- the byte stands nowhere in the text
+abbrev Lacks : ℕ → List ℕ → Type 0
+Lacks c text = All (λ b. b ≢ c) text
+
+-- ---- joined texts
+cut : (c : ℕ) (text : List ℕ) → Lacks c text → All (λ b. eqb b c ≡ false) text
+cut c text none = All-weaker (λ b. b ≢ c) (λ b. eqb b c ≡ false) (λ b ne. ne_eqb b c ne) text none
+
+itself : (c : ℕ) → eqb c c ≡ true
+itself c = grind (arith, nat_tests)
+
+-- the parts of joined texts are the texts
+split_joined : (c : ℕ) (text : List ℕ) (texts : List (List ℕ)) → All (Lacks c) (text ∷ texts) → slice_split (λ b. eqb b c) (join_with_byte c (text ∷ texts)) ≡ text ∷ texts
+split_joined c text [] all = slice_split_none (λ b. eqb b c) text (cut c text (All-head (Lacks c) text [] all))
+split_joined c text (next ∷ texts) all =
+    slice_split_at (λ b. eqb b c) text c (join_with_byte c (next ∷ texts)) (cut c text (All-head (Lacks c) text (next ∷ texts) all)) (itself c)
+    ∙ ap (λ parts. text ∷ parts) (split_joined c next texts (All-tail (Lacks c) text (next ∷ texts) all))
+
+joined_tells : (c : ℕ) (text other : List ℕ) (texts others : List (List ℕ)) → All (Lacks c) (text ∷ texts) → All (Lacks c) (other ∷ others)
+    → join_with_byte c (text ∷ texts) ≡ join_with_byte c (other ∷ others) → text ∷ texts ≡ other ∷ others
+joined_tells c text other texts others all all' same =
+    sym (split_joined c text texts all) ∙ ap (slice_split (λ b. eqb b c)) same ∙ split_joined c other others all'
+
+-- a byte that no text has and that isn't the separator isn't in the joined texts
+lacks_joined : (c separator : ℕ) (texts : List (List ℕ)) → separator ≢ c → All (Lacks c) texts → Lacks c (join_with_byte separator texts)
+lacks_joined c separator [] ne all = All-nil (λ b. b ≢ c)
+lacks_joined c separator (text ∷ []) ne all = All-head (Lacks c) text [] all
+lacks_joined c separator (text ∷ next ∷ texts) ne all =
+    All-append (λ b. b ≢ c) text (separator ∷ join_with_byte separator (next ∷ texts)) (All-head (Lacks c) text (next ∷ texts) all)
+    (All-cons (λ b. b ≢ c) separator (join_with_byte separator (next ∷ texts)) ne (lacks_joined c separator (next ∷ texts) ne (All-tail (Lacks c) text (next ∷ texts) all)))
+
+-- ---- bytes that no field has
+pub record IsSeparator (c : ℕ) : Type 0 where
+  pub low : c < 65
+  pub none : is_field_byte c ≡ false
+  pub no_digit : (d : ℕ) → d < 10 → 48 + d ≢ c
+
+differs : (b c : ℕ) → is_field_byte c ≡ false → is_field_byte b ≡ true → b ≢ c
+differs b c none field same = true≢false (sym field ∙ ap is_field_byte same ∙ none)
+
+and_both : (x y : Bool) → (x && y) ≡ true → (x ≡ true) × (y ≡ true)
+and_both true y e = (refl, e)
+and_both false y e = absurd cc
+
+lacks_word : (c : ℕ) (word : List ℕ) → is_field_byte c ≡ false → list_all is_field_byte word ≡ true → Lacks c word
+lacks_word c [] none all = All-nil (λ b. b ≢ c)
+lacks_word c (b ∷ word) none all =
+    let both = and_both (is_field_byte b) (list_all is_field_byte word) all in
+    All-cons (λ x. x ≢ c) b word (differs b c none both.0) (lacks_word c word none both.1)
+
+lacks_escaped : (c : ℕ) (text : List ℕ) → IsSeparator c → Lacks c (escaped text)
+lacks_escaped c text s = escaped-avoids c text s.low s.none
+
+lacks_decimal : (c n : ℕ) → IsSeparator c → n ≤ 999 → Lacks c (decimal n)
+lacks_decimal c n s small =
+    decimal_by_steps (λ m ds. Lacks c ds)
+    (λ d lt. All-cons (λ b. b ≢ c) (48 + d) [] (s.no_digit d lt) (All-nil (λ b. b ≢ c)))
+    (λ m ds ge all. All-push (λ b. b ≢ c) ds (48 + m % 10) all (s.no_digit (m % 10) (omega arith)))
+    n (omega arith)
+
+-- ---- fields of an edit
+lacks_spot : (c : ℕ) (spot : Spot) → is_field_byte c ≡ false → Lacks c (spot_name spot)
+lacks_spot c Start none = lacks_word c (codes "start") none refl
+lacks_spot c End none = lacks_word c (codes "end") none refl
+lacks_spot c (Before pattern true) none = lacks_word c (codes "before-first") none refl
+lacks_spot c (Before pattern false) none = lacks_word c (codes "before-last") none refl
+lacks_spot c (After pattern true) none = lacks_word c (codes "after-first") none refl
+lacks_spot c (After pattern false) none = lacks_word c (codes "after-last") none refl
+
+all_escaped : (c : ℕ) (block : List (List ℕ)) → IsSeparator c → All (Lacks c) (map escaped block)
+all_escaped c [] s = All-nil (Lacks c)
+all_escaped c (line ∷ block) s = All-cons (Lacks c) (escaped line) (map escaped block) (lacks_escaped c line s) (all_escaped c block s)
+
+all_two : (c : ℕ) (x y : List ℕ) → Lacks c x → Lacks c y → All (Lacks c) (x ∷ y ∷ [])
+all_two c x y h i = All-cons (Lacks c) x (y ∷ []) h (All-cons (Lacks c) y [] i (All-nil (Lacks c)))
+
+all_four : (c : ℕ) (w x y z : List ℕ) → Lacks c w → Lacks c x → Lacks c y → Lacks c z → All (Lacks c) (w ∷ x ∷ y ∷ z ∷ [])
+all_four c w x y z h i j k = All-cons (Lacks c) w (x ∷ y ∷ z ∷ []) h (All-cons (Lacks c) x (y ∷ z ∷ []) i (all_two c y z j k))
+
+-- no field of an edit has a separator, other than a plus sign
+fields_lack : (c : ℕ) (edit : Edit) → IsSeparator c → 43 ≢ c → IsEdit edit → All (Lacks c) (edit_fields edit)
+fields_lack c (Delete pattern) s ne is =
+    all_two c (codes "d") (escaped pattern.text) (lacks_word c (codes "d") s.none refl) (lacks_escaped c pattern.text s)
+fields_lack c (Field pattern separator number value) s ne is =
+    All-cons (Lacks c) (codes "f") (escaped pattern.text ∷ escaped (encode_utf8 separator) ∷ decimal number ∷ escaped value ∷ []) (lacks_word c (codes "f") s.none refl)
+    (all_four c (escaped pattern.text) (escaped (encode_utf8 separator)) (decimal number) (escaped value)
+    (lacks_escaped c pattern.text s) (lacks_escaped c (encode_utf8 separator) s) (lacks_decimal c number s is.2) (lacks_escaped c value s))
+fields_lack c (Insert block spot) s ne is =
+    all_four c (codes "i") (spot_name spot) (escaped (spot_pattern spot)) (block_text block)
+    (lacks_word c (codes "i") s.none refl) (lacks_spot c spot s.none) (lacks_escaped c (spot_pattern spot) s)
+    (lacks_joined c 43 (map escaped block) ne (all_escaped c block s))
+fields_lack c (Replace pattern value true) s ne is =
+    all_four c (codes "r") (codes "all") (escaped pattern.text) (escaped value)
+    (lacks_word c (codes "r") s.none refl) (lacks_word c (codes "all") s.none refl) (lacks_escaped c pattern.text s) (lacks_escaped c value s)
+fields_lack c (Replace pattern value false) s ne is =
+    all_four c (codes "r") (codes "first") (escaped pattern.text) (escaped value)
+    (lacks_word c (codes "r") s.none refl) (lacks_word c (codes "first") s.none refl) (lacks_escaped c pattern.text s) (lacks_escaped c value s)
+
+clash : (m n : ℕ) → nat_eq m n ≡ false → m ≡ n → ⊥
+clash m n differ e = grind (arith, nat_tests)
+
+-- tells the names of spots, and the kinds of edits, apart
+abbrev sign : List ℕ → ℕ
+sign word = 1000 * get_or word 0 0 + length word
+
+abbrev kind_sign : List (List ℕ) → ℕ
+kind_sign fields = get_or (get_or fields 0 []) 0 0
+
+pattern_is : (p q : PatternText) → p.text ≡ q.text → p.how ≡ q.how → p ≡ q
+pattern_is p q text how = ap₂ pattern_of how text
+
+spots_tell : (s t : Spot) → IsSpot s → IsSpot t → spot_name s ≡ spot_name t → spot_pattern s ≡ spot_pattern t → s ≡ t
+spots_tell Start Start is is' names patterns = refl
+spots_tell End End is is' names patterns = refl
+spots_tell (Before p true) (Before q true) is is' names patterns = let same = pattern_is p q patterns (is ∙ sym is') in cc
+spots_tell (Before p false) (Before q false) is is' names patterns = let same = pattern_is p q patterns (is ∙ sym is') in cc
+spots_tell (After p true) (After q true) is is' names patterns = let same = pattern_is p q patterns (is ∙ sym is') in cc
+spots_tell (After p false) (After q false) is is' names patterns = let same = pattern_is p q patterns (is ∙ sym is') in cc
+spots_tell Start End is is' names patterns = absurd (clash (sign (spot_name Start)) (sign (spot_name End)) refl (ap sign names))
+spots_tell Start (Before q true) is is' names patterns = absurd (clash (sign (spot_name Start)) (sign (spot_name (Before q true))) refl (ap sign names))
+spots_tell Start (Before q false) is is' names patterns = absurd (clash (sign (spot_name Start)) (sign (spot_name (Before q false))) refl (ap sign names))
+spots_tell Start (After q true) is is' names patterns = absurd (clash (sign (spot_name Start)) (sign (spot_name (After q true))) refl (ap sign names))
+spots_tell Start (After q false) is is' names patterns = absurd (clash (sign (spot_name Start)) (sign (spot_name (After q false))) refl (ap sign names))
+spots_tell End Start is is' names patterns = absurd (clash (sign (spot_name End)) (sign (spot_name Start)) refl (ap sign names))
+spots_tell End (Before q true) is is' names patterns = absurd (clash (sign (spot_name End)) (sign (spot_name (Before q true))) refl (ap sign names))
+spots_tell End (Before q false) is is' names patterns = absurd (clash (sign (spot_name End)) (sign (spot_name (Before q false))) refl (ap sign names))
+spots_tell End (After q true) is is' names patterns = absurd (clash (sign (spot_name End)) (sign (spot_name (After q true))) refl (ap sign names))
+spots_tell End (After q false) is is' names patterns = absurd (clash (sign (spot_name End)) (sign (spot_name (After q false))) refl (ap sign names))
+spots_tell (Before p true) Start is is' names patterns = absurd (clash (sign (spot_name (Before p true))) (sign (spot_name Start)) refl (ap sign names))
+spots_tell (Before p true) End is is' names patterns = absurd (clash (sign (spot_name (Before p true))) (sign (spot_name End)) refl (ap sign names))
+spots_tell (Before p true) (Before q false) is is' names patterns = absurd (clash (sign (spot_name (Before p true))) (sign (spot_name (Before q false))) refl (ap sign names))
+spots_tell (Before p true) (After q true) is is' names patterns = absurd (clash (sign (spot_name (Before p true))) (sign (spot_name (After q true))) refl (ap sign names))
+spots_tell (Before p true) (After q false) is is' names patterns = absurd (clash (sign (spot_name (Before p true))) (sign (spot_name (After q false))) refl (ap sign names))
+spots_tell (Before p false) Start is is' names patterns = absurd (clash (sign (spot_name (Before p false))) (sign (spot_name Start)) refl (ap sign names))
+spots_tell (Before p false) End is is' names patterns = absurd (clash (sign (spot_name (Before p false))) (sign (spot_name End)) refl (ap sign names))
+spots_tell (Before p false) (Before q true) is is' names patterns = absurd (clash (sign (spot_name (Before p false))) (sign (spot_name (Before q true))) refl (ap sign names))
+spots_tell (Before p false) (After q true) is is' names patterns = absurd (clash (sign (spot_name (Before p false))) (sign (spot_name (After q true))) refl (ap sign names))
+spots_tell (Before p false) (After q false) is is' names patterns = absurd (clash (sign (spot_name (Before p false))) (sign (spot_name (After q false))) refl (ap sign names))
+spots_tell (After p true) Start is is' names patterns = absurd (clash (sign (spot_name (After p true))) (sign (spot_name Start)) refl (ap sign names))
+spots_tell (After p true) End is is' names patterns = absurd (clash (sign (spot_name (After p true))) (sign (spot_name End)) refl (ap sign names))
+spots_tell (After p true) (Before q true) is is' names patterns = absurd (clash (sign (spot_name (After p true))) (sign (spot_name (Before q true))) refl (ap sign names))
+spots_tell (After p true) (Before q false) is is' names patterns = absurd (clash (sign (spot_name (After p true))) (sign (spot_name (Before q false))) refl (ap sign names))
+spots_tell (After p true) (After q false) is is' names patterns = absurd (clash (sign (spot_name (After p true))) (sign (spot_name (After q false))) refl (ap sign names))
+spots_tell (After p false) Start is is' names patterns = absurd (clash (sign (spot_name (After p false))) (sign (spot_name Start)) refl (ap sign names))
+spots_tell (After p false) End is is' names patterns = absurd (clash (sign (spot_name (After p false))) (sign (spot_name End)) refl (ap sign names))
+spots_tell (After p false) (Before q true) is is' names patterns = absurd (clash (sign (spot_name (After p false))) (sign (spot_name (Before q true))) refl (ap sign names))
+spots_tell (After p false) (Before q false) is is' names patterns = absurd (clash (sign (spot_name (After p false))) (sign (spot_name (Before q false))) refl (ap sign names))
+spots_tell (After p false) (After q true) is is' names patterns = absurd (clash (sign (spot_name (After p false))) (sign (spot_name (After q true))) refl (ap sign names))
+
+blocks_tell : (block other : List (List ℕ)) → map escaped block ≡ map escaped other → block ≡ other
+blocks_tell [] [] e = refl
+blocks_tell [] (y ∷ ys) e = absurd cc
+blocks_tell (x ∷ xs) [] e = absurd cc
+blocks_tell (x ∷ xs) (y ∷ ys) e =
+    let heads : escaped x ≡ escaped y = cc in
+    let tails : map escaped xs ≡ map escaped ys = cc in
+    ap₂ (λ z zs. z ∷ zs) (fields_tell_texts x y heads) (blocks_tell xs ys tails)
+
+plus : IsSeparator 43
+plus = record { low = omega arith; none = refl; no_digit = λ d lt. λ e. omega arith }
+
+block_texts_tell : (block other : List (List ℕ)) → 0 < length block → 0 < length other → block_text block ≡ block_text other → block ≡ other
+block_texts_tell [] other is is' e = absurd (omega arith)
+block_texts_tell (x ∷ xs) [] is is' e = absurd (omega arith)
+block_texts_tell (x ∷ xs) (y ∷ ys) is is' e =
+    blocks_tell (x ∷ xs) (y ∷ ys)
+    (joined_tells 43 (escaped x) (escaped y) (map escaped xs) (map escaped ys) (all_escaped 43 (x ∷ xs) plus) (all_escaped 43 (y ∷ ys) plus) e)
+
+decimals_tell : (m n : ℕ) → m ≤ 999 → n ≤ 999 → decimal m ≡ decimal n → m ≡ n
+decimals_tell m n h i e =
+    sym (decimal_is_IsNumeral m (omega arith)).1 ∙ ap (digits_value 10) e ∙ (decimal_is_IsNumeral n (omega arith)).1
+
+chars_tell : (c d : ℕ) → encode_utf8 c ≡ encode_utf8 d → c ≡ d
+chars_tell c d e = (encode_same c d [] [] (ap (λ bs. bs ++ []) e)).0
+
+fields_tell : (edit other : Edit) → IsEdit edit → IsEdit other → edit_fields edit ≡ edit_fields other → edit ≡ other
+fields_tell (Delete p) (Delete q) is is' e =
+    let text : escaped p.text ≡ escaped q.text = cc in
+    let same = pattern_is p q (fields_tell_texts p.text q.text text) (is ∙ sym is') in cc
+fields_tell (Field p c m v) (Field q d n w) is is' e =
+    let text : escaped p.text ≡ escaped q.text = cc in
+    let separator : escaped (encode_utf8 c) ≡ escaped (encode_utf8 d) = cc in
+    let number : decimal m ≡ decimal n = cc in
+    let value : escaped v ≡ escaped w = cc in
+    let patterns = pattern_is p q (fields_tell_texts p.text q.text text) (is.0 ∙ sym is'.0) in
+    let separators = chars_tell c d (fields_tell_texts (encode_utf8 c) (encode_utf8 d) separator) in
+    let numbers = decimals_tell m n is.2 is'.2 number in
+    let values = fields_tell_texts v w value in
+    cc
+fields_tell (Insert b s) (Insert d t) is is' e =
+    let name : spot_name s ≡ spot_name t = cc in
+    let text : escaped (spot_pattern s) ≡ escaped (spot_pattern t) = cc in
+    let block : block_text b ≡ block_text d = cc in
+    let spots = spots_tell s t is.0 is'.0 name (fields_tell_texts (spot_pattern s) (spot_pattern t) text) in
+    let blocks = block_texts_tell b d is.1 is'.1 block in
+    cc
+fields_tell (Replace p v true) (Replace q w true) is is' e =
+    let text : escaped p.text ≡ escaped q.text = cc in
+    let value : escaped v ≡ escaped w = cc in
+    let patterns = pattern_is p q (fields_tell_texts p.text q.text text) (is.0 ∙ sym is'.0) in
+    let values = fields_tell_texts v w value in
+    cc
+fields_tell (Replace p v false) (Replace q w false) is is' e =
+    let text : escaped p.text ≡ escaped q.text = cc in
+    let value : escaped v ≡ escaped w = cc in
+    let patterns = pattern_is p q (fields_tell_texts p.text q.text text) (is.0 ∙ sym is'.0) in
+    let values = fields_tell_texts v w value in
+    cc
+fields_tell (Replace p v true) (Replace q w false) is is' e = absurd (clash (length (codes "all")) (length (codes "first")) refl (ap (λ fields. length (get_or fields 1 [])) e))
+fields_tell (Replace p v false) (Replace q w true) is is' e = absurd (clash (length (codes "first")) (length (codes "all")) refl (ap (λ fields. length (get_or fields 1 [])) e))
+fields_tell edit other is is' e = absurd (clash (kind_sign (edit_fields edit)) (kind_sign (edit_fields other)) refl (ap kind_sign e))
+
+some_fields : (edit : Edit) → (first : List ℕ) × (more : List (List ℕ)) × (edit_fields edit ≡ first ∷ more)
+some_fields (Delete pattern) = (_, _, refl)
+some_fields (Field pattern separator number value) = (_, _, refl)
+some_fields (Insert block spot) = (_, _, refl)
+some_fields (Replace pattern value all) = (_, _, refl)
+
+colon : IsSeparator 58
+colon = record { low = omega arith; none = refl; no_digit = λ d lt. λ e. omega arith }
+
+comma : IsSeparator 44
+comma = record { low = omega arith; none = refl; no_digit = λ d lt. λ e. omega arith }
+
+edits_tell : (edit other : Edit) → IsEdit edit → IsEdit other → edit_text edit ≡ edit_text other → edit ≡ other
+edits_tell edit other is is' e =
+    let f = some_fields edit in
+    let g = some_fields other in
+    let all = rw f.2 at (fields_lack 58 edit colon (λ e. omega arith) is) in
+    let all' = rw g.2 at (fields_lack 58 other colon (λ e. omega arith) is') in
+    let joined : join_with_byte 58 (f.0 ∷ f.1) ≡ join_with_byte 58 (g.0 ∷ g.1) = ap (join_with_byte 58) (sym f.2) ∙ e ∙ ap (join_with_byte 58) g.2 in
+    fields_tell edit other is is' (f.2 ∙ joined_tells 58 f.0 g.0 f.1 g.1 all all' joined ∙ sym g.2)
+
+edit_lacks : (edit : Edit) → IsEdit edit → Lacks 44 (edit_text edit)
+edit_lacks edit is = lacks_joined 44 58 (edit_fields edit) (λ e. omega arith) (fields_lack 44 edit comma (λ e. omega arith) is)
+
+edits_lack : (edits : List Edit) → All IsEdit edits → All (Lacks 44) (map edit_text edits)
+edits_lack [] all = All-nil (Lacks 44)
+edits_lack (edit ∷ edits) all =
+    All-cons (Lacks 44) (edit_text edit) (map edit_text edits) (edit_lacks edit (All-head IsEdit edit edits all)) (edits_lack edits (All-tail IsEdit edit edits all))
+
+all_edits_tell : (edits others : List Edit) → All IsEdit edits → All IsEdit others → map edit_text edits ≡ map edit_text others → edits ≡ others
+all_edits_tell [] [] all all' e = refl
+all_edits_tell [] (f ∷ fs) all all' e = absurd cc
+all_edits_tell (f ∷ fs) [] all all' e = absurd cc
+all_edits_tell (f ∷ fs) (g ∷ gs) all all' e =
+    let heads : edit_text f ≡ edit_text g = cc in
+    let tails : map edit_text fs ≡ map edit_text gs = cc in
+    ap₂ (λ x xs. x ∷ xs) (edits_tell f g (All-head IsEdit f fs all) (All-head IsEdit g gs all') heads)
+    (all_edits_tell fs gs (All-tail IsEdit f fs all) (All-tail IsEdit g gs all') tails)
+
+-- the text of an edit isn't empty, nor is one that begins with it
+some_text : (edit : Edit) → (b : ℕ) × (bs : List ℕ) × (edit_text edit ≡ b ∷ bs)
+some_text (Delete pattern) = (_, _, refl)
+some_text (Field pattern separator number value) = (_, _, refl)
+some_text (Insert block spot) = (_, _, refl)
+some_text (Replace pattern value all) = (_, _, refl)
+
+not_empty : (edit : Edit) (texts : List (List ℕ)) → [] ≡ join_with_byte 44 (edit_text edit ∷ texts) → ⊥
+not_empty edit [] e = let t = some_text edit in let is = t.2 in cc
+not_empty edit (next ∷ texts) e = let t = some_text edit in let f : [] ≡ (t.0 ∷ t.1) ++ (44 ∷ join_with_byte 44 (next ∷ texts)) = e ∙ ap (λ x. x ++ (44 ∷ join_with_byte 44 (next ∷ texts))) t.2 in cc
+
+pub scripts_tell : TextsTellScripts
+unfolding script_text
+scripts_tell [] [] is is' e = refl
+scripts_tell [] (g ∷ gs) is is' e = absurd (not_empty g (map edit_text gs) e)
+scripts_tell (f ∷ fs) [] is is' e = absurd (not_empty f (map edit_text fs) (sym e))
+scripts_tell (f ∷ fs) (g ∷ gs) is is' e =
+    all_edits_tell (f ∷ fs) (g ∷ gs) is.each is'.each
+    (joined_tells 44 (edit_text f) (edit_text g) (map edit_text fs) (map edit_text gs) (edits_lack (f ∷ fs) is.each) (edits_lack (g ∷ gs) is'.each) e)

@@ -1,0 +1,21 @@
+use Rattle.std.proofs.Common.{rules, ◌≡◌, ℕ, ◌+◌, ◌-◌, ◌<◌, ◌≤◌, Bool, true, false, not, ◌&&◌, List, [], ◌∷◌, ◌++◌, length, map, take, drop, get_or, reverse, Option, Some, None, Ok, Err, refl, sym, ap, ◌∙◌, arith, Bor}
+use Rattle.std.specs.Prelude.{slice_get}
+use Rattle.std.proofs.lemmas.List.{take_more, map-append, take-append-drop, length-map, length-take-le}
+use Rattle.std.proofs.lemmas.Option.{slice_get-get_or}
+use Rattle.cfa_edits.specs.Edits.{Lines, is_among, lacking, spot_in, inserted, put_at}
+use Rattle.cfa_edits.specs.Steps.{lines_lent, has_line, HasLacking}
+use Rattle.cfa_edits.proofs.DeckSteps.{Turn, turn, End, end}
+use Rattle.cfa_edits.proofs.InsertSteps.{has_updated, distinct_more, take_out_more, lacking_more, lacking_gets, lacking_skips, among_itself, gathers, passes_over, seen_more, put_more, inserted_some}
+use Rattle.cfa_edits.proofs.inserting.distinct.Goals as goal
+
+pub loop-line-preserved : goal.loop-line-preserved
+loop-line-preserved c =
+    let block = c.as_slice-line-items.result.now in
+    let name = c.as_str.result.now in
+    let i = c.loop-line.line-index in
+    let here : Some name ≡ slice_get block i =
+    ap Some (c.as_str.ensures ∙ c.line-item.is) ∙ sym (slice_get-get_or block i c.line-item.result c.loop-line-test.true) in
+    let t = turn block i name here in
+    let updated = has_updated name c.loop-line.lines c.insert.new.self true c.in_ok-_is_new.ensures.updates in
+    λ other. distinct_more (has_line c.loop-line.lines) (has_line c.insert.new.self) (take i block) name c.loop-line.invariant updated other
+    ∙ ap (λ lines. is_among lines other) (sym t.before)

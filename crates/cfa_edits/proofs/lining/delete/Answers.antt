@@ -1,0 +1,44 @@
+use Rattle.std.proofs.Common.{rules, ◌≡◌, ℕ, ◌+◌, ◌-◌, ◌<◌, ◌≤◌, Bool, true, false, not, ◌&&◌, List, [], ◌∷◌, ◌++◌, length, map, take, drop, get_or, reverse, Option, Some, None, Ok, Err, refl, sym, ap, ◌∙◌, arith}
+use Rattle.std.specs.Prelude.{◌==◌, if◌then◌else◌}
+use Rattle.std.specs.List.{count_by}
+use Rattle.std.specs.Str.{chars}
+use Rattle.cfa_base.specs.Patterns.{PatternText, matches_in, replaced}
+use Rattle.cfa_lines.specs.Decks.{PlacedLines, lines_at}
+use Rattle.cfa_edits.specs.Edits.{Lines, field_edited, each_becomes, is_among, lacking, with_field}
+use Rattle.cfa_edits.specs.Steps.{lines_lent, has_line}
+use Rattle.cfa_edits.proofs.DeckSteps.{Turn, turn, End, end, removed_before, removed_rest, removed_length, exchanged_length, inserted_length, delete_keeps, delete_takes, map_steps, fields_keep, fields_step, fields_refuse, first_more, first_here, last_more, last_here, found_before}
+use Rattle.std.proofs.lemmas.List.{append-nil}
+use Rattle.cfa_edits.proofs.lining.delete.Goals as goal
+
+pub loop-line-preserved-then-matches : goal.loop-line-preserved-then-matches
+loop-line-preserved-then-matches c =
+    let t = turn c.loop-line.deck.lines c.loop-line.deck.place c.in-Some.line.now c.in-Some.ensures.line in
+    rw c.remove.ensures (
+      c.matches.ensures.same ∙ c.loop-line.invariant.0,
+      removed_length c.loop-line.deck.lines c.loop-line.deck.place c.in-Some.line.now t,
+      delete_takes c.args.pattern.now c.loop-line.deck.lines _ c.loop-line.deck.place c.in-Some.line.now t (ap (λ (m : PatternText). matches_in m c.in-Some.line.now) (sym c.loop-line.invariant.0) ∙ sym c.if-matches.ensures.found) c.loop-line.invariant.2,
+    )
+
+pub step-requires : goal.step-requires
+step-requires c =
+    let t = turn c.loop-line.deck.lines c.loop-line.deck.place c.in-Some.line.now c.in-Some.ensures.line in
+    t.within
+
+pub loop-line-smaller : goal.loop-line-smaller
+loop-line-smaller c =
+    let t = turn c.loop-line.deck.lines c.loop-line.deck.place c.in-Some.line.now c.in-Some.ensures.line in
+    rw c.step.ensures (omega (arith, t.within))
+
+pub loop-line-preserved : goal.loop-line-preserved
+loop-line-preserved c =
+    let t = turn c.loop-line.deck.lines c.loop-line.deck.place c.in-Some.line.now c.in-Some.ensures.line in
+    rw c.step.ensures (
+      c.matches.ensures.same ∙ c.loop-line.invariant.0,
+      omega (arith, t.within),
+      delete_keeps c.args.pattern.now c.loop-line.deck.lines _ c.loop-line.deck.place c.in-Some.line.now t (ap (λ (m : PatternText). matches_in m c.in-Some.line.now) (sym c.loop-line.invariant.0) ∙ sym c.if-matches.ensures.found) c.loop-line.invariant.2,
+    )
+
+pub returns-clause-ok : goal.returns-clause-ok
+returns-clause-ok c =
+    let e = end c.loop-line.deck.lines c.loop-line.deck.place c.in_default.ensures.line in
+    sym e.before ∙ sym (append-nil _) ∙ (rw e.rest at c.loop-line.invariant.2)

@@ -1,0 +1,12 @@
+//! Edits of the lines of a text: scripts of edits, the lines that they leave, and whether they leave lines as they are.
+#![tactic(auto)]
+
+mod edits;
+mod fields;
+mod inserting;
+mod lining;
+mod scripts;
+mod writing;
+
+pub use edits::{Edit, EditErr, Edits, Spot};
+pub use scripts::Script;

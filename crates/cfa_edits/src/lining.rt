@@ -1,0 +1,109 @@
+// Edits line by line: deletes, replaces and field edits, over a deck.
+ghost use Rattle.std.specs.Prelude.{◌≡◌, ℕ, ◌≤◌, List, map, length, Ok, Err, IfOk, IfErr, OnOk};
+ghost use Rattle.cfa_base.specs.Patterns.{replaced};
+ghost use Rattle.cfa_lines.specs.Decks.{lines_at};
+ghost use Rattle.cfa_edits.specs.Edits.{unmatched, field_edited, each_becomes, or_field_count};
+ghost use Rattle.cfa_edits.specs.Answers.{IsRefusalOf};
+
+use crate::EditErr;
+use crate::fields::with_field;
+use cfa_base::{Name, Names, Pattern};
+use cfa_lines::Deck;
+use std::alloc::Global;
+
+/// A deck of the lines, at the end.
+pub fn deck_of(alloc: Global, lines: &Names) -> Result<Deck, EditErr>
+    ensures ok { IfOk result (λ deck. deck ≡ lines_at lines.now (length lines.now)) }
+    ensures memory { IfErr result (λ error. error ≡ EditErr.NoMemory) }
+{
+    let mut deck = Deck::from_text(alloc, "")?;
+    for line in lines.as_slice() {
+        deck.insert(line.as_str())?;
+    }
+    Ok(deck)
+}
+
+/// The lines of a deck.
+pub fn lines_of(alloc: Global, deck: &mut Deck) -> Result<Names, EditErr>
+    ensures ok { IfOk result (λ lines. lines ≡ deck.old.lines) }
+    ensures memory { IfErr result (λ error. error ≡ EditErr.NoMemory) }
+{
+    let mut lines = Names::new(alloc);
+    deck.rewind();
+    while let Some(line) = deck.at() {
+        lines.push(Name::from_text(alloc, line)?)?;
+        deck.step();
+    }
+    Ok(lines)
+}
+
+/// Takes out each line that the pattern matches.
+pub fn delete(alloc: Global, deck: &mut Deck, pattern: &Pattern) -> Result<(), EditErr>
+    ensures ok { OnOk result (deck.new.lines ≡ unmatched pattern.now deck.old.lines) }
+    ensures memory { IfErr result (λ error. error ≡ EditErr.NoMemory) }
+{
+    let mut matcher = pattern.matcher(alloc)?;
+    deck.rewind();
+    while let Some(line) = deck.at() {
+        if matcher.matches(line) {
+            deck.remove();
+        } else {
+            deck.step();
+        }
+    }
+    Ok(())
+}
+
+/// Writes the value in the place of what the pattern finds in each line.
+pub fn replace(
+    alloc: Global,
+    deck: &mut Deck,
+    pattern: &Pattern,
+    value: &Name,
+    all: bool,
+) -> Result<(), EditErr>
+    ensures ok { OnOk result (deck.new.lines
+        ≡ map (λ line. replaced pattern.now line value.now all) deck.old.lines) }
+    ensures memory { IfErr result (λ error. error ≡ EditErr.NoMemory) }
+{
+    let mut matcher = pattern.matcher(alloc)?;
+    deck.rewind();
+    while let Some(line) = deck.at() {
+        let changed = matcher.replace(alloc, line, value, all)?;
+        deck.insert(changed.as_str())?;
+        deck.remove();
+    }
+    Ok(())
+}
+
+/// Gives a field of each matched line a value.
+pub fn edit_fields(
+    alloc: Global,
+    deck: &mut Deck,
+    pattern: &Pattern,
+    separator: char,
+    number: u16,
+    value: &Name,
+) -> Result<(), EditErr>
+    requires { 1 ≤ number }
+    ensures ok { OnOk result (or_field_count (each_becomes
+        (λ line. field_edited pattern.now separator number value.now line) deck.old.lines)
+        ≡ Ok deck.new.lines) }
+    ensures refused { IfErr result (IsRefusalOf (or_field_count (each_becomes
+        (λ line. field_edited pattern.now separator number value.now line) deck.old.lines))) }
+{
+    let mut matcher = pattern.matcher(alloc)?;
+    deck.rewind();
+    while let Some(line) = deck.at() {
+        if !matcher.matches(line) {
+            deck.step();
+            continue;
+        }
+        let Some(changed) = with_field(alloc, line, separator, number, value)? else {
+            return Err(EditErr::FieldCount);
+        };
+        deck.insert(changed.as_str())?;
+        deck.remove();
+    }
+    Ok(())
+}

@@ -1,0 +1,136 @@
+// Scripts.
+ghost use Rattle.std.specs.Prelude.{◌≡◌, ◌↔◌, ◌≤◌, Ok, IsTrue, IfOk, IfErr, OnOk};
+ghost use Rattle.cfa_edits.specs.Edits.{edited, edited_by};
+ghost use Rattle.cfa_edits.specs.Scripts.{AreEdits, IsEdit, script_text};
+ghost use Rattle.cfa_edits.specs.Answers.{IsRefusalOf};
+ghost use Rattle.cfa_edits.specs.Laws.{TextsTellScripts};
+
+use crate::inserting::insert;
+use crate::lining::{deck_of, delete, edit_fields, lines_of, replace};
+use crate::writing::write_edits;
+use crate::{Edit, EditErr, Edits};
+use cfa_base::{Name, Names, NoMemory};
+use cfa_lines::Deck;
+use std::alloc::Global;
+use std::marker::Model;
+
+/// Edits of the lines of a text, deletes first, then field edits, inserts and replaces, with their text. Contracts see the
+/// edits.
+#[derive(Drop)]
+pub struct Script {
+    edits: Edits,
+    text: Name,
+}
+
+impl Model for Script {
+    ghost use Rattle.std.specs.Prelude.{◌≡◌, List};
+    ghost use Rattle.cfa_edits.specs.declared.edits.Edit.{Edit};
+    ghost use Rattle.cfa_edits.specs.Scripts.{AreEdits, script_text};
+
+    ghost Value = { List Edit };
+
+    ghost view = { λ s. s.edits };
+
+    ghost invariant = { λ s. AreEdits s.edits × (s.text ≡ script_text s.edits) };
+}
+
+impl Script {
+    /// The script of these edits.
+    pub fn new(alloc: Global, edits: Edits) -> Result<Script, NoMemory>
+        requires { AreEdits edits }
+        ensures { IfOk result (λ script. script ≡ edits) }
+    {
+        let mut text = String::new(alloc);
+        write_edits(alloc, &mut text, edits.as_slice())?;
+        Ok(Script {
+            edits,
+            text: Name::from_string(text),
+        })
+    }
+
+    /// The edits, without taking memory.
+    pub fn edits(&self) -> &[Edit]
+        ensures edits { result.now ≡ self.now }
+        ensures facts { AreEdits self.now }
+    {
+        self.edits.as_slice()
+    }
+
+    /// The text of the edits, without taking memory.
+    pub fn text(&self) -> &Name
+        ensures { result.now ≡ script_text self.now }
+    {
+        &self.text
+    }
+
+    /// The lines after the edits in their order, or the first refusal.
+    pub fn apply(&self, alloc: Global, lines: &Names) -> Result<Names, EditErr>
+        ensures lines { IfOk result (λ left. edited self.now lines.now ≡ Ok left) }
+        ensures refused { IfErr result (IsRefusalOf (edited self.now lines.now)) }
+    {
+        let mut deck = deck_of(alloc, lines)?;
+        edit_deck(alloc, &mut deck, self.edits())?;
+        Ok(lines_of(alloc, &mut deck)?)
+    }
+
+    /// Whether the edits leave the lines as they are.
+    pub fn settled(&self, alloc: Global, lines: &Names) -> Result<bool, NoMemory>
+        ensures { IfOk result (λ yes. IsTrue yes ↔ (edited self.now lines.now ≡ Ok lines.now)) }
+    {
+        match self.apply(alloc, lines) {
+            Ok(left) => Ok(are_equal(&left, lines)),
+            Err(EditErr::NoAnchor) => Ok(false),
+            Err(EditErr::FieldCount) => Ok(false),
+            Err(EditErr::NoMemory) => Err(NoMemory),
+        }
+    }
+}
+
+/// The law that scripts with equal texts have equal edits.
+pub fn texts_tell_scripts()
+    ensures { TextsTellScripts }
+{}
+
+// Whether two lists have equal texts.
+fn are_equal(lines: &Names, others: &Names) -> bool
+    ensures { IsTrue result ↔ (lines.now ≡ others.now) }
+{
+    let left = lines.as_slice();
+    let right = others.as_slice();
+    if left.len() != right.len() {
+        return false;
+    }
+    for (i, line) in left.iter().enumerate() {
+        if line.as_str() != right[i].as_str() {
+            return false;
+        }
+    }
+    true
+}
+
+// Edits the lines of a deck, one edit after the other.
+fn edit_deck(alloc: Global, deck: &mut Deck, edits: &[Edit]) -> Result<(), EditErr>
+    requires { AreEdits edits.now }
+    ensures ok { OnOk result (edited edits.now deck.old.lines ≡ Ok deck.new.lines) }
+    ensures refused { IfErr result (IsRefusalOf (edited edits.now deck.old.lines)) }
+{
+    for edit in edits {
+        edit_once(alloc, deck, edit)?;
+    }
+    Ok(())
+}
+
+fn edit_once(alloc: Global, deck: &mut Deck, edit: &Edit) -> Result<(), EditErr>
+    requires { IsEdit edit.now }
+    ensures ok { OnOk result (edited_by edit.now deck.old.lines ≡ Ok deck.new.lines) }
+    ensures refused { IfErr result (IsRefusalOf (edited_by edit.now deck.old.lines)) }
+{
+    match edit {
+        Edit::Delete(pattern) => delete(alloc, deck, pattern),
+        Edit::Field(pattern, separator, number, value) => {
+            edit_fields(alloc, deck, pattern, *separator, *number, value)
+        }
+        Edit::Insert(block, spot) => insert(alloc, deck, block, spot),
+        Edit::Replace(pattern, value, all) => replace(alloc, deck, pattern, value, *all),
+    }
+}

@@ -1,0 +1,12 @@
+//! The journal of a host: its records, written and read.
+#![tactic(auto)]
+
+mod fields;
+mod journals;
+mod laws;
+mod reading;
+mod records;
+
+pub use journals::{Journal, JournalErr, MOST_JOURNAL_BYTES, Records, read, write};
+pub use laws::one_journal;
+pub use records::Record;

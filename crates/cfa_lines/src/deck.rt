@@ -1,0 +1,143 @@
+// The deck: two stacks of lines, those before the place and those from it on.
+ghost use Rattle.std.specs.Prelude.{◌≡◌, ℕ, List, [], ◌∷◌, ◌++◌, ◌+◌, ◌<◌, ◌≤◌, ◌^◌, length, map, IfOk, OnOk, OnErr, option_copied, slice_get, remove, insert, string_bytes, vec_len, vec_capacity};
+ghost use Rattle.cfa_lines.specs.Decks.{lines_of, parts_of, lines_of_parts, text_of, lines_at};
+
+use crate::{Name, NoMemory};
+use std::alloc::Global;
+use std::marker::Model;
+
+/// The lines of a text and a place among them, from 0, at most one past the last. Each of the two stacks keeps room for
+/// every line, so moving the place takes no memory.
+#[derive(Debug, Drop)]
+pub struct Deck {
+    before: Vec<Name>,
+    after: Vec<Name>,
+}
+
+impl Model for Deck {
+    ghost use Rattle.std.specs.Prelude.{reverse, ◌++◌, ◌+◌, ◌≤◌, vec_len, vec_capacity};
+    ghost use Rattle.cfa_lines.specs.Decks.{PlacedLines};
+
+    ghost Value = { PlacedLines };
+
+    ghost view = { λ d. record {
+      lines = d.before.items ++ reverse d.after.items;
+      place = vec_len d.before;
+    } };
+
+    ghost invariant = { λ d.
+        (vec_len d.before + vec_len d.after ≤ vec_capacity d.before)
+        × (vec_len d.before + vec_len d.after ≤ vec_capacity d.after) };
+}
+
+impl Deck {
+    /// The lines of a text, at the first.
+    pub fn from_text(alloc: Global, text: &str) -> Result<Deck, NoMemory>
+        ensures { IfOk result (λ deck. deck ≡ lines_at (lines_of text.now) 0) }
+    {
+        let mut after = lines(alloc, text)?;
+        after.reverse();
+        let before = Vec::with_capacity(alloc, after.len())?;
+        Ok(Deck { before, after })
+    }
+
+    /// The text of the lines.
+    pub fn to_text(&self, alloc: Global) -> Result<Name, NoMemory>
+        ensures { IfOk result (λ text. text ≡ text_of self.now.lines) }
+    {
+        let mut text = String::new(alloc);
+        for line in &self.before {
+            text.push_str(line.as_str())?;
+            text.push_str("\n")?;
+        }
+        for line in self.after.iter().rev() {
+            text.push_str(line.as_str())?;
+            text.push_str("\n")?;
+        }
+        Ok(Name::from_string(text))
+    }
+
+    /// The line at the place, without taking memory. `None` at the end.
+    pub fn at(&self) -> Option<&str>
+        ensures line { option_copied result ≡ slice_get self.now.lines self.now.place }
+        ensures within { self.now.place ≤ length self.now.lines }
+        ensures small { length self.now.lines < 2 ^ 64 }
+    {
+        match self.after.last() {
+            Some(line) => Some(line.as_str()),
+            None => None,
+        }
+    }
+
+    /// Goes one line on, without taking memory.
+    pub fn step(&mut self)
+        requires { self.old.place < length self.old.lines }
+        ensures { self.new ≡ lines_at self.old.lines (self.old.place + 1) }
+    {
+        let line = self.after.pop().unwrap();
+        self.before.push(line).unwrap();
+    }
+
+    /// Goes back to the first line, without taking memory.
+    pub fn rewind(&mut self)
+        ensures { self.new ≡ lines_at self.old.lines 0 }
+    {
+        while let Some(line) = self.before.pop() {
+            self.after.push(line).unwrap();
+        }
+    }
+
+    /// Takes the line at the place out, without taking memory. The place is then that of the next line.
+    pub fn remove(&mut self)
+        requires { self.old.place < length self.old.lines }
+        ensures { self.new ≡ lines_at (remove self.old.lines self.old.place) self.old.place }
+    {
+        let _line = self.after.pop().unwrap();
+    }
+
+    /// Puts a line in before the place, which goes one further. After want of memory the deck is as it was.
+    pub fn insert(&mut self, line: &str) -> Result<(), NoMemory>
+        ensures ok { OnOk result (self.new
+            ≡ lines_at (insert self.old.lines self.old.place line.now) (self.old.place + 1)) }
+        ensures err { OnErr result (self.new ≡ self.old) }
+    {
+        let alloc = *self.before.allocator();
+        let added = Name::from_text(alloc, line)?;
+        self.before.reserve(self.after.len() + 1)?;
+        self.after.reserve(self.before.len() + 1)?;
+        self.before.push(added).unwrap();
+        Ok(())
+    }
+}
+
+// The lines of a text, in order.
+fn lines(alloc: Global, text: &str) -> Result<Vec<Name>, NoMemory>
+    ensures { IfOk result (λ lines. lines.items ≡ lines_of text.now) }
+{
+    let mut lines = copies(alloc, &parts(alloc, text)?)?;
+    let Some(last) = lines.pop() else {
+        return Ok(lines);
+    };
+    if !last.as_str().is_empty() {
+        lines.push(last)?;
+    }
+    Ok(lines)
+}
+
+// The parts of a text between newlines.
+fn parts(alloc: Global, text: &str) -> Result<Vec<&str>, NoMemory>
+    ensures { IfOk result (λ parts. map (λ part. part.now) parts.items ≡ parts_of text.now) }
+{
+    Ok(text.split('\n').collect(alloc)?)
+}
+
+// A copy of each part.
+fn copies(alloc: Global, parts: &[&str]) -> Result<Vec<Name>, NoMemory>
+    ensures { IfOk result (λ copies. copies.items ≡ map (λ part. part.now) parts.now) }
+{
+    let mut copies = Vec::with_capacity(alloc, parts.len())?;
+    for part in parts {
+        copies.push(Name::from_text(alloc, part)?)?;
+    }
+    Ok(copies)
+}

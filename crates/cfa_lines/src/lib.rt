@@ -1,0 +1,8 @@
+//! A deck of lines: the lines of a text and a place among them, where lines are looked at, taken out and put in.
+#![tactic(auto)]
+
+mod deck;
+mod texts;
+
+pub use deck::Deck;
+pub use texts::{Name, NoMemory};

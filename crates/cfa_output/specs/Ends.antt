@@ -1,0 +1,15 @@
+-- What holds of what ends a call before its work is done: of the line of a refusal, and of a stop.
+use Rattle.std.specs.Prelude.{ℕ, List, ⊤}
+use Rattle.cfa_output.specs.declared.ends.Stop.{Stop}
+use Rattle.cfa_output.specs.declared.ends.Failure.{Failure}
+use Rattle.cfa_output.specs.declared.ends.Failure.TheVariants.{Refused, Stopped}
+
+-- of the line of a refusal
+abbrev pub IfRefused : Failure → (List ℕ → Type 0) → Type 0
+IfRefused (Refused line) P = P line
+IfRefused (Stopped stop) P = ⊤
+
+-- of a stop
+abbrev pub IfStopped : Failure → (Stop → Type 0) → Type 0
+IfStopped (Refused line) P = ⊤
+IfStopped (Stopped stop) P = P stop

@@ -1,0 +1,12 @@
+//! What a call of the program puts: its lines, and how they are put; and what stops a call before its end.
+#![tactic(auto)]
+
+mod ends;
+mod items;
+mod lines;
+mod puts;
+
+pub use ends::{Failure, Object, Stop};
+pub use items::Item;
+pub use lines::line;
+pub use puts::{SinkFailed, put_all};

@@ -1,0 +1,118 @@
+-- How a call may end, as its clauses say it: by which status, with which line as all that was put, and what was read.
+use Rattle.std.specs.Prelude.{ℕ, ◌≡◌, ◌<◌, ◌≤◌, List, Option, Some, None, ⊤, ◌⊎◌, IfSome}
+use Rattle.cfa_base.specs.declared.limits.TheConstants.{LAST_MOMENT}
+use Rattle.cfa_base.specs.Shown.{Shown, Follows, Untouched, HasFailed, IsLeft}
+use Rattle.cfa_base.specs.Patterns.{refuses}
+use Rattle.cfa_words.specs.declared.words.Request.{Request}
+use Rattle.cfa_words.specs.declared.words.Request.TheVariants.{Run, Show, Check}
+use Rattle.cfa_words.specs.Words.{asked}
+use Rattle.cfa_outside.specs.Inputs.{Library}
+use Rattle.cfa_outside.specs.Sinks.{adds_bytes}
+use Rattle.cfa_outside.specs.Sites.{Told}
+use Rattle.cfa_output.specs.Lines.{words_line, moment_line, outside_line}
+use Rattle.cfa_sources.specs.Sources.{Texts, IsNamed, IsNextFile}
+use Rattle.cfa_sources.specs.Checks.{RefusesSize}
+use Rattle.cfa_sources.specs.Readings.{FailsNext}
+use Rattle.cfa_program.specs.Calls.{RefusesPolicy}
+use Rattle.cfa_program.specs.Done.{HasFault}
+
+-- ---- statuses
+
+-- the call wasn't stopped: its work was done, it was refused, or a promise failed
+abbrev pub IsEnd : (status : ℕ) → Type 0
+IsEnd status = (status ≡ 0) ⊎ ((status ≡ 1) ⊎ (status ≡ 2))
+
+-- the call was stopped: by an object of the outside, by want of memory, or by a pattern that is too big
+abbrev pub IsStop : (status : ℕ) → Type 0
+IsStop status = (status ≡ 4) ⊎ ((status ≡ 5) ⊎ (status ≡ 6))
+
+-- the status of a refusal, unless its line can't be put or memory ends
+abbrev pub IsRefusal : (status : ℕ) → Type 0
+IsRefusal status = (status ≡ 1) ⊎ ((status ≡ 4) ⊎ (status ≡ 5))
+
+-- ---- what the words ask for
+
+-- the words ask for a request of which this holds
+abbrev pub Asks : (Holds : Request → Type 0) → (words : List (List ℕ)) → Type 0
+Asks Holds words = (request : Request) × (asked words ≡ Some request) × Holds request
+
+abbrev pub IsRun : Request → Type 0
+IsRun (Run policy options) = ⊤
+IsRun (Show policy) = ⊥
+IsRun (Check policy classes) = ⊥
+
+abbrev pub AsksRun : (words : List (List ℕ)) → Type 0
+AsksRun words = Asks IsRun words
+
+-- the words ask for something else than a run, or are refused
+abbrev pub AsksNoRun : (words : List (List ℕ)) → Type 0
+AsksNoRun words = ¬ AsksRun words
+
+-- the words ask for something that a policy of these texts is refused for
+abbrev pub AsksRefused : (words : List (List ℕ)) → Texts → Type 0
+AsksRefused words texts = Asks (λ request. (line : List ℕ) × RefusesPolicy texts request line) words
+
+-- the status is that of a refusal or of a pattern that is too big
+abbrev pub IsNotDone : (status : ℕ) → Type 0
+IsNotDone status = IsRefusal status ⊎ (status ≡ 6)
+
+-- ---- refusals
+
+-- a call is refused with this line, as far as the inputs tell their texts
+pub data RefusesCall (words : List (List ℕ)) (moment : ℕ) (told : Option Library) : (line : List ℕ) → Type 0 where
+  of_words : asked words ≡ None → RefusesCall words moment told words_line
+  of_moment : {request : Request} → asked words ≡ Some request → LAST_MOMENT < moment →
+      RefusesCall words moment told moment_line
+  of_policy : {request : Request} {line : List ℕ} → asked words ≡ Some request → moment ≤ LAST_MOMENT →
+      IfSome told (λ library. RefusesPolicy library.texts request line) → RefusesCall words moment told line
+
+-- the line of a refusal was put
+abbrev pub PutsRefusal :
+    (words : List (List ℕ)) → (moment : ℕ) → (told : Option Library) → (out out' : Shown (List ℕ)) → Type 0
+PutsRefusal words moment told out out' =
+    (line : List ℕ) × RefusesCall words moment told line × Follows (adds_bytes line) out out'
+
+-- a call was refused with this line before anything was read, unless its line can't be put or memory ends
+pub record IsUnread (line : List ℕ) (inputs inputs' : Shown Library) (out out' : Shown (List ℕ)) (status : ℕ) : Type 0 where
+  pub is_refusal : IsRefusal status
+  pub put : status ≡ 1 → Follows (adds_bytes line) out out'
+  pub unread : Untouched inputs inputs'
+
+-- ---- what is read
+
+-- a run and a show read their policy's file, a check reads the inputs too that it names
+abbrev pub IsNextOf : Request → Texts → (name : List ℕ) → Type 0
+IsNextOf (Run policy options) texts name = IsNamed policy texts name
+IsNextOf (Show policy) texts name = IsNamed policy texts name
+IsNextOf (Check policy classes) texts name = IsNextFile policy texts name
+
+-- the name is the next that is read for what the words ask for
+abbrev pub AsksNext : (words : List (List ℕ)) → Texts → (name : List ℕ) → Type 0
+AsksNext words texts name = Asks (λ request. IsNextOf request texts name) words
+
+-- no reading failed but that of the name that is read next; after want of memory the count of faults is left open
+abbrev pub ReadsInTurn : (words : List (List ℕ)) → (inputs inputs' : Shown Library) → Type 0
+ReadsInTurn words inputs inputs' =
+    Untouched inputs inputs' ⊎ (IsLeft inputs inputs' ⊎ FailsNext (AsksNext words) inputs inputs')
+
+-- the reading of the next name failed, and its stop is all that was done
+pub record StopsReading (words : List (List ℕ)) (inputs inputs' : Shown Library) (site site' : Shown Told) (out out' : Shown (List ℕ)) : Type 0 where
+  pub failed : FailsNext (AsksNext words) inputs inputs'
+  pub untouched : Untouched site site'
+  pub put : Follows (adds_bytes outside_line) out out'
+
+-- a check builds the texts of the patterns of its policy, where nothing else is refused
+abbrev pub BuildsOf : Request → (told : Option Library) → (text : List ℕ) → Type 0
+BuildsOf (Run policy options) told text = ⊥
+BuildsOf (Show policy) told text = ⊥
+BuildsOf (Check policy classes) told text = IfSome told (λ library. RefusesSize library.texts policy text)
+
+-- the text is built for what the words ask for
+abbrev pub AsksBuilt : (words : List (List ℕ)) → (told : Option Library) → (text : List ℕ) → Type 0
+AsksBuilt words told text = Asks (λ request. BuildsOf request told text) words
+
+-- a text of the patterns of the policy that is checked was refused for its size in this call
+pub record RefusesText (words : List (List ℕ)) (told : Option Library) (pats pats' : Shown (List (List ℕ))) : Type 0 where
+  pub text : List ℕ
+  pub builds : AsksBuilt words told text
+  pub refused : HasFailed (refuses text) pats pats'

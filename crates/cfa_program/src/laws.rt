@@ -1,0 +1,20 @@
+// Laws over the definitions of a call.
+ghost use Rattle.cfa_program.specs.Calls.{DoesOneThing, TakenIsNotRefused};
+
+use cfa_sources::{a_file_has_one_answer, a_policy_has_one_answer};
+
+/// A policy that is taken isn't refused.
+pub fn taken_policies_are_not_refused()
+    ensures { TakenIsNotRefused }
+{
+    a_file_has_one_answer();
+    a_policy_has_one_answer();
+}
+
+/// What a call does is one thing alone: by its words and moment, the texts of its inputs and the site's world.
+pub fn a_call_does_one_thing()
+    ensures { DoesOneThing }
+{
+    a_file_has_one_answer();
+    a_policy_has_one_answer();
+}

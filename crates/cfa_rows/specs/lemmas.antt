@@ -1,0 +1,4 @@
+-- Lemmas on these definitions that the proofs of the crates above cite. No contract names one.
+pub mod Cuts
+pub mod Numbers
+pub mod Rows

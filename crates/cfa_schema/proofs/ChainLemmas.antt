@@ -1,0 +1,158 @@
+-- A chain of calls of which none lies on a cycle has as many callers as calls.
+use Rattle.std.proofs.Common.{◌≡◌, ◌∙◌, ◌≤◌, ℕ, Bool, true, false, List, [], ◌∷◌, ◌++◌, length, map, Option, Some, None, inr, refl, ap, sym, subst}
+use Rattle.std.specs.Prelude.{if◌then◌else◌, codes, ⊤}
+use Rattle.std.specs.List.{Contains, IsDistinct, AllByRecursion, cons_option, flat_map, filter_map}
+use Rattle.std.specs.Cmp.{IsEquivalence}
+use Rattle.std.specs.Str.{bytes_eq}
+use Rattle.std.proofs.lemmas.Slice.Eq.{bytes_eq-Decides}
+use Rattle.std.proofs.lemmas.Map.Made.{is_member-Decides, length-le_from_is_member}
+use Rattle.std.proofs.lemmas.List.Elements.{All-contains, All-from_recursion, Contains-push, Contains-append_left, Contains-append_right}
+use Rattle.std.proofs.lemmas.List.{length-map}
+use Rattle.cfa_base.specs.declared.places.Place.{Place}
+use Rattle.cfa_tree.specs.Tree.{AttributeTree, SectionTree, NamedTree, bundle, body, PolicyTree}
+use Rattle.cfa_values.specs.Refusals.{refusal}
+use Rattle.cfa_values.specs.declared.refusals.Code.TheVariants.{CallCycle}
+use Rattle.cfa_values.specs.Values.{name_in}
+use Rattle.cfa_calls.specs.Cycles.{Call, Reaches, NoneOnCycle}
+use Rattle.cfa_calls.specs.Cycles.Reaches.{here, onward}
+use Rattle.cfa_schema.specs.Valid.{bundle_name, callee_named, called_by, call_in_attribute, calls_in_promise, calls_in_section, calls_in_block, calls_of}
+use Rattle.cfa_schema.specs.Laws.{IsChain, one_call, more_calls, ChainsAreShort}
+
+sym_by : (x y : List ℕ) (a b : Bool) → bytes_eq x y ≡ a → bytes_eq y x ≡ b → a ≡ b
+sym_by x y true true e f = refl
+sym_by x y true false e f = sym (sym f ∙ (bytes_eq-Decides y x).1 (sym ((bytes_eq-Decides x y).0 e)))
+sym_by x y false true e f = sym e ∙ (bytes_eq-Decides x y).1 (sym ((bytes_eq-Decides y x).0 f))
+sym_by x y false false e f = refl
+
+bytes_equiv : IsEquivalence bytes_eq
+bytes_equiv = record {
+  refl = λ x. (bytes_eq-Decides x x).1 refl;
+  symm = λ x y. sym_by x y (bytes_eq x y) (bytes_eq y x) refl refl;
+  congr = λ x y z e. ap (λ k. bytes_eq k z) ((bytes_eq-Decides x y).0 e);
+}
+
+caller_of : Call → List ℕ
+caller_of c = c.caller
+
+module _ (calls : List Call) where
+  joined : {a b c : List ℕ} → Reaches calls a b → Reaches calls b c → Reaches calls a c
+  joined here q = q
+  joined (onward call h p) q = onward call h (joined p q)
+
+  first_is_call : (c : Call) (rest : List Call) → IsChain calls (c ∷ rest) → Contains calls c
+  first_is_call c [] (one_call h) = h
+  first_is_call c (d ∷ rest) (more_calls h is more) = h
+
+  not_same_by : NoneOnCycle calls → (c d : Call) (b : Bool) → bytes_eq c.caller d.caller ≡ b → Contains calls c → Reaches calls c.callee d.caller → b ≡ false
+  not_same_by none c d false e h r = refl
+  not_same_by none c d true e h r =
+      absurd (none c h (subst (λ to. Reaches calls c.callee to) (sym ((bytes_eq-Decides c.caller d.caller).0 e)) r))
+
+  -- the callers behind a call are others than its own
+  apart : NoneOnCycle calls → (c : Call) → Contains calls c → (d : Call) (rest : List Call) → Reaches calls c.callee d.caller → IsChain calls (d ∷ rest) →
+      AllByRecursion (λ y. bytes_eq c.caller y ≡ false) (map caller_of (d ∷ rest))
+  unfolding caller_of
+  apart none c h d [] r chain = (not_same_by none c d (bytes_eq c.caller d.caller) refl h r, tt)
+  apart none c h d (e ∷ rest) r (more_calls g is more) = (
+    not_same_by none c d (bytes_eq c.caller d.caller) refl h r,
+    apart none c h e rest (joined r (subst (λ to. Reaches calls d.caller to) is (onward d g here))) more,
+  )
+
+  distinct : NoneOnCycle calls → (chain : List Call) → IsChain calls chain → IsDistinct bytes_eq (map caller_of chain)
+  unfolding caller_of IsDistinct
+  distinct none [] chain = tt
+  distinct none (c ∷ []) chain = (tt, tt)
+  distinct none (c ∷ d ∷ rest) (more_calls h is more) =
+      (apart none c h d rest (subst (λ to. Reaches calls c.callee to) is here) more, distinct none (d ∷ rest) more)
+
+  module _ (P : Call → Type 0) (each : (c : Call) → Contains calls c → P c) where
+    chain_each : (chain : List Call) → IsChain calls chain → AllByRecursion P chain
+    chain_each [] chain = tt
+    chain_each (c ∷ []) (one_call h) = (each c h, tt)
+    chain_each (c ∷ d ∷ rest) (more_calls h is more) = (each c h, chain_each (d ∷ rest) more)
+
+-- ---- the callers are bundles
+
+module _ {X : Type 0} (P : X → Type 0) where
+  both : (xs ys : List X) → AllByRecursion P xs → AllByRecursion P ys → AllByRecursion P (xs ++ ys)
+  both [] ys h g = g
+  both (x ∷ xs) ys h g = (h.0, both xs ys h.1 g)
+
+  of_each : {Y : Type 0} (f : Y → List X) → ((y : Y) → AllByRecursion P (f y)) → (ys : List Y) → AllByRecursion P (flat_map f ys)
+  of_each f each [] = tt
+  of_each f each (y ∷ ys) = both (f y) (flat_map f ys) (each y) (of_each f each ys)
+
+  abbrev Holds : Option X → Type 0
+  Holds None = ⊤
+  Holds (Some x) = P x
+
+  one_more : (o : Option X) (xs : List X) → Holds o → AllByRecursion P xs → AllByRecursion P (cons_option o xs)
+  one_more None xs h g = g
+  one_more (Some x) xs h g = (h, g)
+
+  of_some : {Y : Type 0} (f : Y → Option X) → ((y : Y) → Holds (f y)) → (ys : List Y) → AllByRecursion P (filter_map f ys)
+  of_some f each [] = tt
+  of_some f each (y ∷ ys) = one_more (f y) (filter_map f ys) (each y) (of_some f each ys)
+
+abbrev IsBy : List ℕ → Call → Type 0
+IsBy name c = c.caller ≡ name
+
+by_named : (name : List ℕ) (o : Option NamedTree) → Holds (IsBy name) (called_by name o)
+by_named name None = tt
+by_named name (Some n) = refl
+
+by_attribute : (name : List ℕ) (a : AttributeTree) → Holds (IsBy name) (call_in_attribute name a)
+by_attribute name a =
+    elim (bytes_eq a.name (codes "usebundle")) as (λ b. Holds (IsBy name) (if b then called_by name (callee_named a.value) else None))
+    [ true ↦ by_named name (callee_named a.value) | false ↦ tt ]
+
+by_section : (name : List ℕ) (s : SectionTree) → AllByRecursion (IsBy name) (calls_in_section name s)
+by_section name s =
+    elim (bytes_eq s.kind (codes "methods")) as (λ b. AllByRecursion (IsBy name) (if b then flat_map (calls_in_promise name) s.promises else []))
+    [ true ↦ of_each (IsBy name) (calls_in_promise name) (λ p. of_some (IsBy name) (call_in_attribute name) (by_attribute name) p.attributes) s.promises | false ↦ tt ]
+
+abbrev names_of : PolicyTree → List (List ℕ)
+names_of policy = map name_in (filter_map bundle_name policy)
+
+weaker : {X : Type 0} (P Q : X → Type 0) → ((x : X) → P x → Q x) → (xs : List X) → AllByRecursion P xs → AllByRecursion Q xs
+weaker P Q f [] h = tt
+weaker P Q f (x ∷ xs) h = (f x h.0, weaker P Q f xs h.1)
+
+by_bundle : (type_name name : NamedTree) (params : List NamedTree) (sections : List SectionTree) (place : Place) →
+    AllByRecursion (IsBy name.name) (calls_in_block (bundle type_name name params sections place))
+by_bundle type_name name params sections place =
+    elim (bytes_eq type_name.name (codes "agent")) as (λ b. AllByRecursion (IsBy name.name) (if b then flat_map (calls_in_section name.name) sections else []))
+    [ true ↦ of_each (IsBy name.name) (calls_in_section name.name) (by_section name.name) sections | false ↦ tt ]
+
+callers_named : (policy : PolicyTree) → AllByRecursion (λ c. Contains (names_of policy) c.caller) (flat_map calls_in_block policy)
+callers_named [] = tt
+callers_named (bundle type_name name params sections place ∷ rest) =
+    both (λ (c : Call). Contains (name.name ∷ names_of rest) c.caller) (calls_in_block (bundle type_name name params sections place)) (flat_map calls_in_block rest)
+    (weaker (IsBy name.name) (λ c. Contains (name.name ∷ names_of rest) c.caller)
+    (λ c e. subst (Contains (name.name ∷ names_of rest)) (sym e) (Contains-append_left (name.name ∷ []) (names_of rest) name.name (Contains-push [] name.name)))
+    (calls_in_block (bundle type_name name params sections place)) (by_bundle type_name name params sections place))
+    (weaker (λ (c : Call). Contains (names_of rest) c.caller) (λ c. Contains (name.name ∷ names_of rest) c.caller)
+    (λ c h. Contains-append_right (name.name ∷ []) (names_of rest) c.caller h) (flat_map calls_in_block rest) (callers_named rest))
+callers_named (body type_name name params attributes place ∷ rest) = callers_named rest
+
+caller_named : (policy : PolicyTree) (c : Call) → Contains (calls_of policy) c → Contains (names_of policy) c.caller
+unfolding calls_of
+caller_named policy c h =
+    All-contains (λ (d : Call). Contains (names_of policy) d.caller) (flat_map calls_in_block policy) c
+    (All-from_recursion (λ (d : Call). Contains (names_of policy) d.caller) (flat_map calls_in_block policy) (callers_named policy)) h
+
+seen_all : (names : List (List ℕ)) (chain : List Call) → AllByRecursion (λ (c : Call). Contains names c.caller) chain → AllByRecursion (Contains names) (map caller_of chain)
+unfolding caller_of
+seen_all names [] h = tt
+seen_all names (c ∷ chain) h = (h.0, seen_all names chain h.1)
+
+pub chains_are_short : ChainsAreShort
+chains_are_short policy chain valid is =
+    let none : NoneOnCycle (calls_of policy) = λ c h on. valid.none_applies (refusal CallCycle c.place) (inr (c, h, on, refl)) in
+    let names = names_of policy in
+    let named = seen_all names chain (chain_each (calls_of policy) (λ c. Contains names c.caller) (caller_named policy) chain is) in
+    let within = length-le_from_is_member bytes_equiv (map caller_of chain) names (distinct (calls_of policy) none chain is)
+    (λ q h. (is_member-Decides bytes_eq-Decides names q).1
+    (All-contains (Contains names) (map caller_of chain) q (All-from_recursion (Contains names) (map caller_of chain) named) ((is_member-Decides bytes_eq-Decides (map caller_of chain) q).0 h))) in
+    subst (λ n. n ≤ length (filter_map bundle_name policy)) (length-map chain caller_of)
+    (subst (λ n. length (map caller_of chain) ≤ n) (length-map (filter_map bundle_name policy) name_in) within)

@@ -1,0 +1,14 @@
+use Rattle.std.proofs.Common.{List, ◌∙◌, ap, map, sym, subst}
+use Rattle.cfa_tree.specs.declared.blocks.Block.{Block}
+use Rattle.cfa_tree.specs.Plain.{plain_block}
+use Rattle.cfa_schema.specs.Indexed.{IsIndex}
+use Rattle.cfa_schema.specs.Seen.{tree_of}
+use Rattle.cfa_schema.specs.Served.{body_of}
+use Rattle.cfa_schema.proofs.checked.Checked.body.Goals as goal
+
+pub body-requires : goal.body-requires
+body-requires c = subst (λ (blocks : List Block). IsIndex c.args.self.now.index (map plain_block blocks)) (sym c.as_slice.ensures) c.args.self.now.indexed
+
+pub returns : goal.returns
+unfolding tree_of
+returns c = c.body.ensures ∙ ap (λ blocks. body_of (map plain_block blocks) c.args.body_type c.args.name.now) c.as_slice.ensures

@@ -1,0 +1,6 @@
+use Rattle.cfa_schema.specs.Seen.{tree_of}
+use Rattle.cfa_schema.proofs.checked.Checked.sequence.Goals as goal
+
+pub returns : goal.returns
+unfolding tree_of
+returns c = c.sequence_names.ensures

@@ -1,7 +1,0 @@
-use Rattle.std.proofs.Common.{rules}
-use Rattle.cfa_schema.proofs.PairLemmas.{notes_pair}
-use Rattle.cfa_schema.proofs.pairs.note_pair_if_new.Goals as goal
-
-pub returns-clause-ok : goal.returns-clause-ok
-returns-clause-ok c =
-    notes_pair c.args.pair c.args.places.now c.insert.new.self c.args.place c.in_ok-insert.ensures.updates (search rules)

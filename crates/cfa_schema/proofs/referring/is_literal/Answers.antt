@@ -1,5 +1,0 @@
-use Rattle.cfa_schema.proofs.ReferringLemmas.{literal_by_first}
-use Rattle.cfa_schema.proofs.referring.is_literal.Goals as goal
-
-pub returns : goal.returns
-returns c = literal_by_first c.args.text.now c.first_reference.result c.is_none.result c.is_none.ensures c.first_reference.ensures.first

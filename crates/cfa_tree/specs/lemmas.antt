@@ -1,0 +1,7 @@
+-- Lemmas on these definitions that the proofs of the crates above cite. No contract names one.
+pub mod GuardRest
+pub mod GuardRuns
+pub mod Levels
+pub mod Lists
+pub mod PolicyA
+pub mod Rows

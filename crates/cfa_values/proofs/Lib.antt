@@ -1,0 +1,4 @@
+pub mod LookupLemmas
+pub mod NotedLemmas
+pub mod ScopeLemmas
+pub mod ValueLemmas

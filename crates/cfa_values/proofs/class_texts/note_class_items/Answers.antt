@@ -1,0 +1,12 @@
+use Rattle.std.proofs.Common.{◌∙◌}
+use Rattle.cfa_tree.specs.Plain.{plain_value}
+use Rattle.cfa_values.specs.Seen.{seen_context}
+use Rattle.cfa_values.specs.Values.{class_item_refusals}
+use Rattle.cfa_values.specs.Noted.{noted_more}
+use Rattle.cfa_values.proofs.class_texts.note_class_items.Goals as goal
+
+pub loop-item-preserved : goal.loop-item-preserved
+loop-item-preserved c =
+    noted_more plain_value (class_item_refusals (seen_context c.args.context.now)) c.args.items.now c.loop-item.item-index c.item-item.result c.loop-item.first c.note_class_item.new.first
+    c.loop-item-test.true c.item-item.is c.in_ok-note_class_item.ensures
+    ∙ c.loop-item.invariant

@@ -1,0 +1,9 @@
+pub mod Attributes
+pub mod Definitions
+pub mod Kept
+pub mod Lookups
+pub mod Noted
+pub mod Refusals
+pub mod Scope
+pub mod Seen
+pub mod Values
