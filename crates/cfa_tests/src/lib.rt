@@ -27,6 +27,8 @@ mod lines;
 #[cfg(test)]
 mod locks;
 #[cfg(test)]
+mod outcomes;
+#[cfg(test)]
 mod outside;
 #[cfg(test)]
 mod parser;
