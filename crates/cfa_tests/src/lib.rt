@@ -29,6 +29,8 @@ mod locks;
 #[cfg(test)]
 mod outcomes;
 #[cfg(test)]
+mod output;
+#[cfg(test)]
 mod outside;
 #[cfg(test)]
 mod parser;
