@@ -5,9 +5,12 @@ use Rattle.std.specs.Prelude.{ℕ, zero, suc, ◌%◌, ◌==◌, List, [], ◌�
 use Rattle.std.specs.Fmt.{decimal}
 use Rattle.std.specs.List.{flat_map}
 
+abbrev pub ended : (line : List ℕ) → List ℕ
+ended line = line ++ codes "\n"
+
 -- lines, each ended by a newline
 unfoldable pub text_of : List (List ℕ) → List ℕ
-text_of lines = flat_map (λ line. line ++ codes "\n") lines
+text_of lines = flat_map ended lines
 
 abbrev pub opening : List (List ℕ)
 opening = codes "bundle agent main" ∷ codes "{" ∷ codes "  files:" ∷ []

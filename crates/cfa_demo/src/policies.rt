@@ -1,6 +1,6 @@
 // The text of the demo policy.
 ghost use Rattle.std.specs.Prelude.{◌≡◌, ◌++◌, ℕ, IfOk, OnOk, string_bytes};
-ghost use Rattle.cfa_demo.specs.Policies.{demo_text, text_of, opening, ending, promise_line};
+ghost use Rattle.cfa_demo.specs.Policies.{demo_text, ended, promise_line};
 
 use cfa_base::{Name, NoMemory};
 use std::alloc::{AllocError, Global};
@@ -31,9 +31,10 @@ pub fn demo_policy(alloc: Global, n: u32) -> Result<Name, NoMemory>
 }
 
 // Adds the line of the promise of a number.
+#[tactic(auto, unfolding(crate::specs::Policies::promise_line))]
 fn push_promise(text: &mut String, k: u32) -> Result<(), AllocError>
     ensures { OnOk result
-        (string_bytes text.new ≡ string_bytes text.old ++ text_of (promise_line k ∷ [])) }
+        (string_bytes text.new ≡ string_bytes text.old ++ ended (promise_line k)) }
 {
     match k % 4 {
         0 => write!(text, "    \"/d/f{k}\" content => \"{k}\";\n"),
