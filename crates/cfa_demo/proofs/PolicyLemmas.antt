@@ -1,5 +1,6 @@
 -- The lines of the demo policy as they are written, and one promise more.
-use Rattle.std.proofs.Common.{◌≡◌, ℕ, zero, suc, ◌+◌, ◌%◌, ◌==◌, List, [], ◌∷◌, ◌++◌, Bool, if◌then◌else◌, codes, refl, sym, ap, ◌∙◌, append_assoc, append-nil, add-one}
+use Rattle.std.proofs.Common.{◌≡◌, ℕ, zero, suc, ◌+◌, ◌*◌, ◌%◌, ◌<◌, ◌≤◌, ◌==◌, List, [], ◌∷◌, ◌++◌, Bool, if◌then◌else◌, codes, refl, sym, ap, ◌∙◌, append_assoc, append-nil, add-one, length, length-append, arith}
+use Rattle.std.proofs.lemmas.Fmt.{length-decimal-le}
 use Rattle.std.specs.Fmt.{decimal}
 use Rattle.std.specs.List.{flat_map}
 use Rattle.cfa_demo.specs.Policies.{ended, text_of, opening, ending, promising, content, promise_line, promise_lines, demo_text}
@@ -57,3 +58,25 @@ with_the_end n =
 pub the_end : text_of ending ≡ codes "}\nbody perms m(x)\n{\n  mode => \"$(x)\";\n}\nbody classes r(x)\n{\n  promise_repaired => { \"$(x)\" };\n}\n"
 unfolding text_of
 the_end = refl
+
+-- how long a demo is
+
+short_by : (k kind : ℕ) → k % 4 ≡ kind → kind < 4 → length (decimal k) ≤ 4 → length (ended (promise_line k)) ≤ 57
+short_by k zero is below short = rw (ended_0 k is) (omega (arith, length-append {A = ℕ}))
+short_by k (suc zero) is below short = rw (ended_1 k is) (omega (arith, length-append {A = ℕ}))
+short_by k (suc (suc zero)) is below short = rw (ended_2 k is) (omega (arith, length-append {A = ℕ}))
+short_by k (suc (suc (suc zero))) is below short = rw (ended_3 k is) (omega (arith, length-append {A = ℕ}))
+short_by k (suc (suc (suc (suc more)))) is below short = absurd (omega arith)
+
+short_line : (k : ℕ) → k < 10000 → length (ended (promise_line k)) ≤ 57
+short_line k below = short_by k (k % 4) refl (omega arith) (length-decimal-le 4 k (omega arith) below (omega arith))
+
+short_lines : (n : ℕ) → n ≤ 10000 → length (text_of (opening ++ promise_lines n)) ≤ 29 + 57 * n
+short_lines zero within = rw no_promises (omega arith)
+short_lines (suc k) within =
+    let more : text_of (opening ++ promise_lines (suc k)) ≡ text_of (opening ++ promise_lines k) ++ ended (promise_line k) = rw (← add-one k) (one_promise_more k) in
+    rw more (omega (arith, short_lines k (omega arith), short_line k (omega arith), length-append (text_of (opening ++ promise_lines k)) (ended (promise_line k))))
+
+pub short_demo : (n : ℕ) → n ≤ 10000 → length (demo_text n) < 600000
+short_demo n within =
+    rw (with_the_end n, the_end) (omega (arith, short_lines n within, length-append {A = ℕ}))

@@ -1,5 +1,5 @@
 // The text of the demo policy.
-ghost use Rattle.std.specs.Prelude.{◌≡◌, ◌++◌, ℕ, IfOk, OnOk, string_bytes};
+ghost use Rattle.std.specs.Prelude.{◌≡◌, ◌<◌, ◌≤◌, ◌++◌, length, IfOk, OnOk, string_bytes};
 ghost use Rattle.cfa_demo.specs.Policies.{demo_text, ended, promise_line};
 
 use cfa_base::{Name, NoMemory};
@@ -20,7 +20,8 @@ body classes r(x)
 
 /// The demo policy of `n` promises, which stand in the order of their numbers from 0. The time is linear in `n`.
 pub fn demo_policy(alloc: Global, n: u32) -> Result<Name, NoMemory>
-    ensures { IfOk result (λ text. text ≡ demo_text n) }
+    ensures text { IfOk result (λ text. text ≡ demo_text n) }
+    ensures short { n ≤ 10000 → IfOk result (λ text. length text < 600000) }
 {
     let mut text = String::from_str(alloc, OPENING)?;
     for k in 0..n {
@@ -39,7 +40,13 @@ fn push_promise(text: &mut String, k: u32) -> Result<(), AllocError>
     match k % 4 {
         0 => write!(text, "    \"/d/f{k}\" content => \"{k}\";\n"),
         1 => write!(text, "    \"/d/f{k}\" create => \"true\";\n"),
-        2 => write!(text, "    \"/d/f{k}\" create => \"true\", perms => m(\"644\");\n"),
-        _ => write!(text, "    \"/d/f{k}\" content => \"{k}\", classes => r(\"c{k}\");\n"),
+        2 => write!(
+            text,
+            "    \"/d/f{k}\" create => \"true\", perms => m(\"644\");\n"
+        ),
+        _ => write!(
+            text,
+            "    \"/d/f{k}\" content => \"{k}\", classes => r(\"c{k}\");\n"
+        ),
     }
 }

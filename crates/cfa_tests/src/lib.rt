@@ -11,6 +11,8 @@ mod calls;
 #[cfg(test)]
 mod classes;
 #[cfg(test)]
+mod demo;
+#[cfg(test)]
 mod edits;
 #[cfg(test)]
 mod escapes;
