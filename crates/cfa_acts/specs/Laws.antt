@@ -5,8 +5,9 @@ use Rattle.cfa_outside.specs.declared.worlds.World.{World}
 use Rattle.cfa_outside.specs.declared.sites.Change.{Change}
 use Rattle.cfa_outside.specs.Worlds.{HasParents}
 use Rattle.cfa_outside.specs.Sites.{after_change, fits}
+use Rattle.cfa_edits.specs.Scripts.{AreEdits}
 use Rattle.cfa_acts.specs.declared.acts.Act.{Act}
-use Rattle.cfa_acts.specs.declared.acts.Act.TheVariants.{Restart}
+use Rattle.cfa_acts.specs.declared.acts.Act.TheVariants.{Edit, Restart}
 use Rattle.cfa_acts.specs.declared.acts.Decision.TheVariants.{Kept, Needs}
 use Rattle.cfa_acts.specs.Acts.{post, decision}
 use Rattle.cfa_acts.specs.Disturbs.{disturbs}
@@ -15,6 +16,11 @@ use Rattle.cfa_acts.specs.Disturbs.{disturbs}
 abbrev pub is_restart : Act → Bool
 is_restart (Restart _) = true
 is_restart _ = false
+
+-- the edits of an act are those of a script, as the type of scripts keeps
+abbrev pub HasScript : Act → Type 0
+HasScript (Edit _ script) = AreEdits script
+HasScript _ = Unit {0}
 
 -- an act is kept exactly where what it asks for holds
 abbrev pub KeptWherePostHolds : Type 0
@@ -34,7 +40,7 @@ NeededMakesPost =
 
 abbrev pub NeededKeepsPost : Type 0
 NeededKeepsPost =
-    (held later : Act) (world : World) (change : Change) →
+    (held later : Act) (world : World) (change : Change) → HasScript held → HasScript later →
     HasParents world.nodes → IsTrue (post held world) →
     decision later world ≡ Needs change → disturbs later held ≡ false →
     IsTrue (post held (after_change change world))

@@ -10,5 +10,5 @@ mod texts;
 mod writing;
 
 pub use edits::{Edit, EditErr, Edits, Spot};
-pub use scripts::Script;
+pub use scripts::{Script, texts_tell_scripts};
 pub use texts::{join_lines, split_lines};
