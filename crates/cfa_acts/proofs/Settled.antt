@@ -1,18 +1,20 @@
 -- What a script leaves: its lines as code compares them, and contents that it keeps.
-use Rattle.std.proofs.Common.{◌≡◌, ℕ, ◌+◌, ◌≤◌, List, [], ◌∷◌, ◌++◌, length, Bool, true, false, cond, ◌&&◌, Option, Some, None, refl, sym, ap, subst, ◌∙◌, arith, length-append}
-use Rattle.std.proofs.lemmas.Bool.{false≢true, and_parts, and_from, eqb-true, le-leb, leb-true}
+use Rattle.std.proofs.Common.{◌≡◌, ℕ, ◌+◌, ◌≤◌, List, [], ◌∷◌, ◌++◌, length, Bool, true, false, cond, ◌&&◌, Option, Some, None, refl, sym, ap, subst, ◌∙◌, arith, length-append, append_assoc, ◌<◌, ◌≢◌, All}
+use Rattle.std.proofs.lemmas.Bool.{false≢true, and_parts, and_from, eqb-true, ne_eqb, le-leb, leb-true}
 use Rattle.std.proofs.lemmas.Slice.Eq.{bytes_eq-Decides, slice_eq-Decides}
 use Rattle.std.proofs.lemmas.Str.{is_utf8-from_IsUtf8, IsUtf8-from_is_utf8}
-use Rattle.std.proofs.lemmas.List.Splits.{join_with_byte-slice_split}
+use Rattle.std.proofs.lemmas.List.Elements.{All-head, All-tail}
+use Rattle.std.proofs.lemmas.List.Splits.{join_with_byte-slice_split, length-slice_split}
 use Rattle.std.specs.Prelude.{nat_le, nat_eq, Result, Ok, Err, IfOk, IsTrue, ◌↔◌, IsUtf8}
 use Rattle.std.specs.Cmp.Lexicographic.{pointwise}
-use Rattle.std.specs.List.{join_with_byte}
+use Rattle.std.specs.List.{join_with_byte, onto_first}
 use Rattle.std.specs.Str.{bytes_eq, is_utf8}
 use Rattle.cfa_base.specs.declared.limits.TheConstants.{MOST_FILE_BYTES}
 use Rattle.cfa_lines.specs.Decks.{lines_of, lines_of_parts, parts_of, text_of, ended}
 use Rattle.cfa_edits.specs.declared.edits.Edit.{Edit}
 use Rattle.cfa_edits.specs.declared.edits.EditErr.{EditErr}
 use Rattle.cfa_edits.specs.Edits.{Lines, edited}
+use Rattle.cfa_edits.specs.Scripts.{IsOneLine}
 use Rattle.cfa_outside.specs.declared.worlds.Node.{Node}
 use Rattle.cfa_outside.specs.declared.worlds.Node.TheVariants.{File, Dir}
 use Rattle.cfa_base.specs.declared.want_of_memory.NoMemory.{NoMemory}
@@ -22,6 +24,7 @@ use Rattle.cfa_acts.specs.declared.acts.Decision.TheVariants.{Fail}
 use Rattle.cfa_acts.specs.Acts.{has_bytes}
 use Rattle.cfa_acts.specs.Seeing.{line_decision, edit_decision}
 use Rattle.cfa_acts.specs.Settling.{is_short, are_left, leaves, is_settled, keeps_content}
+use Rattle.cfa_acts.specs.Laws.{SettlesAsLines}
 
 -- a content is no longer than the text of its lines
 parts_fit : (parts : List (List ℕ)) → length (join_with_byte 10 parts) ≤ length (text_of (lines_of_parts parts))
@@ -123,3 +126,41 @@ bytes_decided path script text bad = ap (λ b. cond b (line_decision path script
 
 pub same_decision : (answer : Result Decision NoMemory) (d e : Decision) → d ≡ e → IfOk answer (λ a. a ≡ d) → IfOk answer (λ a. a ≡ e)
 same_decision answer d e is found = subst (λ (x : Decision). IfOk answer (λ a. a ≡ x)) is found
+
+-- lines without a newline are the lines of their text
+parted : (line rest : List ℕ) → IsOneLine line → parts_of (line ++ 10 ∷ rest) ≡ line ∷ parts_of rest
+parted [] rest one = refl
+parted (b ∷ bs) rest one =
+    ap (λ (is : Bool). cond is ([] ∷ parts_of (bs ++ 10 ∷ rest)) (onto_first b (parts_of (bs ++ 10 ∷ rest)))) (ne_eqb b 10 (All-head (λ byte. byte ≢ 10) b bs one))
+    ∙ ap (onto_first b) (parted bs rest (All-tail (λ byte. byte ≢ 10) b bs one))
+
+some_part : (text : List ℕ) → 0 < length (parts_of text)
+some_part text = let parts = length-slice_split (λ byte. nat_eq byte 10) text in omega (arith, parts)
+
+line_first : (line : List ℕ) (parts : List (List ℕ)) → 0 < length parts → lines_of_parts (line ∷ parts) ≡ line ∷ lines_of_parts parts
+line_first line [] some = absurd (omega arith)
+line_first line (next ∷ more) some = refl
+
+come_back : (lines : Lines) → All IsOneLine lines → lines_of (text_of lines) ≡ lines
+come_back [] ones = refl
+come_back (line ∷ lines) ones =
+    ap lines_of_parts (ap parts_of (append_assoc line (10 ∷ []) (text_of lines)) ∙ parted line (text_of lines) (All-head IsOneLine line lines ones))
+    ∙ line_first line (parts_of (text_of lines)) (some_part (text_of lines))
+    ∙ ap (λ (more : Lines). line ∷ more) (come_back lines (All-tail IsOneLine line lines ones))
+
+left_is : (made : Result Lines EditErr) (lines : Lines) → are_left made lines ≡ true → made ≡ Ok lines
+left_is (Ok left) lines is = ap made_of ((slice_eq-Decides bytes_eq-Decides left lines (pointwise bytes_eq left lines) refl).0 is)
+left_is (Err _) lines is = absurd (false≢true is)
+
+left_same : (made : Result Lines EditErr) (lines : Lines) → made ≡ Ok lines → are_left made lines ≡ true
+left_same made lines is = ap (λ (m : Result Lines EditErr). are_left m lines) is ∙ (slice_eq-Decides bytes_eq-Decides lines lines (pointwise bytes_eq lines lines) refl).1 refl
+
+pub settles_as_lines : SettlesAsLines
+unfolding leaves
+settles_as_lines script lines ones utf8 =
+    let back = come_back lines ones in
+    let text = is_utf8-from_IsUtf8 (text_of lines) utf8 in
+    let as_lines : leaves script (text_of lines) ≡ are_left (edited script lines) lines =
+    ap (λ (b : Bool). b && are_left (edited script (lines_of (text_of lines))) (lines_of (text_of lines))) text
+    ∙ ap (λ (l : Lines). are_left (edited script l) l) back in
+    (λ left. left_is (edited script lines) lines (sym as_lines ∙ left), λ same. as_lines ∙ left_same (edited script lines) lines same)

@@ -1,5 +1,5 @@
 // The laws of acts, each the contract of a function that does nothing.
-ghost use Rattle.cfa_acts.specs.Laws.{HasScript, KeptWherePostHolds, NeededFits, NeededMakesPost, NeededKeepsPost};
+ghost use Rattle.cfa_acts.specs.Laws.{HasScript, KeptWherePostHolds, NeededFits, NeededMakesPost, NeededKeepsPost, SettlesAsLines};
 
 use crate::Act;
 use cfa_edits::texts_tell_scripts;
@@ -25,6 +25,11 @@ pub fn needed_change_keeps_post()
 {
     texts_tell_scripts();
 }
+
+/// A script leaves the text of lines without newlines exactly where it leaves the lines.
+pub fn settles_as_lines()
+    ensures { SettlesAsLines }
+{}
 
 /// The edits of an act are those of a script.
 pub fn has_script(act: &Act)

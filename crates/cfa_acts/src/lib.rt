@@ -18,5 +18,5 @@ pub use deciding::decide;
 pub use disturbing::disturbs;
 pub use laws::{
     has_script, kept_where_post_holds, needed_change_fits, needed_change_keeps_post,
-    needed_change_makes_post,
+    needed_change_makes_post, settles_as_lines,
 };
