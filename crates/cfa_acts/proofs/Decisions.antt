@@ -4,7 +4,7 @@ use Rattle.std.proofs.lemmas.Bool.{false≢true, eqb-true, eq-eqb, le-leb, leb-t
 use Rattle.std.proofs.lemmas.Slice.Eq.{bytes_eq-Decides}
 use Rattle.std.specs.Prelude.{nat_le}
 use Rattle.std.specs.Bool.{beq}
-use Rattle.std.specs.Str.{bytes_eq}
+use Rattle.std.specs.Str.{bytes_eq, is_utf8}
 use Rattle.std.specs.FinMap as map
 use Rattle.cfa_base.specs.declared.limits.TheConstants.{MOST_FILE_BYTES}
 use Rattle.cfa_outside.specs.declared.worlds.World.{World}
@@ -16,13 +16,18 @@ use Rattle.cfa_outside.specs.declared.sites.Look.{Look}
 use Rattle.cfa_outside.specs.declared.sites.Change.TheVariants.{PutFile, PutService}
 use Rattle.cfa_outside.specs.Worlds.{is_file, is_directory, is_blocked, has_below, shows, look_at, is_readable, bytes_in, perms_in, takes_file}
 use Rattle.cfa_outside.specs.Sites.{look_of}
+use Rattle.cfa_lines.specs.Decks.{lines_of}
+use Rattle.cfa_edits.specs.declared.edits.Edit.{Edit}
+use Rattle.cfa_edits.specs.Edits.{edited}
 use Rattle.cfa_acts.specs.declared.acts.Act.{Act}
 use Rattle.cfa_acts.specs.declared.acts.Act.TheVariants as act
 use Rattle.cfa_acts.specs.declared.acts.Reason.{Reason}
-use Rattle.cfa_acts.specs.declared.acts.Reason.TheVariants.{Missing, Obstructed, TooLong}
+use Rattle.cfa_acts.specs.declared.acts.Reason.TheVariants.{Missing, Obstructed, NotText, TooLong}
+use Rattle.cfa_acts.specs.declared.acts.Decision.{Decision}
 use Rattle.cfa_acts.specs.declared.acts.Decision.TheVariants.{Kept, Needs, Fail}
 use Rattle.cfa_acts.specs.Acts.{post, needed, decision, has_bytes, is_copied, copies, puts_file, puts_directory, deletes, has_row, puts_row, with_running, with_enabled, has_perms, sets_perms, restarts}
-use Rattle.cfa_acts.specs.Seeing.{created, made, deleted, has_size, stands, copy_refusal, running_act, enabled_act, put_running, put_enabled, perms_decision}
+use Rattle.cfa_acts.specs.Seeing.{created, made, deleted, has_size, stands, copy_refusal, edit_refusal, edit_decision, running_act, enabled_act, put_running, put_enabled, perms_decision}
+use Rattle.cfa_acts.specs.Settling.{is_short, are_left, leaves, is_settled, puts_lines, edits}
 
 pub kept : (a : Act) (world : World) → post a world ≡ true → Kept ≡ decision a world
 unfolding decision
@@ -170,6 +175,54 @@ unfolding look_at decision post needed
 copy_decided source path bytes world is free =
     let allowed = free_by (map.get world.nodes source) (is_blocked world.nodes source) (has_below world.nodes source) (look_of world path) free in
     copied_by path bytes (map.get world.nodes source) (map.get world.nodes path) (look_of world path) is allowed.0 allowed.1
+
+-- edits
+unedited_by : (path : List ℕ) (script : List Edit) (reason : Reason) (here : Option Node) (blocked below : Bool) → edit_refusal (shows here blocked below) ≡ Some reason → Fail reason ≡ cond (is_settled script here) Kept (edits path script here)
+unedited_by path script reason (Some (File bytes _)) blocked below is = by (is_short bytes) (leaves script bytes) (cond (is_utf8 bytes) (puts_lines path script (edited script (lines_of bytes))) (Fail NotText)) is where
+  by : (s l : Bool) (more : Decision) → cond s None (Some TooLong) ≡ Some reason → Fail reason ≡ cond (s && l) Kept (cond s more (Fail TooLong))
+  by true l more is = cc
+  by false l more is = let same : TooLong ≡ reason = cc in ap Fail (sym same)
+unedited_by path script reason (Some (Dir _)) blocked below is = let same : Obstructed ≡ reason = cc in ap Fail (sym same)
+unedited_by path script reason None true below is = let same : Missing ≡ reason = cc in ap Fail (sym same)
+unedited_by path script reason None false below is = let same : Missing ≡ reason = cc in ap Fail (sym same)
+
+pub edit_refused : (path : List ℕ) (script : List Edit) (reason : Reason) (world : World) → edit_refusal (look_of world path) ≡ Some reason → Fail reason ≡ decision (act.Edit path script) world
+unfolding look_at decision post needed
+edit_refused path script reason world is = unedited_by path script reason (map.get world.nodes path) (is_blocked world.nodes path) (has_below world.nodes path) is
+
+editable_by : (here : Option Node) (blocked below : Bool) → edit_refusal (shows here blocked below) ≡ None → is_readable here ≡ true
+editable_by (Some (File bytes _)) blocked below is = by (nat_le (length bytes) MOST_FILE_BYTES) is where
+  by : (s : Bool) → cond s None (Some TooLong) ≡ None → s ≡ true
+  by true is = refl
+  by false is = cc
+editable_by (Some (Dir _)) blocked below is = cc
+editable_by None true below is = cc
+editable_by None false below is = cc
+
+pub edit_readable : (path : List ℕ) (world : World) → edit_refusal (look_of world path) ≡ None → is_readable (map.get world.nodes path) ≡ true
+unfolding look_at
+edit_readable path world is = editable_by (map.get world.nodes path) (is_blocked world.nodes path) (has_below world.nodes path) is
+
+same_order : (s u l : Bool) (more : Decision) → s ≡ true → cond u (cond l Kept more) (Fail NotText) ≡ cond (s && (u && l)) Kept (cond s (cond u more (Fail NotText)) (Fail TooLong))
+same_order true true true more short = refl
+same_order true true false more short = refl
+same_order true false l more short = refl
+same_order false u l more short = absurd (false≢true short)
+
+of_file : (path : List ℕ) (script : List Edit) (bytes : List ℕ) → is_short bytes ≡ true → edit_decision path script bytes ≡ cond (is_short bytes && leaves script bytes) Kept (cond (is_short bytes) (cond (is_utf8 bytes) (puts_lines path script (edited script (lines_of bytes))) (Fail NotText)) (Fail TooLong))
+unfolding edit_decision leaves
+of_file path script bytes short = same_order (is_short bytes) (is_utf8 bytes) (are_left (edited script (lines_of bytes)) (lines_of bytes)) (puts_lines path script (edited script (lines_of bytes))) short
+
+decided_by : (path : List ℕ) (script : List Edit) (bytes : List ℕ) (here : Option Node) → bytes_in here ≡ Some bytes → is_readable here ≡ true → edit_decision path script bytes ≡ cond (is_settled script here) Kept (edits path script here)
+decided_by path script bytes (Some (File x _)) is short =
+    let same : x ≡ bytes = cc in
+    ap (edit_decision path script) (sym same) ∙ of_file path script x short
+decided_by path script bytes (Some (Dir _)) is short = cc
+decided_by path script bytes None is short = cc
+
+pub edit_decided : (path : List ℕ) (script : List Edit) (bytes : List ℕ) (world : World) → bytes_in (map.get world.nodes path) ≡ Some bytes → is_readable (map.get world.nodes path) ≡ true → edit_decision path script bytes ≡ decision (act.Edit path script) world
+unfolding decision post needed
+edit_decided path script bytes world is short = decided_by path script bytes (map.get world.nodes path) is short
 
 -- permissions
 stands_by : (here : Option Node) (blocked below : Bool) → stands (shows here blocked below) ≡ is_some here

@@ -1,9 +1,9 @@
 -- What stands at a path after a change.
 use Rattle.std.proofs.Common.{◌≡◌, ℕ, ◌+◌, List, [], ◌∷◌, ◌++◌, length, take, Bool, true, false, cond, ◌||◌, eqb, Option, Some, None, is_some, refl, sym, ap, ◌∙◌, append_assoc, length-append}
-use Rattle.std.proofs.lemmas.Bool.{false≢true, eqb-true}
+use Rattle.std.proofs.lemmas.Bool.{false≢true, and_parts, eqb-true}
 use Rattle.std.proofs.lemmas.Slice.Eq.{bytes_eq-Decides}
 use Rattle.std.specs.Cmp.Lexicographic.{nat_list_cmp_total}
-use Rattle.std.specs.List.{list_any}
+use Rattle.std.specs.List.{list_all, list_any}
 use Rattle.std.specs.Str.{bytes_eq}
 use Rattle.std.specs.FinMap as map
 use Rattle.cfa_base.specs.TextMaps.{TextMap}
@@ -13,7 +13,7 @@ use Rattle.cfa_outside.specs.declared.worlds.Perms.{Perms}
 use Rattle.cfa_outside.specs.declared.worlds.Node.{Node}
 use Rattle.cfa_outside.specs.declared.sites.Change.{Change}
 use Rattle.cfa_outside.specs.declared.sites.Change.TheVariants.{PutFile, PutDir, Remove, SetPerms}
-use Rattle.cfa_outside.specs.Worlds.{NodeMap, above, above_from, is_below, new_directory, with_dir, with_dirs, file_with, put_file, put_directory, with_perms, set_perms, set_perms_of}
+use Rattle.cfa_outside.specs.Worlds.{NodeMap, HasParents, is_directory, above, above_from, is_below, new_directory, with_dir, with_dirs, file_with, put_file, put_directory, with_perms, set_perms, set_perms_of}
 use Rattle.cfa_outside.specs.Sites.{after_change}
 use Rattle.cfa_acts.specs.Disturbs.{is_at_or_beneath}
 
@@ -147,6 +147,25 @@ put_clear m q r made none out =
     ∙ elim (bytes_eq q r) as (λ b. bytes_eq q r ≡ b → cond b (Some made) (map.get (with_dirs (above q) m) r) ≡ None) [
       | true ↦ λ e. absurd (false≢true (sym parts.0 ∙ ap (λ (p : List ℕ). bytes_eq r p) (same q r e) ∙ alike r))
       | false ↦ λ _. clear (above q) m r (not_above r q parts.1) none
+    ] refl
+
+-- a file that is put where a node stands, in directories up to the root, makes nothing else stand
+outside : (m : NodeMap) (r : List ℕ) (ds : List (List ℕ)) → map.get m r ≡ None → list_all (λ d. is_directory (map.get m d)) ds ≡ true → list_any (λ d. bytes_eq d r) ds ≡ false
+outside m r [] none stand = refl
+outside m r (d ∷ ds) none stand =
+    let parts = and_parts (is_directory (map.get m d)) (list_all (λ p. is_directory (map.get m p)) ds) stand in
+    elim (bytes_eq d r) as (λ b. bytes_eq d r ≡ b → (b || list_any (λ p. bytes_eq p r) ds) ≡ false) [
+      | true ↦ λ e. absurd (false≢true (sym (ap is_directory none) ∙ ap (λ (p : List ℕ). is_directory (map.get m p)) (sym (same d r e)) ∙ parts.0))
+      | false ↦ λ _. outside m r ds none parts.1
+    ] refl
+
+pub put_over : (world : World) (q r bytes : List ℕ) (n : Node) → HasParents world.nodes → map.get world.nodes q ≡ Some n → map.get world.nodes r ≡ None → map.get (after_change (PutFile q bytes) world).nodes r ≡ None
+unfolding after_change put_file
+put_over world q r bytes n parents here none =
+    get-put (with_dirs (above q) world.nodes) q (file_with bytes (map.get world.nodes q)) r
+    ∙ elim (bytes_eq q r) as (λ b. bytes_eq q r ≡ b → cond b (Some (file_with bytes (map.get world.nodes q))) (map.get (with_dirs (above q) world.nodes) r) ≡ None) [
+      | true ↦ λ e. let both : Some n ≡ nowhere = sym here ∙ ap (map.get world.nodes) (same q r e) ∙ none in cc
+      | false ↦ λ _. clear (above q) world.nodes r (outside world.nodes r (above q) none (parents.of_each q (ap is_some here))) none
     ] refl
 
 set_clear : (m : NodeMap) (q r : List ℕ) (perms : Perms) (there : Option Node) → map.get m q ≡ there → map.get m r ≡ None → map.get (set_perms_of there q perms m) r ≡ None

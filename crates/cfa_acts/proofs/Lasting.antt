@@ -5,21 +5,27 @@ use Rattle.std.specs.Str.{bytes_eq}
 use Rattle.std.specs.FinMap as map
 use Rattle.cfa_outside.specs.declared.worlds.World.{World}
 use Rattle.cfa_outside.specs.declared.worlds.Node.{Node}
+use Rattle.cfa_outside.specs.declared.worlds.Node.TheVariants.{File}
 use Rattle.cfa_outside.specs.declared.worlds.Perms.{Perms}
 use Rattle.cfa_outside.specs.declared.worlds.ServiceRow.{ServiceRow}
 use Rattle.cfa_outside.specs.declared.sites.Change.{Change}
 use Rattle.cfa_outside.specs.declared.sites.Change.TheVariants.{PutFile, PutDir, Remove, SetPerms, PutService}
-use Rattle.cfa_outside.specs.Worlds.{is_file, is_directory, file_with, with_perms, perms_in, new_directory}
+use Rattle.cfa_outside.specs.Worlds.{HasParents, is_file, is_directory, file_with, with_perms, perms_in, new_directory}
 use Rattle.cfa_outside.specs.Sites.{after_change}
+use Rattle.cfa_edits.specs.declared.edits.Edit.{Edit}
+use Rattle.cfa_edits.specs.Scripts.{AreEdits, script_text}
+use Rattle.cfa_edits.specs.Laws.{TextsTellScripts}
 use Rattle.cfa_acts.specs.declared.acts.Act.{Act}
 use Rattle.cfa_acts.specs.declared.acts.Act.TheVariants as act
 use Rattle.cfa_acts.specs.declared.acts.Decision.TheVariants.{Needs}
 use Rattle.cfa_acts.specs.Acts.{has_bytes, is_copied, has_perms, has_row, post, decision, asked_perms, with_running, with_enabled, restarted}
 use Rattle.cfa_acts.specs.Disturbs.{modes_differ, lists_differ, disturbs}
-use Rattle.cfa_acts.specs.Laws.{NeededKeepsPost}
-use Rattle.cfa_acts.proofs.Needs.{unmet, create_needs, make_dir_needs, delete_needs, content_needs, copy_needs, takes_no_directory, perms_needs, start_needs, stop_needs, enable_needs, disable_needs, restart_needs, bust_needs, RowNeeds}
-use Rattle.cfa_acts.proofs.Effects.{same, alike, or_false, apart, left, leaves, may_make, stays_clear}
-use Rattle.cfa_acts.proofs.Posts.{at, made_file, made_bytes, made_perms, set_file, set_directory, set_bytes, set_perms_in, copied, copies_as, kept_perms, row_put}
+use Rattle.cfa_acts.specs.Settling.{is_settled, keeps_content}
+use Rattle.cfa_acts.specs.Laws.{HasScript, NeededKeepsPost}
+use Rattle.cfa_acts.proofs.Needs.{unmet, create_needs, make_dir_needs, delete_needs, content_needs, copy_needs, takes_no_directory, edit_needs, perms_needs, start_needs, stop_needs, enable_needs, disable_needs, restart_needs, bust_needs, RowNeeds}
+use Rattle.cfa_acts.proofs.Effects.{same, alike, or_false, apart, left, leaves, may_make, stays_clear, put_over}
+use Rattle.cfa_acts.proofs.Posts.{at, made_file, made_bytes, made_perms, set_file, set_directory, set_bytes, set_perms_in, copied, copies_as, kept_perms, row_put, set_settled}
+use Rattle.cfa_acts.proofs.Settled.{settled_content}
 
 -- the node at a path after a change
 abbrev node_after : Change → World → List ℕ → Option Node
@@ -38,6 +44,7 @@ record Handlers (G : Type 0) (later : Act) (change : Change) (world : World) (r 
   stays : node_after change world r ≡ Some n → G
   deleted : (dirs : Bool) → later ≡ act.Delete r dirs → G
   content : (v : List ℕ) → later ≡ act.Content r v → is_directory (Some n) ≡ false → node_after change world r ≡ Some (file_with v (Some n)) → G
+  edit : (t : List Edit) (v : List ℕ) → later ≡ act.Edit r t → is_directory (Some n) ≡ false → node_after change world r ≡ Some (file_with v (Some n)) → G
   copy : (s v : List ℕ) → later ≡ act.Copy s r → is_directory (Some n) ≡ false → node_after change world r ≡ Some (file_with v (Some n)) → G
   perms : (mode : Option ℕ) (owners groups : List (List ℕ)) (present : Perms) → later ≡ act.Perms r mode owners groups → perms_in (Some n) ≡ Some present → node_after change world r ≡ Some (with_perms (asked_perms mode owners groups present) n) → G
 
@@ -66,6 +73,11 @@ meets (act.Copy s q) change world r n here e h =
     split (bytes_eq q r) (Some (file_with need.bytes (Some n))) (Some n) (node_after change world r) (out_of change (PutFile q need.bytes) world r n need.put here)
     (λ is out. h.copy s need.bytes (ap (act.Copy s) (same q r is)) (ap is_directory (sym here ∙ sym (ap (map.get world.nodes) (same q r is))) ∙ takes_no_directory q world need.takes) out)
     (λ _ out. h.stays out)
+meets (act.Edit q t) change world r n here e h =
+    let need = edit_needs q t world change e in
+    split (bytes_eq q r) (Some (file_with need.text (Some n))) (Some n) (node_after change world r) (out_of change (PutFile q need.text) world r n need.put here)
+    (λ is out. h.edit t need.text (ap (λ (p : List ℕ). act.Edit p t) (same q r is)) (ap is_directory (sym here ∙ sym (ap (map.get world.nodes) (same q r is)) ∙ need.there)) out)
+    (λ _ out. h.stays out)
 meets (act.Perms q mode owners groups) change world r n here e h =
     let need = perms_needs q mode owners groups world change e in
     split (bytes_eq q r) (Some (with_perms (asked_perms mode owners groups need.present) n)) (Some n) (node_after change world r) (out_of change (SetPerms q (asked_perms mode owners groups need.present)) world r n need.set here)
@@ -93,6 +105,7 @@ lasts_create r later world change holds e quiet =
       stays = λ out. ap is_file out ∙ found.holds;
       deleted = λ dirs is. absurd (clash r (known (act.Create r) later (act.Delete r dirs) is quiet));
       content = λ v is no_directory out. ap is_file out ∙ made_file v (Some found.node);
+      edit = λ t v is no_directory out. ap is_file out ∙ made_file v (Some found.node);
       copy = λ s v is no_directory out. ap is_file out ∙ made_file v (Some found.node);
       perms = λ mode owners groups present is there out. ap is_file out ∙ set_file (asked_perms mode owners groups present) found.node ∙ found.holds;
     })
@@ -105,18 +118,20 @@ lasts_make_dir r later world change holds e quiet =
       stays = λ out. ap is_directory out ∙ found.holds;
       deleted = λ dirs is. absurd (clash r (known (act.MakeDir r) later (act.Delete r dirs) is quiet));
       content = λ v is no_directory out. absurd (false≢true (sym no_directory ∙ found.holds));
+      edit = λ t v is no_directory out. absurd (false≢true (sym no_directory ∙ found.holds));
       copy = λ s v is no_directory out. absurd (false≢true (sym no_directory ∙ found.holds));
       perms = λ mode owners groups present is there out. ap is_directory out ∙ set_directory (asked_perms mode owners groups present) found.node ∙ found.holds;
     })
 
 -- the bytes of a file that no other act deletes or gives other bytes
-lasts_bytes : (r bytes : List ℕ) (later : Act) (world : World) (change : Change) → has_bytes bytes (map.get world.nodes r) ≡ true → decision later world ≡ Needs change → ((dirs : Bool) → later ≡ act.Delete r dirs → ⊥) → ((v : List ℕ) → later ≡ act.Content r v → bytes ≡ v) → ((s : List ℕ) → later ≡ act.Copy s r → ⊥) → has_bytes bytes (node_after change world r) ≡ true
-lasts_bytes r bytes later world change holds e not_deleted same_content not_copied =
+lasts_bytes : (r bytes : List ℕ) (later : Act) (world : World) (change : Change) → has_bytes bytes (map.get world.nodes r) ≡ true → decision later world ≡ Needs change → ((dirs : Bool) → later ≡ act.Delete r dirs → ⊥) → ((v : List ℕ) → later ≡ act.Content r v → bytes ≡ v) → ((t : List Edit) → later ≡ act.Edit r t → ⊥) → ((s : List ℕ) → later ≡ act.Copy s r → ⊥) → has_bytes bytes (node_after change world r) ≡ true
+lasts_bytes r bytes later world change holds e not_deleted same_content not_edited not_copied =
     let found = at (has_bytes bytes) (map.get world.nodes r) refl holds in
     meets later change world r found.node found.is e (record {
       stays = λ out. ap (has_bytes bytes) out ∙ found.holds;
       deleted = λ dirs is. absurd (not_deleted dirs is);
       content = λ v is no_directory out. ap (has_bytes bytes) out ∙ ap (λ (x : List ℕ). has_bytes x (Some (file_with v (Some found.node)))) (same_content v is) ∙ made_bytes v (Some found.node);
+      edit = λ t v is no_directory out. absurd (not_edited t is);
       copy = λ s v is no_directory out. absurd (not_copied s is);
       perms = λ mode owners groups present is there out. ap (has_bytes bytes) out ∙ set_bytes bytes (asked_perms mode owners groups present) found.node ∙ found.holds;
     })
@@ -125,13 +140,38 @@ not_both : (a b : Bool) → (a && not b) ≡ false → a ≡ true → b ≡ true
 not_both true b e is = not-false b e
 not_both false b e is = absurd (false≢true is)
 
+-- an act whose post holds needs nothing
+met : (later : Act) (world : World) (change : Change) → decision later world ≡ Needs change → (is : Act) → later ≡ is → post is world ≡ true → ⊥
+met later world change e is same_act holds = false≢true (sym (unmet later world change e).0 ∙ ap (λ (a : Act). post a world) same_act ∙ holds)
+
 lasts_content : (r bytes : List ℕ) (later : Act) (world : World) (change : Change) → has_bytes bytes (map.get world.nodes r) ≡ true → decision later world ≡ Needs change → disturbs later (act.Content r bytes) ≡ false → has_bytes bytes (node_after change world r) ≡ true
-unfolding disturbs
+unfolding disturbs post
 lasts_content r bytes later world change holds e quiet =
     lasts_bytes r bytes later world change holds e
     (λ dirs is. clash r (or_false (bytes_eq r r) false (known (act.Content r bytes) later (act.Delete r dirs) is quiet)).0)
     (λ v is. same bytes v (not_both (bytes_eq r r) (bytes_eq bytes v) (known (act.Content r bytes) later (act.Content r v) is quiet) (alike r)))
+    (λ t is. met later world change e (act.Edit r t) is
+    (settled_content t bytes (map.get world.nodes r) (not_both (bytes_eq r r) (keeps_content t bytes) (known (act.Content r bytes) later (act.Edit r t) is quiet) (alike r)) holds))
     (λ s is. clash r (known (act.Content r bytes) later (act.Copy s r) is quiet))
+
+-- the lines of a file that no other act deletes, gives other bytes that the script changes, or edits by another script
+lasts_edit : (r : List ℕ) (script : List Edit) (later : Act) (world : World) (change : Change) → TextsTellScripts → AreEdits script → HasScript later → is_settled script (map.get world.nodes r) ≡ true → decision later world ≡ Needs change → disturbs later (act.Edit r script) ≡ false → is_settled script (node_after change world r) ≡ true
+unfolding disturbs post
+lasts_edit r script later world change tell are later_are holds e quiet =
+    let found = at (is_settled script) (map.get world.nodes r) refl holds in
+    meets later change world r found.node found.is e (record {
+      stays = λ out. ap (is_settled script) out ∙ found.holds;
+      deleted = λ dirs is. absurd (clash r (or_false (bytes_eq r r) false (known (act.Edit r script) later (act.Delete r dirs) is quiet)).0);
+      content = λ v is no_directory out.
+          ap (is_settled script) out
+          ∙ settled_content script v (Some (file_with v (Some found.node))) (not_both (bytes_eq r r) (keeps_content script v) (known (act.Edit r script) later (act.Content r v) is quiet) (alike r)) (made_bytes v (Some found.node));
+      edit = λ t v is no_directory out.
+          let texts : script_text script ≡ script_text t = same (script_text script) (script_text t) (not_both (bytes_eq r r) (bytes_eq (script_text script) (script_text t)) (known (act.Edit r script) later (act.Edit r t) is quiet) (alike r)) in
+          let scripts : script ≡ t = tell script t are (subst HasScript is later_are) texts in
+          absurd (met later world change e (act.Edit r t) is (ap (λ (s : List Edit). is_settled s (map.get world.nodes r)) (sym scripts) ∙ holds));
+      copy = λ s v is no_directory out. absurd (clash r (known (act.Edit r script) later (act.Copy s r) is quiet));
+      perms = λ mode owners groups present is there out. ap (is_settled script) out ∙ set_settled script (asked_perms mode owners groups present) found.node ∙ found.holds;
+    })
 
 or_one : (a b : Bool) → a ≡ true → (a || b) ≡ true
 or_one true b e = refl
@@ -156,6 +196,7 @@ module _ (source path r : List ℕ) (later : Act) (world : World) (change : Chan
       lasts_bytes r bytes later world change has e
       (λ dirs is. false≢true (sym (known (act.Copy source path) later (act.Delete r dirs) is quiet) ∙ of_copy))
       (λ v is. absurd (false≢true (sym (known (act.Copy source path) later (act.Content r v) is quiet) ∙ of_copy)))
+      (λ t is. false≢true (sym (known (act.Copy source path) later (act.Edit r t) is quiet) ∙ of_copy))
       (λ s is. no_same_copy source path s r later world change holds e is
       (not_both (bytes_eq source r || bytes_eq path r) (bytes_eq source s && bytes_eq path r) (known (act.Copy source path) later (act.Copy s r) is quiet) of_copy))
 
@@ -179,6 +220,7 @@ lasts_perms r mode owners groups later world change holds e quiet =
       stays = λ out. ap (λ (o : Option Node). has_perms mode owners groups (perms_in o)) out ∙ found.holds;
       deleted = λ dirs is. absurd (clash r (or_false (bytes_eq r r) false (known (act.Perms r mode owners groups) later (act.Delete r dirs) is quiet)).0);
       content = λ v is no_directory out. ap (λ (o : Option Node). has_perms mode owners groups (perms_in o)) out ∙ ap (has_perms mode owners groups) (made_perms v found.node no_directory) ∙ found.holds;
+      edit = λ t v is no_directory out. ap (λ (o : Option Node). has_perms mode owners groups (perms_in o)) out ∙ ap (has_perms mode owners groups) (made_perms v found.node no_directory) ∙ found.holds;
       copy = λ s v is no_directory out. ap (λ (o : Option Node). has_perms mode owners groups (perms_in o)) out ∙ ap (has_perms mode owners groups) (made_perms v found.node no_directory) ∙ found.holds;
       perms = λ m os gs present is there out.
           ap (λ (o : Option Node). has_perms mode owners groups (perms_in o)) out
@@ -196,22 +238,26 @@ lacks_after : (change known : Change) (world : World) (r : List ℕ) → known �
 lacks_after change known world r is lacks out =
     ap (λ (o : Option Node). not (is_some o)) (stays_clear change world r (none_there (map.get world.nodes r) lacks) (ap (λ (c : Change). may_make c r) (sym is) ∙ out))
 
-lasts_delete : (r : List ℕ) (dirs : Bool) (later : Act) (world : World) (change : Change) → not (is_some (map.get world.nodes r)) ≡ true → decision later world ≡ Needs change → disturbs later (act.Delete r dirs) ≡ false → not (is_some (node_after change world r)) ≡ true
+lasts_delete : (r : List ℕ) (dirs : Bool) (later : Act) (world : World) (change : Change) → HasParents world.nodes → not (is_some (map.get world.nodes r)) ≡ true → decision later world ≡ Needs change → disturbs later (act.Delete r dirs) ≡ false → not (is_some (node_after change world r)) ≡ true
 unfolding disturbs
-lasts_delete r dirs (act.Create q) world change lacks e quiet = lacks_after change (PutFile q []) world r (create_needs q world change e).0 lacks quiet
-lasts_delete r dirs (act.MakeDir q) world change lacks e quiet = lacks_after change (PutDir q) world r (make_dir_needs q world change e).0 lacks quiet
-lasts_delete r dirs (act.Delete q ds) world change lacks e quiet = lacks_after change (Remove q) world r (delete_needs q ds world change e).0 lacks refl
-lasts_delete r dirs (act.Content q v) world change lacks e quiet = lacks_after change (PutFile q v) world r (content_needs q v world change e).0 lacks quiet
-lasts_delete r dirs (act.Copy s q) world change lacks e quiet =
+lasts_delete r dirs (act.Create q) world change parents lacks e quiet = lacks_after change (PutFile q []) world r (create_needs q world change e).0 lacks quiet
+lasts_delete r dirs (act.MakeDir q) world change parents lacks e quiet = lacks_after change (PutDir q) world r (make_dir_needs q world change e).0 lacks quiet
+lasts_delete r dirs (act.Delete q ds) world change parents lacks e quiet = lacks_after change (Remove q) world r (delete_needs q ds world change e).0 lacks refl
+lasts_delete r dirs (act.Content q v) world change parents lacks e quiet = lacks_after change (PutFile q v) world r (content_needs q v world change e).0 lacks quiet
+lasts_delete r dirs (act.Copy s q) world change parents lacks e quiet =
     let need = copy_needs s q world change e in lacks_after change (PutFile q need.bytes) world r need.put lacks quiet
-lasts_delete r dirs (act.Perms q mode owners groups) world change lacks e quiet =
+lasts_delete r dirs (act.Edit q t) world change parents lacks e quiet =
+    let need = edit_needs q t world change e in
+    ap (λ (c : Change). not (is_some (node_after c world r))) (sym need.put)
+    ∙ ap (λ (o : Option Node). not (is_some o)) (put_over world q r need.text (File need.bytes need.perms) parents need.there (none_there (map.get world.nodes r) lacks))
+lasts_delete r dirs (act.Perms q mode owners groups) world change parents lacks e quiet =
     let need = perms_needs q mode owners groups world change e in lacks_after change (SetPerms q (asked_perms mode owners groups need.present)) world r need.set lacks refl
-lasts_delete r dirs (act.Start name) world change lacks e quiet = let need = start_needs name world change e in lacks_after change (PutService name (with_running true need.row)) world r need.put lacks refl
-lasts_delete r dirs (act.Stop name) world change lacks e quiet = let need = stop_needs name world change e in lacks_after change (PutService name (with_running false need.row)) world r need.put lacks refl
-lasts_delete r dirs (act.Enable name) world change lacks e quiet = let need = enable_needs name world change e in lacks_after change (PutService name (with_enabled true need.row)) world r need.put lacks refl
-lasts_delete r dirs (act.Disable name) world change lacks e quiet = let need = disable_needs name world change e in lacks_after change (PutService name (with_enabled false need.row)) world r need.put lacks refl
-lasts_delete r dirs (act.Restart name) world change lacks e quiet = let need = restart_needs name world change e in lacks_after change (PutService name (restarted need.row)) world r need.put lacks refl
-lasts_delete r dirs (act.Bust reason) world change lacks e quiet = absurd (bust_needs reason world change e)
+lasts_delete r dirs (act.Start name) world change parents lacks e quiet = let need = start_needs name world change e in lacks_after change (PutService name (with_running true need.row)) world r need.put lacks refl
+lasts_delete r dirs (act.Stop name) world change parents lacks e quiet = let need = stop_needs name world change e in lacks_after change (PutService name (with_running false need.row)) world r need.put lacks refl
+lasts_delete r dirs (act.Enable name) world change parents lacks e quiet = let need = enable_needs name world change e in lacks_after change (PutService name (with_enabled true need.row)) world r need.put lacks refl
+lasts_delete r dirs (act.Disable name) world change parents lacks e quiet = let need = disable_needs name world change e in lacks_after change (PutService name (with_enabled false need.row)) world r need.put lacks refl
+lasts_delete r dirs (act.Restart name) world change parents lacks e quiet = let need = restart_needs name world change e in lacks_after change (PutService name (restarted need.row)) world r need.put lacks refl
+lasts_delete r dirs (act.Bust reason) world change parents lacks e quiet = absurd (bust_needs reason world change e)
 
 -- what another act may do to the row of a service
 abbrev row_after : Change → World → List ℕ → Option ServiceRow
@@ -249,6 +295,8 @@ row_meets (act.Delete q dirs) change world name row here e h = h.stays (same_row
 row_meets (act.Content q v) change world name row here e h = h.stays (same_rows change (PutFile q v) world name row (content_needs q v world change e).0 here refl)
 row_meets (act.Copy s q) change world name row here e h =
     let need = copy_needs s q world change e in h.stays (same_rows change (PutFile q need.bytes) world name row need.put here refl)
+row_meets (act.Edit q t) change world name row here e h =
+    let need = edit_needs q t world change e in h.stays (same_rows change (PutFile q need.text) world name row need.put here refl)
 row_meets (act.Perms q mode owners groups) change world name row here e h =
     let need = perms_needs q mode owners groups world change e in h.stays (same_rows change (SetPerms q (asked_perms mode owners groups need.present)) world name row need.set here refl)
 row_meets (act.Start other) change world name row here e h = row_by other (with_running true) change world name row here (start_needs other world change e) (λ is out. h.started (ap act.Start is) out) h.stays
@@ -319,17 +367,18 @@ lasts_disable name later world change holds e quiet =
       restarted_it = λ is out. ap (has_row (λ row. not row.enabled)) out ∙ found.passes;
     })
 
-pub lasting_post : NeededKeepsPost
+pub lasting_post : TextsTellScripts → NeededKeepsPost
 unfolding post
-lasting_post (act.Create r) later world change parents holds e quiet = lasts_create r later world change holds e quiet
-lasting_post (act.MakeDir r) later world change parents holds e quiet = lasts_make_dir r later world change holds e quiet
-lasting_post (act.Delete r dirs) later world change parents holds e quiet = lasts_delete r dirs later world change holds e quiet
-lasting_post (act.Content r v) later world change parents holds e quiet = lasts_content r v later world change holds e quiet
-lasting_post (act.Copy source path) later world change parents holds e quiet = lasts_copy source path later world change holds holds e quiet
-lasting_post (act.Perms r mode owners groups) later world change parents holds e quiet = lasts_perms r mode owners groups later world change holds e quiet
-lasting_post (act.Start name) later world change parents holds e quiet = lasts_start name later world change holds e quiet
-lasting_post (act.Stop name) later world change parents holds e quiet = lasts_stop name later world change holds e quiet
-lasting_post (act.Enable name) later world change parents holds e quiet = lasts_enable name later world change holds e quiet
-lasting_post (act.Disable name) later world change parents holds e quiet = lasts_disable name later world change holds e quiet
-lasting_post (act.Restart name) later world change parents holds e quiet = absurd (false≢true holds)
-lasting_post (act.Bust reason) later world change parents holds e quiet = absurd (false≢true holds)
+lasting_post tell (act.Create r) later world change are later_are parents holds e quiet = lasts_create r later world change holds e quiet
+lasting_post tell (act.MakeDir r) later world change are later_are parents holds e quiet = lasts_make_dir r later world change holds e quiet
+lasting_post tell (act.Delete r dirs) later world change are later_are parents holds e quiet = lasts_delete r dirs later world change parents holds e quiet
+lasting_post tell (act.Content r v) later world change are later_are parents holds e quiet = lasts_content r v later world change holds e quiet
+lasting_post tell (act.Copy source path) later world change are later_are parents holds e quiet = lasts_copy source path later world change holds holds e quiet
+lasting_post tell (act.Edit r script) later world change are later_are parents holds e quiet = lasts_edit r script later world change tell are later_are holds e quiet
+lasting_post tell (act.Perms r mode owners groups) later world change are later_are parents holds e quiet = lasts_perms r mode owners groups later world change holds e quiet
+lasting_post tell (act.Start name) later world change are later_are parents holds e quiet = lasts_start name later world change holds e quiet
+lasting_post tell (act.Stop name) later world change are later_are parents holds e quiet = lasts_stop name later world change holds e quiet
+lasting_post tell (act.Enable name) later world change are later_are parents holds e quiet = lasts_enable name later world change holds e quiet
+lasting_post tell (act.Disable name) later world change are later_are parents holds e quiet = lasts_disable name later world change holds e quiet
+lasting_post tell (act.Restart name) later world change are later_are parents holds e quiet = absurd (false≢true holds)
+lasting_post tell (act.Bust reason) later world change are later_are parents holds e quiet = absurd (false≢true holds)

@@ -5,3 +5,4 @@ pub mod Needs
 pub mod Posts
 pub mod Rows
 pub mod Seen
+pub mod Settled

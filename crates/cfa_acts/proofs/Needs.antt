@@ -1,7 +1,8 @@
 -- What is known where an act needs a change, and that the change fits.
 use Rattle.std.proofs.Common.{◌≡◌, ℕ, List, [], length, Bool, true, false, cond, Option, Some, None, is_some, IsTrue, refl, sym, ap, subst}
 use Rattle.std.proofs.lemmas.Bool.{false≢true}
-use Rattle.std.specs.Prelude.{nat_le, nat_eq, ◌-◌, ◌^◌}
+use Rattle.std.specs.Prelude.{nat_le, nat_eq, ◌-◌, ◌^◌, Result, Ok, Err}
+use Rattle.std.specs.Str.{is_utf8}
 use Rattle.std.specs.FinMap as map
 use Rattle.cfa_base.specs.declared.limits.TheConstants.{MOST_FILE_BYTES}
 use Rattle.cfa_outside.specs.declared.worlds.World.{World}
@@ -15,13 +16,18 @@ use Rattle.cfa_outside.specs.declared.sites.Change.{Change}
 use Rattle.cfa_outside.specs.declared.sites.Change.TheVariants.{PutFile, PutDir, Remove, SetPerms, PutService}
 use Rattle.cfa_outside.specs.Worlds.{is_file, is_directory, is_blocked, has_below, shows, look_at, bytes_in, perms_in, takes_file, takes_directory, is_removable}
 use Rattle.cfa_outside.specs.Sites.{look_of, fits}
+use Rattle.cfa_lines.specs.Decks.{lines_of, text_of}
+use Rattle.cfa_edits.specs.declared.edits.Edit.{Edit}
+use Rattle.cfa_edits.specs.declared.edits.EditErr.{EditErr}
+use Rattle.cfa_edits.specs.Edits.{Lines, edited}
 use Rattle.cfa_acts.specs.declared.acts.Act.{Act}
 use Rattle.cfa_acts.specs.declared.acts.Act.TheVariants as act
 use Rattle.cfa_acts.specs.declared.acts.Reason.{Reason}
-use Rattle.cfa_acts.specs.declared.acts.Reason.TheVariants.{Obstructed, TooLong, BadValue}
+use Rattle.cfa_acts.specs.declared.acts.Reason.TheVariants.{Obstructed, NotText, NonConvergent, TooLong, BadValue}
 use Rattle.cfa_acts.specs.declared.acts.Decision.{Decision}
 use Rattle.cfa_acts.specs.declared.acts.Decision.TheVariants.{Kept, Needs, Fail}
 use Rattle.cfa_acts.specs.Acts.{post, needed, decision, copies, is_deletable, asked_perms, sets_perms, puts_row, with_running, with_enabled, restarted, restarts}
+use Rattle.cfa_acts.specs.Settling.{is_short, leaves, puts_lines, edits}
 use Rattle.cfa_acts.specs.Laws.{KeptWherePostHolds, NeededFits}
 
 if_needs : (b : Bool) (one change : Change) (reason : Reason) → cond b (Needs one) (Fail reason) ≡ Needs change → (b ≡ true) × (one ≡ change)
@@ -106,6 +112,47 @@ pub takes_no_directory : (path : List ℕ) (world : World) → takes_file (look_
 unfolding look_at
 takes_no_directory path world is = no_directory_there (map.get world.nodes path) (is_blocked world.nodes path) (has_below world.nodes path) is
 
+pub record EditNeeds (path : List ℕ) (script : List Edit) (here : Option Node) (change : Change) : Type 0 where
+  pub bytes : List ℕ
+  pub perms : Perms
+  pub there : here ≡ Some (File bytes perms)
+  pub text : List ℕ
+  pub put : PutFile path text ≡ change
+  pub left : leaves script text ≡ true
+  pub short : is_short text ≡ true
+
+-- an edit of a file that needs a change
+module _ (path : List ℕ) (script : List Edit) (bytes : List ℕ) (perms : Perms) (change : Change) where
+  text_needs : (text : List ℕ) (l s : Bool) → leaves script text ≡ l → is_short text ≡ s → cond l (cond s (Needs (PutFile path text)) (Fail TooLong)) (Fail NonConvergent) ≡ Needs change → EditNeeds path script (Some (File bytes perms)) change
+  text_needs text true true left short e = record { bytes = bytes; perms = perms; there = refl; text = text; put = cc; left = left; short = short }
+  text_needs text true false left short e = cc
+  text_needs text false s left short e = cc
+
+  lines_needs : (made : Result Lines EditErr) → puts_lines path script made ≡ Needs change → EditNeeds path script (Some (File bytes perms)) change
+  lines_needs (Err refused) e = cc
+  lines_needs (Ok left) e = text_needs (text_of left) (leaves script (text_of left)) (is_short (text_of left)) refl refl e
+
+  file_needs : (s u : Bool) (made : Result Lines EditErr) → cond s (cond u (puts_lines path script made) (Fail NotText)) (Fail TooLong) ≡ Needs change → EditNeeds path script (Some (File bytes perms)) change
+  file_needs true true made e = lines_needs made e
+  file_needs true false made e = cc
+  file_needs false u made e = cc
+
+edits_needs : (path : List ℕ) (script : List Edit) (here : Option Node) (change : Change) → edits path script here ≡ Needs change → EditNeeds path script here change
+edits_needs path script (Some (File bytes perms)) change e = file_needs path script bytes perms change (is_short bytes) (is_utf8 bytes) (edited script (lines_of bytes)) e
+edits_needs path script (Some (Dir _)) change e = cc
+edits_needs path script None change e = cc
+
+pub edit_needs : (path : List ℕ) (script : List Edit) (world : World) (change : Change) → decision (act.Edit path script) world ≡ Needs change → EditNeeds path script (map.get world.nodes path) change
+unfolding needed
+edit_needs path script world change e = edits_needs path script (map.get world.nodes path) change (unmet (act.Edit path script) world change e).1
+
+file_taken : (here : Option Node) (bytes : List ℕ) (perms : Perms) (blocked below : Bool) → here ≡ Some (File bytes perms) → takes_file (shows here blocked below) ≡ true
+file_taken here bytes perms blocked below is = ap (λ (o : Option Node). takes_file (shows o blocked below)) is
+
+edit_taken : (path : List ℕ) (script : List Edit) (world : World) (change : Change) → EditNeeds path script (map.get world.nodes path) change → takes_file (look_of world path) ≡ true
+unfolding look_at
+edit_taken path script world change need = file_taken (map.get world.nodes path) need.bytes need.perms (is_blocked world.nodes path) (has_below world.nodes path) need.there
+
 pub record PermsNeeds (path : List ℕ) (mode : Option ℕ) (owners groups : List (List ℕ)) (here : Option Perms) (change : Change) : Type 0 where
   pub present : Perms
   pub there : here ≡ Some present
@@ -187,6 +234,8 @@ needed_fits (act.Content path bytes) world change e =
     let need = content_needs path bytes world change e in subst (λ (c : Change). IsTrue (fits c world)) need.0 need.1.1
 needed_fits (act.Copy source path) world change e =
     let need = copy_needs source path world change e in subst (λ (c : Change). IsTrue (fits c world)) need.put need.takes
+needed_fits (act.Edit path script) world change e =
+    let need = edit_needs path script world change e in subst (λ (c : Change). IsTrue (fits c world)) need.put (edit_taken path script world change need)
 needed_fits (act.Perms path mode owners groups) world change e =
     let need = perms_needs path mode owners groups world change e in
     subst (λ (c : Change). IsTrue (fits c world)) need.set (perms_there (map.get world.nodes path) need.present need.there)
@@ -228,6 +277,25 @@ never_kept (act.Copy source path) world e = by (map.get world.nodes source) e wh
 
   by : (here : Option Node) → copies path here (look_of world path) ≡ Kept → ⊥
   by (Some (File bytes _)) is = file (takes_file (look_of world path)) (nat_le (length bytes) MOST_FILE_BYTES) bytes is
+  by (Some (Dir _)) is = cc
+  by None is = cc
+never_kept (act.Edit path script) world e = by (map.get world.nodes path) e where
+  text : (t : List ℕ) (l s : Bool) → cond l (cond s (Needs (PutFile path t)) (Fail TooLong)) (Fail NonConvergent) ≡ Kept → ⊥
+  text t true true is = cc
+  text t true false is = cc
+  text t false s is = cc
+
+  lines : (made : Result Lines EditErr) → puts_lines path script made ≡ Kept → ⊥
+  lines (Err refused) is = cc
+  lines (Ok left) is = text (text_of left) (leaves script (text_of left)) (is_short (text_of left)) is
+
+  file : (s u : Bool) (made : Result Lines EditErr) → cond s (cond u (puts_lines path script made) (Fail NotText)) (Fail TooLong) ≡ Kept → ⊥
+  file true true made is = lines made is
+  file true false made is = cc
+  file false u made is = cc
+
+  by : (here : Option Node) → edits path script here ≡ Kept → ⊥
+  by (Some (File bytes _)) is = file (is_short bytes) (is_utf8 bytes) (edited script (lines_of bytes)) is
   by (Some (Dir _)) is = cc
   by None is = cc
 never_kept (act.Perms path mode owners groups) world e = by (perms_in (map.get world.nodes path)) e where

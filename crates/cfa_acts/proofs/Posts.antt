@@ -17,11 +17,13 @@ use Rattle.cfa_outside.specs.declared.sites.Change.{Change}
 use Rattle.cfa_outside.specs.declared.sites.Change.TheVariants.{PutFile, SetPerms, PutService}
 use Rattle.cfa_outside.specs.Worlds.{is_file, is_directory, file_with, with_perms, bytes_in, perms_in}
 use Rattle.cfa_outside.specs.Sites.{after_change}
+use Rattle.cfa_edits.specs.declared.edits.Edit.{Edit}
 use Rattle.cfa_acts.specs.declared.acts.Act.TheVariants as act
 use Rattle.cfa_acts.specs.Acts.{has_bytes, is_copied, is_listed, is_mode, are_perms, has_perms, has_row, post, listed_or_first, asked_perms, with_running, with_enabled}
 use Rattle.cfa_acts.specs.Disturbs.{modes_differ, lists_differ}
+use Rattle.cfa_acts.specs.Settling.{is_short, leaves as leaves_lines, is_settled}
 use Rattle.cfa_acts.specs.Laws.{NeededMakesPost}
-use Rattle.cfa_acts.proofs.Needs.{create_needs, make_dir_needs, delete_needs, content_needs, copy_needs, perms_needs, start_needs, stop_needs, enable_needs, disable_needs, bust_needs, RowNeeds}
+use Rattle.cfa_acts.proofs.Needs.{create_needs, make_dir_needs, delete_needs, content_needs, copy_needs, edit_needs, perms_needs, start_needs, stop_needs, enable_needs, disable_needs, bust_needs, RowNeeds}
 use Rattle.cfa_acts.proofs.Effects.{same, alike, or_false, leaves, put_there, directory_there, removed_there}
 
 or_right : (a b : Bool) → b ≡ true → (a || b) ≡ true
@@ -55,6 +57,15 @@ made_bytes bytes None = alike bytes
 pub made_perms : (bytes : List ℕ) (n : Node) → is_directory (Some n) ≡ false → perms_in (Some (file_with bytes (Some n))) ≡ perms_in (Some n)
 made_perms bytes (File _ _) is = refl
 made_perms bytes (Dir _) is = absurd (false≢true (sym is))
+
+pub made_settled : (script : List Edit) (text : List ℕ) (here : Option Node) → is_short text ≡ true → leaves_lines script text ≡ true → is_settled script (Some (file_with text here)) ≡ true
+made_settled script text (Some (File _ _)) short left = and_from (is_short text) (leaves_lines script text) short left
+made_settled script text (Some (Dir _)) short left = and_from (is_short text) (leaves_lines script text) short left
+made_settled script text None short left = and_from (is_short text) (leaves_lines script text) short left
+
+pub set_settled : (script : List Edit) (perms : Perms) (n : Node) → is_settled script (Some (with_perms perms n)) ≡ is_settled script (Some n)
+set_settled script perms (File _ _) = refl
+set_settled script perms (Dir _) = refl
 
 pub set_file : (perms : Perms) (n : Node) → is_file (Some (with_perms perms n)) ≡ is_file (Some n)
 set_file perms (File _ _) = refl
@@ -210,6 +221,10 @@ made_post (act.Content path bytes) world change lasts e =
 made_post (act.Copy source path) world change lasts e =
     let need = copy_needs source path world change e in
     subst (λ (c : Change). is_copied (map.get (after_change c world).nodes source) (map.get (after_change c world).nodes path) ≡ true) need.put (made_copy source path need.bytes world need.read need.short)
+made_post (act.Edit path script) world change lasts e =
+    let need = edit_needs path script world change e in
+    subst (λ (c : Change). is_settled script (map.get (after_change c world).nodes path) ≡ true) need.put
+    (ap (is_settled script) (put_there world path need.text) ∙ made_settled script need.text (map.get world.nodes path) need.short need.left)
 made_post (act.Perms path mode owners groups) world change lasts e =
     let need = perms_needs path mode owners groups world change e in
     subst (λ (c : Change). has_perms mode owners groups (perms_in (map.get (after_change c world).nodes path)) ≡ true) need.set

@@ -22,6 +22,7 @@ use Rattle.cfa_acts.specs.declared.acts.Reason.{Reason}
 use Rattle.cfa_acts.specs.declared.acts.Reason.TheVariants.{Missing, Obstructed, UnknownService, BadValue, TooLong, Fault}
 use Rattle.cfa_acts.specs.declared.acts.Decision.{Decision}
 use Rattle.cfa_acts.specs.declared.acts.Decision.TheVariants.{Kept, Needs, Fail}
+use Rattle.cfa_acts.specs.Settling.{is_settled, edits}
 
 -- a reason that an act has of itself: a fault comes from a failed call alone
 abbrev pub IsOwn : Reason → Type 0
@@ -82,6 +83,7 @@ post (act.Delete path _) world = not (map.contains_key world.nodes path)
 post (act.Content path bytes) world = has_bytes bytes (map.get world.nodes path)
 post (act.Copy source path) world =
     is_copied (map.get world.nodes source) (map.get world.nodes path)
+post (act.Edit path script) world = is_settled script (map.get world.nodes path)
 post (act.Perms path mode owners groups) world =
     has_perms mode owners groups (perms_in (map.get world.nodes path))
 post (act.Start name) world = has_row (λ row. row.running) (map.get world.services name)
@@ -167,6 +169,7 @@ needed (act.MakeDir path) world = puts_directory path (look_of world path)
 needed (act.Delete path with_directories) world = deletes path with_directories (look_of world path)
 needed (act.Content path bytes) world = puts_file path bytes (look_of world path)
 needed (act.Copy source path) world = copies path (map.get world.nodes source) (look_of world path)
+needed (act.Edit path script) world = edits path script (map.get world.nodes path)
 needed (act.Perms path mode owners groups) world =
     sets_perms path mode owners groups (perms_in (map.get world.nodes path))
 needed (act.Start name) world = puts_row name (with_running true) (map.get world.services name)

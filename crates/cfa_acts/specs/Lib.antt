@@ -4,3 +4,4 @@ pub mod Disturbs
 pub mod Laws
 pub mod Reasons
 pub mod Seeing
+pub mod Settling

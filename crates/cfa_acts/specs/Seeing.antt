@@ -1,6 +1,7 @@
 -- Of the code alone: what looking at a site answers, and what it leaves the site to show.
 use Rattle.std.specs.Prelude.{ℕ, List, [], ◌∷◌, Bool, true, false, ◌&&◌, ◌==◌, nat_le, if◌then◌else◌, Option, Some, None, IfSome, Result, Ok, Err}
 use Rattle.std.specs.Bool.{beq}
+use Rattle.std.specs.Str.{is_utf8}
 use Rattle.cfa_base.specs.declared.limits.TheConstants.{MOST_FILE_BYTES}
 use Rattle.cfa_base.specs.Shown.{Shown, Untouched, HasFailed, IsLeft}
 use Rattle.cfa_outside.specs.declared.sites.Entry.TheVariants.{Refused}
@@ -12,15 +13,20 @@ use Rattle.cfa_outside.specs.declared.worlds.ServiceRow.{ServiceRow}
 use Rattle.cfa_outside.specs.declared.worlds.World.{World}
 use Rattle.cfa_outside.specs.Worlds.{takes_file}
 use Rattle.cfa_outside.specs.Sites.{Told, adds}
+use Rattle.cfa_lines.specs.Decks.{lines_of}
+use Rattle.cfa_edits.specs.declared.edits.Edit.{Edit}
+use Rattle.cfa_edits.specs.declared.edits.EditErr.{EditErr}
+use Rattle.cfa_edits.specs.Edits.{Lines, edited}
 use Rattle.cfa_acts.specs.declared.seeing.SeeErr.{SeeErr}
 use Rattle.cfa_acts.specs.declared.seeing.SeeErr.TheVariants.{Failed, NoMemory}
 use Rattle.cfa_acts.specs.declared.acts.Act.{Act}
 use Rattle.cfa_acts.specs.declared.acts.Act.TheVariants.{Start, Stop, Enable, Disable}
 use Rattle.cfa_acts.specs.declared.acts.Reason.{Reason}
-use Rattle.cfa_acts.specs.declared.acts.Reason.TheVariants.{Missing, Obstructed, UnknownService, TooLong}
+use Rattle.cfa_acts.specs.declared.acts.Reason.TheVariants.{Missing, Obstructed, NotText, UnknownService, TooLong}
 use Rattle.cfa_acts.specs.declared.acts.Decision.{Decision}
 use Rattle.cfa_acts.specs.declared.acts.Decision.TheVariants.{Kept, Needs, Fail, Fault}
 use Rattle.cfa_acts.specs.Acts.{IsOwn, are_perms, asked_perms, with_running, with_enabled}
+use Rattle.cfa_acts.specs.Settling.{are_left, puts_lines}
 
 -- this holds of the world, where it is told
 abbrev pub OfWorld : (World → Type 0) → Shown Told → Type 0
@@ -86,6 +92,23 @@ copy_refusal (look.File size) target =
     if takes_file target
     then (if nat_le size MOST_FILE_BYTES then None else Some TooLong)
     else Some Obstructed
+
+-- why a file isn't edited, by what a look shows of it
+abbrev pub edit_refusal : Look → Option Reason
+edit_refusal look.Nothing = Some Missing
+edit_refusal look.Blocked = Some Missing
+edit_refusal (look.Dir _) = Some Obstructed
+edit_refusal (look.File size) = if nat_le size MOST_FILE_BYTES then None else Some TooLong
+
+-- by the lines of a text and what the edits made of them
+abbrev pub line_decision : List ℕ → List Edit → Lines → Result Lines EditErr → Decision
+line_decision path script lines made =
+    if are_left made lines then Kept else puts_lines path script made
+
+-- by the bytes of a file within the limit
+unfoldable pub edit_decision : List ℕ → List Edit → List ℕ → Decision
+edit_decision path script text =
+    if is_utf8 text then line_decision path script (lines_of text) (edited script (lines_of text)) else Fail NotText
 
 -- by the permissions of what stands at a path
 abbrev pub perms_decision : List ℕ → Option ℕ → (owners groups : List (List ℕ)) → Perms → Decision

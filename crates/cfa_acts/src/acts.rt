@@ -1,5 +1,6 @@
 // Acts, and what may come of them.
 use cfa_base::{Bytes, Name, Names};
+use cfa_edits::Script;
 use cfa_outside::{Call, Change, Path};
 
 /// One thing that a promise asks of a host. Each call on an act has `IsAct` of `specs/Acts.antt` for a condition: the bytes
@@ -16,6 +17,8 @@ pub enum Act {
     Content(Path, Bytes),
     /// The file at the first path, the source, stands with the same bytes at the second.
     Copy(Path, Path),
+    /// The file at the path is a text that the script leaves as it is.
+    Edit(Path, Script),
     /// What stands at the path has this mode, one of these owners and one of these groups. An empty list is one that
     /// isn't given.
     Perms(Path, Option<u16>, Names, Names),

@@ -4,6 +4,7 @@ ghost use Rattle.cfa_acts.specs.Acts.{IsAct, decision};
 ghost use Rattle.cfa_acts.specs.Decided.{Decides};
 ghost use Rattle.cfa_acts.specs.Seeing.{Sees, IsWhole};
 
+use crate::edits::decide_edit;
 use crate::files::{decide_content, decide_copy, decide_create, decide_delete, decide_make_dir};
 use crate::permissions::decide_perms;
 use crate::seeing::SeeErr;
@@ -40,6 +41,7 @@ fn find<S: Site>(alloc: Global, act: &Act, site: &mut S) -> Result<Decision, See
         Act::Delete(path, with_directories) => decide_delete(alloc, path, *with_directories, site),
         Act::Content(path, bytes) => decide_content(alloc, path, bytes, site),
         Act::Copy(source, path) => decide_copy(alloc, source, path, site),
+        Act::Edit(path, script) => decide_edit(alloc, path, script, site),
         Act::Perms(path, mode, owners, groups) => {
             decide_perms(alloc, path, *mode, owners, groups, site)
         }

@@ -1,39 +1,49 @@
 // Which act disturbs which.
-ghost use Rattle.std.specs.Prelude.{◌≡◌, Ok};
+ghost use Rattle.std.specs.Prelude.{◌≡◌, ◌&&◌, not, IfOk, OnErr};
 ghost use Rattle.std.specs.Cmp.Lexicographic.{pointwise};
 ghost use Rattle.std.specs.Str.{bytes_eq};
 ghost use Rattle.cfa_outside.specs.Worlds.{is_below};
 ghost use Rattle.cfa_acts.specs.Acts.{IsAct};
-ghost use Rattle.cfa_acts.specs.Disturbs.{is_at_or_beneath, puts_beneath, deletes, rewrites, breaks_copy, modes_differ, lists_differ, gives_other_perms, starts, stops, enables, disables, disturbs};
+ghost use Rattle.cfa_acts.specs.Disturbs.{is_at_or_beneath, puts_beneath, deletes, rewrites, breaks_copy, edits_otherwise, modes_differ, lists_differ, gives_other_perms, starts, stops, enables, disables, disturbs, AreEditAndContent};
+ghost use Rattle.cfa_acts.specs.Settling.{keeps_content};
 
 use crate::Act;
-use cfa_base::{Name, Names, NoMemory};
+use crate::edits::keeps_content;
+use cfa_base::{Bytes, Name, Names, NoMemory};
+use cfa_edits::Script;
 use cfa_outside::Path;
 use std::alloc::Global;
 
-/// Whether the later act may undo what the earlier one asks for. It takes no memory.
+/// Whether the later act may undo what the earlier one asks for. It takes no memory unless one of the two is an edit and the
+/// other a content.
 #[tactic(auto, unfolding(crate::specs::Disturbs::disturbs))]
-pub fn disturbs(_alloc: Global, later: &Act, earlier: &Act) -> Result<bool, NoMemory>
+pub fn disturbs(alloc: Global, later: &Act, earlier: &Act) -> Result<bool, NoMemory>
     requires later { IsAct later.now }
     requires earlier { IsAct earlier.now }
-    ensures { result ≡ Ok (disturbs later.now earlier.now) }
+    ensures exact { IfOk result (λ disturbed. disturbed ≡ disturbs later.now earlier.now) }
+    ensures memory { OnErr result (AreEditAndContent later.now earlier.now) }
 {
-    Ok(match earlier {
-        Act::Create(path) | Act::MakeDir(path) => deletes(path, later),
-        Act::Delete(path, _) => puts_beneath(path, later),
+    match earlier {
+        Act::Create(path) | Act::MakeDir(path) => Ok(deletes(path, later)),
+        Act::Delete(path, _) => Ok(puts_beneath(path, later)),
         Act::Content(path, bytes) => {
-            deletes(path, later) || rewrites(path, bytes.as_slice(), later)
+            let rewritten = rewrites(alloc, path, bytes, later)?;
+            Ok(deletes(path, later) || rewritten)
         }
-        Act::Copy(source, path) => breaks_copy(source, path, later),
+        Act::Copy(source, path) => Ok(breaks_copy(source, path, later)),
+        Act::Edit(path, script) => {
+            let edited = edits_otherwise(alloc, path, script, later)?;
+            Ok(deletes(path, later) || edited)
+        }
         Act::Perms(path, mode, owners, groups) => {
-            deletes(path, later) || gives_other_perms(path, *mode, owners, groups, later)
+            Ok(deletes(path, later) || gives_other_perms(path, *mode, owners, groups, later))
         }
-        Act::Start(name) => stops(name, later),
-        Act::Stop(name) => starts(name, later),
-        Act::Enable(name) => disables(name, later),
-        Act::Disable(name) => enables(name, later),
-        Act::Restart(_) | Act::Bust(_) => false,
-    })
+        Act::Start(name) => Ok(stops(name, later)),
+        Act::Stop(name) => Ok(starts(name, later)),
+        Act::Enable(name) => Ok(disables(name, later)),
+        Act::Disable(name) => Ok(enables(name, later)),
+        Act::Restart(_) | Act::Bust(_) => Ok(false),
+    }
 }
 
 fn is_same_path(path: &Path, other: &Path) -> bool
@@ -87,14 +97,54 @@ fn deletes(path: &Path, act: &Act) -> bool
     }
 }
 
-fn rewrites(path: &Path, bytes: &[u8], act: &Act) -> bool
-    ensures { result ≡ rewrites path.now bytes.now act.now }
+fn rewrites(alloc: Global, path: &Path, bytes: &Bytes, act: &Act) -> Result<bool, NoMemory>
+    ensures exact { IfOk result (λ yes. yes ≡ rewrites path.now bytes.now act.now) }
+    ensures memory { OnErr result (AreEditAndContent act.now (Act.Content path.now bytes.now)) }
 {
     match act {
-        Act::Content(other, content) => is_same_path(path, other) && bytes != content.as_slice(),
-        Act::Copy(_, other) => is_same_path(path, other),
-        _ => false,
+        Act::Content(other, content) => {
+            Ok(is_same_path(path, other) && bytes.as_slice() != content.as_slice())
+        }
+        Act::Copy(_, other) => Ok(is_same_path(path, other)),
+        Act::Edit(other, script) => changes_content(alloc, path, other, script, bytes),
+        _ => Ok(false),
     }
+}
+
+fn edits_otherwise(
+    alloc: Global,
+    path: &Path,
+    script: &Script,
+    act: &Act,
+) -> Result<bool, NoMemory>
+    ensures exact { IfOk result (λ yes. yes ≡ edits_otherwise path.now script.now act.now) }
+    ensures memory { OnErr result (AreEditAndContent act.now (Act.Edit path.now script.now)) }
+{
+    match act {
+        Act::Content(other, content) => changes_content(alloc, path, other, script, content),
+        Act::Copy(_, other) => Ok(is_same_path(path, other)),
+        Act::Edit(other, others) => {
+            Ok(is_same_path(path, other) && !is_same_name(script.text(), others.text()))
+        }
+        _ => Ok(false),
+    }
+}
+
+// Whether the paths are one, and the script changes the content.
+fn changes_content(
+    alloc: Global,
+    path: &Path,
+    other: &Path,
+    script: &Script,
+    content: &Bytes,
+) -> Result<bool, NoMemory>
+    ensures { IfOk result (λ yes. yes
+        ≡ (bytes_eq path.now other.now && not (keeps_content script.now content.now))) }
+{
+    if !is_same_path(path, other) {
+        return Ok(false);
+    }
+    Ok(!keeps_content(alloc, script, content.as_slice())?)
 }
 
 fn breaks_copy(source: &Path, path: &Path, act: &Act) -> bool
@@ -108,6 +158,7 @@ fn breaks_copy(source: &Path, path: &Path, act: &Act) -> bool
             (is_same_path(source, other) || is_same_path(path, other))
                 && !(is_same_path(source, from) && is_same_path(path, other))
         }
+        Act::Edit(other, _) => is_same_path(source, other) || is_same_path(path, other),
         _ => false,
     }
 }
@@ -128,7 +179,8 @@ fn lists_differ(names: &Names, others: &Names) -> bool
     !names.is_empty() && !others.is_empty() && !are_same_names(names, others)
 }
 
-fn are_same_names(names: &[Name], others: &[Name]) -> bool
+/// Whether the lists have equal texts.
+pub fn are_same_names(names: &[Name], others: &[Name]) -> bool
     ensures { result ≡ pointwise bytes_eq names.now others.now }
 {
     if names.len() != others.len() {

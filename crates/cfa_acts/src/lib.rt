@@ -5,6 +5,7 @@
 mod acts;
 mod deciding;
 mod disturbing;
+mod edits;
 mod files;
 mod laws;
 mod permissions;
@@ -16,5 +17,6 @@ pub use acts::{Act, Decision, Reason};
 pub use deciding::decide;
 pub use disturbing::disturbs;
 pub use laws::{
-    kept_where_post_holds, needed_change_fits, needed_change_keeps_post, needed_change_makes_post,
+    has_script, kept_where_post_holds, needed_change_fits, needed_change_keeps_post,
+    needed_change_makes_post, settles_as_lines,
 };

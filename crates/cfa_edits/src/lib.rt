@@ -6,7 +6,9 @@ mod fields;
 mod inserting;
 mod lining;
 mod scripts;
+mod texts;
 mod writing;
 
 pub use edits::{Edit, EditErr, Edits, Spot};
-pub use scripts::Script;
+pub use scripts::{Script, texts_tell_scripts};
+pub use texts::{join_lines, split_lines};

@@ -12,6 +12,7 @@ use crate::{Edit, EditErr, Edits};
 use cfa_base::{Name, Names, NoMemory};
 use cfa_lines::Deck;
 use std::alloc::Global;
+use std::fmt;
 use std::marker::Model;
 
 /// Edits of the lines of a text, deletes first, then field edits, inserts and replaces, with their text. Contracts see the
@@ -32,6 +33,12 @@ impl Model for Script {
     ghost view = { λ s. s.edits };
 
     ghost invariant = { λ s. AreEdits s.edits × (s.text ≡ script_text s.edits) };
+}
+
+impl fmt::Debug for Script {
+    fn fmt<W: fmt::Write>(&self, f: &mut fmt::Formatter<W>) -> fmt::Result {
+        f.write_str(self.text.as_str())
+    }
 }
 
 impl Script {

@@ -1,13 +1,16 @@
 // Each act on each kind of node and service of a site in memory, by the rules on acts. A table is a text, each line of
 // which is an act, `=>`, and what is decided.
-ghost use Rattle.std.specs.Prelude.{IfOk};
+ghost use Rattle.std.specs.Prelude.{◌≡◌, [], ◌∷◌, IfOk};
+ghost use Rattle.cfa_base.specs.declared.patterns.How.TheVariants.{Whole, Part};
+ghost use Rattle.cfa_edits.specs.Scripts.{IsEdit, IsOneLine};
 ghost use Rattle.cfa_acts.specs.Acts.{IsAct};
 
 use cfa_acts::{
-    Act, Decision, Reason, decide, disturbs, kept_where_post_holds, needed_change_fits,
-    needed_change_keeps_post, needed_change_makes_post,
+    Act, Decision, Reason, decide, disturbs, has_script, kept_where_post_holds, needed_change_fits,
+    needed_change_keeps_post, needed_change_makes_post, settles_as_lines,
 };
-use cfa_base::{Bytes, MOST_FILE_BYTES, Name, Names};
+use cfa_base::{Bytes, How, MOST_FILE_BYTES, Name, Names, Pattern, escape};
+use cfa_edits::{Edit, Edits, Script, Spot};
 use cfa_outside::{Change, MemorySite, Node, Path, Perms, ServiceRow, World};
 use std::alloc::Global;
 use std::process::Abort;
@@ -35,15 +38,23 @@ fn add_file(alloc: Global, world: &mut World, text: &str, bytes: &[u8]) -> Resul
     Ok(world.nodes.add(alloc, &path_of(alloc, text)?, file)?)
 }
 
-// The files `/d/f` and `/f` with an `x`, `/g` with a `y`, the empty directory `/e`, and three services. Calls of that
-// number fail.
+// The files `/d/f` and `/f` with an `x`, `/g` with a `y`, three files to edit and one that is no text, the empty directory
+// `/e`, and three services. Calls of that number fail.
 fn site_of(alloc: Global, failing_call: u32) -> Result<MemorySite, Fail> {
     let mut world = World::new(alloc);
     add_dir(alloc, &mut world, "/d")?;
     add_file(alloc, &mut world, "/d/f", b"x")?;
     add_dir(alloc, &mut world, "/e")?;
-    add_file(alloc, &mut world, "/f", b"x")?;
-    add_file(alloc, &mut world, "/g", b"y")?;
+    for (path, text) in [
+        ("/f", "x"),
+        ("/g", "y"),
+        ("/a", "a\n"),
+        ("/p", "root:x:0\n"),
+        ("/q", "root:*:0\n"),
+    ] {
+        add_file(alloc, &mut world, path, text.as_bytes())?;
+    }
+    add_file(alloc, &mut world, "/raw", &[0xff])?;
     for (name, running, enabled, restarts) in [
         ("on", true, true, 3),
         ("off", false, false, 0),
@@ -103,6 +114,56 @@ fn content_act(rt: &impl Abort, alloc: Global, path: &str, text: &str) -> Result
     Ok(Act::Content(path_of(alloc, path)?, bytes))
 }
 
+fn pattern_of(alloc: Global, text: &str, how: How) -> Result<Pattern, Fail>
+    ensures { IfOk result (λ pattern. pattern.how ≡ how) }
+{
+    let text = Name::from_text(alloc, text)?;
+    Ok(Pattern::new(alloc, &text, how)?)
+}
+
+fn value_of(alloc: Global, text: &str) -> Result<Name, Fail>
+    ensures { IfOk result IsOneLine }
+{
+    Ok(match text {
+        "aa" => Name::from_text(alloc, "aa")?,
+        "x" => Name::from_text(alloc, "x")?,
+        "y" => Name::from_text(alloc, "y")?,
+        _ => Name::from_text(alloc, "*")?,
+    })
+}
+
+// The value at the end, before a line `c`, in a field of each line, or for each `a`.
+fn edit_of(alloc: Global, word: &str, value: Name) -> Result<Edit, Fail>
+    requires { IsOneLine value }
+    ensures { IfOk result IsEdit }
+{
+    Ok(match word {
+        "second" => Edit::Field(pattern_of(alloc, ".*", How::Whole)?, ':', 2, value),
+        "fourth" => Edit::Field(pattern_of(alloc, ".*", How::Whole)?, ':', 4, value),
+        "replace" => Edit::Replace(pattern_of(alloc, "a", How::Part)?, value, true),
+        "before" => {
+            let anchor = pattern_of(alloc, "c", How::Whole)?;
+            Edit::Insert(block_of(alloc, value)?, Spot::Before(anchor, true))
+        }
+        _ => Edit::Insert(block_of(alloc, value)?, Spot::End),
+    })
+}
+
+fn block_of(alloc: Global, line: Name) -> Result<Names, Fail>
+    ensures { IfOk result (λ block. block ≡ line ∷ []) }
+{
+    let mut block = Names::new(alloc);
+    block.push(line)?;
+    Ok(block)
+}
+
+fn script_of(rt: &impl Abort, alloc: Global, text: &str) -> Result<Script, Fail> {
+    let (word, value) = pair(rt, text, " ");
+    let mut edits = Vec::new(alloc);
+    edits.push(edit_of(alloc, word, value_of(alloc, value)?)?)?;
+    Ok(Script::new(alloc, Edits::from_vec(edits))?)
+}
+
 fn act_of(rt: &impl Abort, alloc: Global, text: &str) -> Result<Act, Fail>
     ensures { IfOk result IsAct }
 {
@@ -120,6 +181,10 @@ fn act_of(rt: &impl Abort, alloc: Global, text: &str) -> Result<Act, Fail>
             let (source, path) = pair(rt, rest, " ");
             Act::Copy(path_of(alloc, source)?, path_of(alloc, path)?)
         }
+        "edit" => {
+            let (path, script) = pair(rt, rest, " ");
+            Act::Edit(path_of(alloc, path)?, script_of(rt, alloc, script)?)
+        }
         "perms" => perms_act(rt, alloc, rest)?,
         "start" => Act::Start(Name::from_text(alloc, rest)?),
         "stop" => Act::Stop(Name::from_text(alloc, rest)?),
@@ -130,11 +195,19 @@ fn act_of(rt: &impl Abort, alloc: Global, text: &str) -> Result<Act, Fail>
     })
 }
 
+// A text as an escaped field.
+fn told_bytes(alloc: Global, bytes: &Bytes) -> Result<Name, Fail> {
+    match str::from_utf8(bytes.as_slice()) {
+        Ok(text) => Ok(escape(alloc, &Name::from_text(alloc, text)?)?),
+        Err(_) => Ok(Name::from_text(alloc, "no text")?),
+    }
+}
+
 fn told_change(alloc: Global, change: &Change) -> Result<String, Fail> {
     Ok(match change {
         Change::PutFile(path, bytes) => {
-            let (path, size) = (path.text().as_str(), bytes.as_slice().len());
-            format!(in alloc; "put {path} {size}")?
+            let (path, text) = (path.text().as_str(), told_bytes(alloc, bytes)?);
+            format!(in alloc; "put {path} '{}'", text.as_str())?
         }
         Change::PutDir(path) => format!(in alloc; "dir {}", path.text().as_str())?,
         Change::Remove(path) => format!(in alloc; "remove {}", path.text().as_str())?,
@@ -161,13 +234,24 @@ fn told(alloc: Global, decision: &Decision) -> Result<String, Fail> {
     })
 }
 
+fn told_of(alloc: Global, failing_call: u32, act: &Act) -> Result<String, Fail>
+    requires { IsAct act.now }
+{
+    let mut site = site_of(alloc, failing_call)?;
+    let decision = decide(alloc, act, &mut site)?;
+    told(alloc, &decision)
+}
+
+fn decided(rt: &impl Abort, alloc: Global, failing_call: u32, text: &str) -> Result<String, Fail> {
+    let act = act_of(rt, alloc, text)?;
+    told_of(alloc, failing_call, &act)
+}
+
 fn compare(rt: &impl Abort, alloc: Global, failing_call: u32, table: &str) -> Result<(), Fail> {
     for row in table.lines() {
         let (text, expected) = pair(rt, row, " => ");
-        let act = act_of(rt, alloc, text)?;
-        let mut site = site_of(alloc, failing_call)?;
-        let decision = decide(alloc, &act, &mut site)?;
-        assert_eq!(rt; told(alloc, &decision)?.as_str(), expected, "{text}");
+        let told = decided(rt, alloc, failing_call, text)?;
+        assert_eq!(rt; told.as_str(), expected, "{text}");
     }
     Ok(())
 }
@@ -175,8 +259,8 @@ fn compare(rt: &impl Abort, alloc: Global, failing_call: u32, table: &str) -> Re
 const NODES: &str = "create /f => kept
 create /e => F3
 create /f/n => F3
-create /n => put /n 0
-create /n/m => put /n/m 0
+create /n => put /n ''
+create /n/m => put /n/m ''
 mkdir /f => F3
 mkdir /e => kept
 mkdir /f/n => F3
@@ -191,14 +275,14 @@ rmdir /e => remove /e
 rmdir /d => F3
 rmdir /n => kept
 content /f x => kept
-content /f y => put /f 1
-content /f xx => put /f 2
+content /f y => put /f 'y'
+content /f xx => put /f 'xx'
 content /e x => F3
 content /f/n x => F3
-content /n x => put /n 1
+content /n x => put /n 'x'
 copy /f /d/f => kept
-copy /f /g => put /g 1
-copy /f /n => put /n 1
+copy /f /g => put /g 'x'
+copy /f /n => put /n 'x'
 copy /n /f => F2
 copy /f/n /e => F2
 copy /d /f => F3
@@ -211,6 +295,20 @@ perms /e * * adm => set /e 448 ann adm
 perms /n * * * => F2
 perms /f/n 700 * * => F2
 bust it => F10";
+
+const EDITS: &str = "edit /f insert x => kept
+edit /f insert y => put /f 'x%0Ay%0A'
+edit /a replace aa => F5
+edit /a replace x => put /a 'x%0A'
+edit /p second * => put /p 'root%3A%2A%3A0%0A'
+edit /q second * => kept
+edit /p fourth * => F7
+edit /f before y => F6
+edit /f before x => kept
+edit /raw insert x => F4
+edit /e insert x => F3
+edit /n insert x => F2
+edit /f/n insert x => F2";
 
 const SERVICES: &str = "start on => kept
 start off => row off true false 0
@@ -235,6 +333,11 @@ fn decides_on_nodes(rt: HostRuntime) -> Result<(), Fail> {
 }
 
 #[test]
+fn decides_on_lines(rt: HostRuntime) -> Result<(), Fail> {
+    compare(&rt, rt.alloc(), 0, EDITS)
+}
+
+#[test]
 fn decides_on_services(rt: HostRuntime) -> Result<(), Fail> {
     compare(&rt, rt.alloc(), 0, SERVICES)
 }
@@ -247,8 +350,60 @@ fn tells_the_call_that_failed(rt: HostRuntime) -> Result<(), Fail> {
         &rt,
         rt.alloc(),
         2,
-        "perms /f * * * => fault Perms\ncontent /f x => fault Read",
+        "perms /f * * * => fault Perms\ncontent /f x => fault Read\nedit /f insert x => fault Read",
     )
+}
+
+const DISTURBING: &str = "create /d/n after delete /d
+content /f y after content /f x
+copy /g /f after copy /f /g
+perms /f 644 * * after perms /f 700 * *
+edit /f insert y after content /f x
+edit /f before y after content /f x
+content /f y after edit /f insert x
+edit /f insert y after edit /f insert x
+edit /f insert x after copy /f /g
+edit /g insert x after copy /f /g
+copy /g /f after edit /f insert x
+delete /f after edit /f insert x
+restart on after stop on";
+
+const QUIET: &str = "create /dn after delete /d
+content /f x after content /f x
+copy /f /g after copy /f /g
+perms /f * a,b * after perms /f 700 a,b *
+edit /f insert x after content /f x
+edit /g insert y after content /f x
+content /f x after edit /f insert x
+edit /f insert x after edit /f insert x
+edit /g insert y after edit /f insert x
+copy /f /g after edit /f insert x
+perms /f 644 * * after edit /f insert x
+edit /f insert x after delete /f
+edit /f insert x after create /f
+restart on after start on";
+
+fn is_disturbed(rt: &impl Abort, alloc: Global, later: &Act, text: &str) -> Result<bool, Fail>
+    requires { IsAct later.now }
+{
+    let earlier = act_of(rt, alloc, text)?;
+    Ok(disturbs(alloc, later, &earlier)?)
+}
+
+fn tests_as_disturbed(rt: &impl Abort, alloc: Global, row: &str) -> Result<bool, Fail> {
+    let (later, earlier) = pair(rt, row, " after ");
+    let later = act_of(rt, alloc, later)?;
+    has_script(&later);
+    is_disturbed(rt, alloc, &later, earlier)
+}
+
+// Whether each later act of a table disturbs the earlier one, or none does.
+fn compare_pairs(rt: &impl Abort, alloc: Global, table: &str, expected: bool) -> Result<(), Fail> {
+    for row in table.lines() {
+        let disturbed = tests_as_disturbed(rt, alloc, row)?;
+        assert!(rt; disturbed == expected, "{row}");
+    }
+    Ok(())
 }
 
 #[test]
@@ -258,21 +413,27 @@ fn tells_what_disturbs(rt: HostRuntime) -> Result<(), Fail> {
     needed_change_fits();
     needed_change_makes_post();
     needed_change_keeps_post();
-    for (later, earlier, expected) in [
-        ("create /d/n", "delete /d", true),
-        ("create /dn", "delete /d", false),
-        ("content /f y", "content /f x", true),
-        ("content /f x", "content /f x", false),
-        ("copy /f /g", "copy /f /g", false),
-        ("copy /g /f", "copy /f /g", true),
-        ("perms /f 644 * *", "perms /f 700 * *", true),
-        ("perms /f * a,b *", "perms /f 700 a,b *", false),
-        ("restart on", "stop on", true),
-        ("restart on", "start on", false),
-    ] {
-        let (later_act, earlier_act) = (act_of(&rt, alloc, later)?, act_of(&rt, alloc, earlier)?);
-        let disturbs = disturbs(alloc, &later_act, &earlier_act)?;
-        assert!(&rt; disturbs == expected, "{later} after {earlier}");
-    }
+    settles_as_lines();
+    compare_pairs(&rt, alloc, DISTURBING, true)?;
+    compare_pairs(&rt, alloc, QUIET, false)
+}
+
+fn filled(alloc: Global, size: usize) -> Result<String, Fail> {
+    Ok(String::from_utf8(vec![in alloc; b'x'; size]?)?)
+}
+
+fn tests_as_changed(rt: &impl Abort, alloc: Global, text: &str) -> Result<bool, Fail> {
+    let content = content_act(rt, alloc, "/f", text)?;
+    is_disturbed(rt, alloc, &content, "edit /f replace y")
+}
+
+// A text of the limit of a file: a newline behind it would be one byte too much.
+#[test]
+fn counts_lines_over_the_limit_as_changed(rt: HostRuntime) -> Result<(), Fail> {
+    let alloc = rt.alloc();
+    let full = filled(alloc, MOST_FILE_BYTES)?;
+    assert!(&rt; tests_as_changed(&rt, alloc, full.as_str())?);
+    let shorter = filled(alloc, MOST_FILE_BYTES - 1)?;
+    assert!(&rt; !tests_as_changed(&rt, alloc, shorter.as_str())?);
     Ok(())
 }
