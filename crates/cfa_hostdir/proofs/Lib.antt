@@ -1,0 +1,4 @@
+pub mod FieldLemmas
+pub mod ModeLemmas
+pub mod RowLemmas
+pub mod TableLemmas
