@@ -2,3 +2,4 @@ pub mod FieldLemmas
 pub mod ModeLemmas
 pub mod RowLemmas
 pub mod TableLemmas
+pub mod RowChangeLemmas

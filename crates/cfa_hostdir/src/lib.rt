@@ -5,6 +5,7 @@ mod errors;
 mod fields;
 mod laws;
 mod modes;
+mod row_changes;
 mod rows;
 mod tables;
 
