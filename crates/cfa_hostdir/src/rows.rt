@@ -14,10 +14,7 @@ use cfa_rows::{append_number, cut, read_number};
 use std::alloc::Global;
 
 /// The row of a service that a line is.
-pub fn read_service_row(
-    alloc: Global,
-    line: &[u8],
-) -> Result<Option<(Name, ServiceRow)>, NoMemory>
+pub fn read_service_row(alloc: Global, line: &[u8]) -> Result<Option<(Name, ServiceRow)>, NoMemory>
     ensures { IfOk result (Reads service_text IsServiceRow line.now) }
 {
     let Some((name, running, enabled, restarts)) = cut_in_four(line) else {
@@ -92,8 +89,16 @@ pub fn append_service_row(
     ensures { OnOk result (bytes.new ≡ bytes.old ++ service_text (name.now, row)) }
 {
     append_text(alloc, bytes, name)?;
-    bytes.append(if row.running { b" running" } else { b" stopped" })?;
-    bytes.append(if row.enabled { b" enabled " } else { b" disabled " })?;
+    bytes.append(if row.running {
+        b" running"
+    } else {
+        b" stopped"
+    })?;
+    bytes.append(if row.enabled {
+        b" enabled "
+    } else {
+        b" disabled "
+    })?;
     append_number(alloc, bytes, u64::from(row.restarts))
 }
 

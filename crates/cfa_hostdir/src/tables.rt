@@ -23,8 +23,8 @@ fn is_above(last: &str, key: &str) -> bool
     last.cmp(key) == Ordering::Less
 }
 
-// How rows of services are written as lines.
-struct Services;
+/// How rows of services are written as lines.
+pub struct Services;
 
 impl Format for Services {
     type Row = (Name, ServiceRow);
@@ -56,8 +56,8 @@ impl Format for Services {
     }
 }
 
-// How rows of permissions are written as lines.
-struct Permissions;
+/// How rows of permissions are written as lines.
+pub struct Permissions;
 
 impl Format for Permissions {
     type Row = (Path, Perms);
@@ -91,8 +91,8 @@ impl Format for Permissions {
     }
 }
 
-// How rows of locks are written as lines.
-struct Locks;
+/// How rows of locks are written as lines.
+pub struct Locks;
 
 impl Format for Locks {
     type Row = (Key, u64);
