@@ -1,19 +1,9 @@
-// Why tables can't be read, and why a step on the folder of a host gave no answer.
+// Why a step on the folder of a host gave no answer.
 use cfa_base as base;
 use cfa_rows::RowsErr;
+use cfa_tables::TableErr;
 use std::alloc::{AllocError, AllocFailed};
 use std::io;
-use thiserror::Error;
-
-/// Why bytes can't be read as a table.
-#[derive(Clone, Copy, Debug, PartialEq, Eq, Error)]
-pub enum TableErr {
-    /// A line, by its number from 1, is no row, or its key isn't above the one before; those before it are rows.
-    #[error("line {0} is no row in its place")]
-    BadTable(u64),
-    #[error("out of memory")]
-    NoMemory,
-}
 
 /// Why a step on the folder of a host gave no answer.
 #[derive(Clone, Copy, Debug, PartialEq, Eq)]

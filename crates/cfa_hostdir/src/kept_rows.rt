@@ -1,11 +1,12 @@
 // The tables of a host in memory.
 use crate::errors::HostErr;
 use crate::layout::Table;
-use crate::row_changes::RowChange;
-use crate::tables::{Locks, Permissions, Services, read_locks, read_perms, read_services};
 use cfa_base::{Bytes, Key, Name, NoMemory};
 use cfa_outside::{Path, Perms, ServiceRow};
 use cfa_rows::Format;
+use cfa_tables::{
+    Locks, Permissions, RowChange, Services, read_locks, read_perms, read_services,
+};
 use std::alloc::{AllocFailed, Global};
 use std::collections::BTreeMap;
 
