@@ -13,14 +13,16 @@ use Rattle.std.specs.Fmt.{decimal}
 use Rattle.std.specs.List.{list_all}
 use Rattle.std.specs.Prelude.{if◌then◌else◌}
 use Rattle.std.specs.Str.{bytes_eq, IsUtf8}
-use Rattle.cfa_base.specs.Keys.{is_key, is_hex_digit}
+use Rattle.cfa_base.specs.Keys.{is_key}
 use Rattle.cfa_base.specs.Lexing.{is_word, is_word_byte}
 use Rattle.cfa_base.specs.declared.places.PromiseId.{PromiseId}
 use Rattle.cfa_rows.specs.Cuts.{Lacks, IsCut}
 use Rattle.cfa_rows.specs.lemmas.Cuts.{one_cut, no_cut, Lacks-from_test, Lacks-append, Lacks-cons, texts_differ}
 use Rattle.cfa_rows.specs.lemmas.Numbers.{decimal-lacks}
+use Rattle.cfa_rows.specs.lemmas.Keys.{key-lacks}
 use Rattle.cfa_rows.specs.lemmas.Rows.{TellsRows}
-use Rattle.cfa_journal.specs.Records.{IsCount, IsMoment, IsReason, IsId, IsRecord, id_text, reason_text, ◌then◌, word_of, fields_of, record_text, Follows}
+use Rattle.cfa_rows.specs.Rows.{◌then◌}
+use Rattle.cfa_journal.specs.Records.{IsCount, IsMoment, IsReason, IsId, IsRecord, id_text, reason_text, word_of, fields_of, record_text, Follows}
 use Rattle.cfa_journal.specs.declared.records.Record.{Record}
 use Rattle.cfa_journal.specs.declared.records.Record.TheVariants.{Run, Open, Repaired, Failed, Fail}
 
@@ -56,15 +58,6 @@ words-lack byte (b ∷ bs) other all =
 pub word-lacks : (byte : ℕ) (text : List ℕ) → is_word_byte byte ≡ false → is_word text ≡ true → Lacks byte text
 word-lacks byte [] other word = Lacks-from_test byte [] refl
 word-lacks byte (b ∷ bs) other word = words-lack byte (b ∷ bs) other word
-
-hex_digits-lack : (byte : ℕ) (text : List ℕ) → is_hex_digit byte ≡ false → list_all is_hex_digit text ≡ true → Lacks byte text
-hex_digits-lack byte [] other all = Lacks-from_test byte [] refl
-hex_digits-lack byte (b ∷ bs) other all =
-    let parts = and_parts (is_hex_digit b) (list_all is_hex_digit bs) all in
-    Lacks-cons byte b bs (λ same. both_ways (is_hex_digit byte) other (sym (ap is_hex_digit same) ∙ parts.0)) (hex_digits-lack byte bs other parts.1)
-
-pub key-lacks : (byte : ℕ) (key : List ℕ) → is_hex_digit byte ≡ false → is_key key ≡ true → Lacks byte key
-key-lacks byte key other is = hex_digits-lack byte key other (and_parts (length key == 64) (list_all is_hex_digit key) is).1
 
 -- Ids.
 

@@ -6,6 +6,7 @@ use Rattle.cfa_base.specs.Keys.{is_key}
 use Rattle.cfa_base.specs.Lexing.{is_word}
 use Rattle.cfa_base.specs.declared.places.PromiseId.{PromiseId}
 use Rattle.cfa_base.specs.declared.limits.TheConstants.{LAST_MOMENT}
+use Rattle.cfa_rows.specs.Rows.{◌then◌}
 use Rattle.cfa_journal.specs.declared.records.Record.{Record}
 use Rattle.cfa_journal.specs.declared.records.Record.TheVariants.{Run, Open, Repaired, Failed, Fail}
 
@@ -42,11 +43,6 @@ id_text id = id.bundle ++ 58 ∷ (decimal id.number ++ 64 ∷ decimal id.line)
 -- `F1` to `F13`
 abbrev pub reason_text : ℕ → List ℕ
 reason_text reason = 70 ∷ decimal reason
-
--- two fields with a space between them
-infixr 64 ◌then◌
-abbrev pub ◌then◌ : List ℕ → List ℕ → List ℕ
-front then rest = front ++ 32 ∷ rest
 
 -- the word that a record begins with
 abbrev pub word_of : Record → List ℕ

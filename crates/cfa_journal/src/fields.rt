@@ -1,7 +1,6 @@
 // The fields of records, read and written.
 ghost use Rattle.std.specs.Prelude.{◌≡◌, ◌++◌, IfOk, OnOk};
 ghost use Rattle.std.specs.Fmt.{decimal};
-ghost use Rattle.std.specs.Str.{bytes_eq};
 ghost use Rattle.cfa_rows.specs.Rows.{Reads};
 ghost use Rattle.cfa_journal.specs.Records.{IsCount, IsMoment, IsReason, IsId, id_text, reason_text};
 
@@ -9,12 +8,6 @@ use cfa_base::{Bytes, LAST_MOMENT, Name, NoMemory, PromiseId, is_word};
 use cfa_rows::{append_number, cut, read_number};
 use std::alloc::Global;
 use std::str;
-
-pub fn is_text(text: &[u8], word: &str) -> bool
-    ensures { result ≡ bytes_eq text.now word.now }
-{
-    text == word.as_bytes()
-}
 
 pub fn read_count(text: &[u8]) -> Option<u32>
     ensures { Reads decimal IsCount text.now result }

@@ -1,15 +1,15 @@
 // Records, read and written as lines without their newline.
 ghost use Rattle.std.specs.Prelude.{◌≡◌, ◌++◌, IfOk, OnOk, [], codes};
 ghost use Rattle.std.specs.Fmt.{decimal};
-ghost use Rattle.cfa_rows.specs.Rows.{Reads};
-ghost use Rattle.cfa_journal.specs.Records.{IsRecord, IsCount, record_text, ◌then◌};
+ghost use Rattle.cfa_rows.specs.Rows.{Reads, ◌then◌};
+ghost use Rattle.cfa_journal.specs.Records.{IsRecord, IsCount, record_text};
 
 use crate::Record;
 use crate::fields::{
-    append_id, append_reason, is_text, read_count, read_id, read_moment, read_reason,
+    append_id, append_reason, read_count, read_id, read_moment, read_reason,
 };
 use cfa_base::{Bytes, Key, NoMemory};
-use cfa_rows::{append_number, cut};
+use cfa_rows::{append_number, cut, is_text};
 use std::alloc::Global;
 
 fn read_run(fields: &[u8]) -> Option<Record>

@@ -3,7 +3,6 @@
 
 mod agent;
 mod ends;
-mod host;
 mod laws;
 mod lines;
 mod performing;
@@ -15,10 +14,10 @@ mod work;
 
 use agent::agent_main;
 use cfa_base::{Name, NoMemory};
+use cfa_hostdir::{HostInputs, HostSink, HostSite};
 use cfa_output::Stop;
-use cfa_outside::{MemorySite, RegexPatterns, World};
+use cfa_outside::RegexPatterns;
 use ends::stop_status;
-use host::{HostInputs, HostSink};
 use std::alloc::Global;
 use std::env;
 use std::process::ExitCode;
@@ -51,11 +50,11 @@ fn start(rt: &HostRuntime) -> Result<u8, NoMemory> {
     let alloc = rt.alloc();
     let words = read_words(rt, alloc)?;
     let moment = moment_now(rt);
-    let mut site = MemorySite::new(alloc, World::new(alloc), Vec::new(alloc), None)?;
+    let mut site = HostSite::new(rt.clone()?, Name::from_text(alloc, "host")?);
     let mut inputs = HostInputs::new(rt.clone()?);
     let mut out = HostSink::new(rt.clone()?);
     let mut pats = RegexPatterns::new(alloc, Vec::new(alloc));
-    Ok(agent_main(
+    let status = agent_main(
         alloc,
         words.as_slice(),
         moment,
@@ -63,7 +62,10 @@ fn start(rt: &HostRuntime) -> Result<u8, NoMemory> {
         &mut site,
         &mut out,
         &mut pats,
-    ))
+    );
+    // Where the tables can't be written, the next call on the host reads the rows that changed.
+    let _ = site.write_tables(alloc);
+    Ok(status)
 }
 
 fn main(rt: HostRuntime) -> ExitCode {

@@ -4,6 +4,11 @@ use Rattle.std.specs.Prelude.{◌≡◌, ℕ, ◌+◌, List, [], ◌∷◌, ◌+
 use Rattle.std.specs.List.{flat_map}
 use Rattle.cfa_rows.specs.Cuts.{Lacks}
 
+-- two fields with a space between them
+infixr 64 ◌then◌
+abbrev pub ◌then◌ : List ℕ → List ℕ → List ℕ
+front then rest = front ++ 32 ∷ rest
+
 -- the text of some rows, by the form of one
 abbrev pub written : {R : Type 0} → (R → List ℕ) → List R → List ℕ
 written form rows = flat_map (λ row. form row ++ 10 ∷ []) rows

@@ -1,5 +1,6 @@
-// Texts cut at a byte.
-ghost use Rattle.std.specs.Prelude.{IfNone, IfSome};
+// Texts cut at a byte, and compared with a word.
+ghost use Rattle.std.specs.Prelude.{◌≡◌, IfNone, IfSome};
+ghost use Rattle.std.specs.Str.{bytes_eq};
 ghost use Rattle.cfa_rows.specs.Cuts.{IsCut, Lacks};
 
 /// What stands before the first place of a byte in a text, and behind it. `None` where the byte doesn't stand there.
@@ -9,4 +10,11 @@ pub fn cut(text: &[u8], byte: u8) -> Option<(&[u8], &[u8])>
 {
     let place = text.iter().position(|b| *b == byte)?;
     Some((&text[..place], &text[place + 1..]))
+}
+
+/// Whether a text is this word.
+pub fn is_text(text: &[u8], word: &str) -> bool
+    ensures { result ≡ bytes_eq text.now word.now }
+{
+    text == word.as_bytes()
 }

@@ -5,6 +5,6 @@ mod cuts;
 mod numbers;
 mod rows;
 
-pub use cuts::cut;
+pub use cuts::{cut, is_text};
 pub use numbers::{append_number, read_number};
 pub use rows::{Format, RowsErr, read_rows, write_rows};

@@ -97,7 +97,7 @@ fn perms_act(rt: &impl Abort, alloc: Global, text: &str) -> Result<Act, Fail>
     Ok(Act::Perms(path_of(alloc, words[0])?, mode, owners, groups))
 }
 
-fn pair<'a>(rt: &impl Abort, text: &'a str, between: &str) -> (&'a str, &'a str) {
+pub fn pair<'a>(rt: &impl Abort, text: &'a str, between: &str) -> (&'a str, &'a str) {
     match text.split_once(between) {
         Some(sides) => sides,
         None => panic!(rt; "no pair: {text}"),
@@ -164,7 +164,7 @@ fn script_of(rt: &impl Abort, alloc: Global, text: &str) -> Result<Script, Fail>
     Ok(Script::new(alloc, Edits::from_vec(edits))?)
 }
 
-fn act_of(rt: &impl Abort, alloc: Global, text: &str) -> Result<Act, Fail>
+pub fn act_of(rt: &impl Abort, alloc: Global, text: &str) -> Result<Act, Fail>
     ensures { IfOk result IsAct }
 {
     let (word, rest) = pair(rt, text, " ");
@@ -225,7 +225,7 @@ fn told_change(alloc: Global, change: &Change) -> Result<String, Fail> {
     })
 }
 
-fn told(alloc: Global, decision: &Decision) -> Result<String, Fail> {
+pub fn told(alloc: Global, decision: &Decision) -> Result<String, Fail> {
     Ok(match decision {
         Decision::Kept => String::from_str(alloc, "kept")?,
         Decision::Needs(change) => told_change(alloc, change)?,

@@ -19,6 +19,8 @@ mod escapes;
 #[cfg(test)]
 mod functions;
 #[cfg(test)]
+mod hostdir;
+#[cfg(test)]
 mod journal;
 #[cfg(test)]
 mod kinds;
@@ -40,6 +42,8 @@ mod parser;
 mod printer;
 #[cfg(test)]
 mod sources;
+#[cfg(test)]
+mod tables;
 #[cfg(test)]
 mod tree;
 #[cfg(test)]

@@ -32,7 +32,7 @@ pub record TellsRows {R : Type 0} (form : R → List ℕ) (follows : Option R �
   pub lines : (last : Option R) (row : R) → follows last row → Lacks 10 (form row)
   pub rows : (last : Option R) (row other : R) → follows last row → follows last other → form row ≡ form other → row ≡ other
 
-first_line : {R : Type 0} (form : R → List ℕ) (row : R) (rows : List R) (rest : List ℕ) → written form (row ∷ rows) ++ rest ≡ form row ++ 10 ∷ (written form rows ++ rest)
+pub first_line : {R : Type 0} (form : R → List ℕ) (row : R) (rows : List R) (rest : List ℕ) → written form (row ∷ rows) ++ rest ≡ form row ++ 10 ∷ (written form rows ++ rest)
 first_line form row rows rest =
     append_assoc (form row ++ 10 ∷ []) (written form rows) rest ∙ append_assoc (form row) (10 ∷ []) (written form rows ++ rest)
 

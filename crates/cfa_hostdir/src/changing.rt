@@ -1,0 +1,180 @@
+// Changes of a host. All texts are made before the first effect, and a row is put in memory before its line is written
+// and taken back where that fails. So an error leaves the host as it was.
+use crate::errors::HostErr;
+use crate::held::Held;
+use crate::kept_rows::KeptRows;
+use crate::layout::Table;
+use crate::looking::{Spot, ends_component};
+use crate::putting::{Leaf, put, remove};
+use cfa_base::{Key, Name};
+use cfa_outside::{Change, Path, Perms, ServiceRow};
+use cfa_tables::{RowChange, change_line};
+use std::alloc::Global;
+use std::fs::OpenFile;
+use std::io::Write;
+use std::rt::Files;
+
+// A row that was put stays where its line was written, and gives way to what it replaced where it wasn't.
+fn keep_if<V: Drop>(
+    noted: Result<(), HostErr>,
+    rows: &mut KeptRows<V>,
+    key: &str,
+    old: Option<V>,
+) -> Result<(), HostErr> {
+    if noted.is_err() {
+        rows.restore(key, old);
+    }
+    noted
+}
+
+impl<F: Write + OpenFile> Held<F> {
+    // Takes away the row of a node that isn't there.
+    fn forget_row<R: Files<File = F>>(
+        &mut self,
+        rt: &R,
+        alloc: Global,
+        path: &str,
+    ) -> Result<(), HostErr> {
+        let line = match self.tables.perms.get(path) {
+            Some(row) => change_line(alloc, &RowChange::Gone(row.0.copy(alloc)?))?,
+            None => return Ok(()),
+        };
+        self.note(rt, Table::Perms, &line)?;
+        self.tables.perms.remove(path);
+        Ok(())
+    }
+
+    // Takes away the rows of a path and of what stands above it from the part of its real path that ends at `end` on.
+    // Nothing stands there, and what comes there now is new.
+    fn forget_rows<R: Files<File = F>>(
+        &mut self,
+        rt: &R,
+        alloc: Global,
+        path: &str,
+        end: usize,
+    ) -> Result<(), HostErr> {
+        let first = end.saturating_sub(self.layout.tree.len()).max(1);
+        for at in first..path.len().saturating_add(1) {
+            if ends_component(path, at) {
+                let node = path.get(..at).ok_or(HostErr::Refused)?;
+                self.forget_row(rt, alloc, node)?;
+            }
+        }
+        Ok(())
+    }
+
+    fn put_leaf<R: Files<File = F>>(
+        &mut self,
+        rt: &R,
+        alloc: Global,
+        path: &Path,
+        leaf: Leaf<'_>,
+    ) -> Result<(), HostErr> {
+        let text = path.text().as_str();
+        let real = self.layout.real(alloc, text)?;
+        let end = match (self.spot(rt, real.as_str())?, leaf) {
+            (Spot::Missing(end), _) => {
+                self.forget_rows(rt, alloc, text, end)?;
+                end
+            }
+            (Spot::File(_), Leaf::File(_)) => real.len(),
+            _ => return Err(HostErr::Refused),
+        };
+        let stage = self.layout.stage.as_str();
+        let lasting = put(rt, alloc, stage, real.as_str(), end, leaf)?;
+        self.settle(lasting)
+    }
+
+    fn remove_node<R: Files<File = F>>(
+        &mut self,
+        rt: &R,
+        alloc: Global,
+        path: &Path,
+    ) -> Result<(), HostErr> {
+        let text = path.text().as_str();
+        let real = self.layout.real(alloc, text)?;
+        let spot = self.spot(rt, real.as_str())?;
+        let lasting = remove(rt, real.as_str(), spot)?;
+        self.settle(lasting)?;
+        // The row of a node that is gone counts for nothing, so the change is made also where the row stays.
+        let _ = self.forget_row(rt, alloc, text);
+        Ok(())
+    }
+
+    fn set_perms<R: Files<File = F>>(
+        &mut self,
+        rt: &R,
+        alloc: Global,
+        path: &Path,
+        perms: &Perms,
+    ) -> Result<(), HostErr> {
+        let text = path.text().as_str();
+        let real = self.layout.real(alloc, text)?;
+        match self.spot(rt, real.as_str())? {
+            Spot::File(_) | Spot::Dir => {}
+            Spot::Missing(_) | Spot::Blocked => return Err(HostErr::Refused),
+        }
+        let change = RowChange::Permissions(path.copy(alloc)?, perms.copy(alloc)?);
+        let line = change_line(alloc, &change)?;
+        let row = (path.copy(alloc)?, perms.copy(alloc)?);
+        let old = self.tables.perms.put(String::from_str(alloc, text)?, row)?;
+        let noted = self.note(rt, Table::Perms, &line);
+        keep_if(noted, &mut self.tables.perms, text, old)
+    }
+
+    fn put_service<R: Files<File = F>>(
+        &mut self,
+        rt: &R,
+        alloc: Global,
+        name: &Name,
+        row: ServiceRow,
+    ) -> Result<(), HostErr> {
+        let text = name.as_str();
+        if !self.tables.services.has(text) {
+            return Err(HostErr::Refused);
+        }
+        let line = change_line(alloc, &RowChange::Service(name.copy(alloc)?, row))?;
+        let key = String::from_str(alloc, text)?;
+        let old = self.tables.services.put(key, (name.copy(alloc)?, row))?;
+        let noted = self.note(rt, Table::Services, &line);
+        keep_if(noted, &mut self.tables.services, text, old)
+    }
+
+    fn put_lock<R: Files<File = F>>(
+        &mut self,
+        rt: &R,
+        alloc: Global,
+        key: &Key,
+        moment: u64,
+    ) -> Result<(), HostErr> {
+        let text = key.text();
+        let line = change_line(alloc, &RowChange::Lock(key.copy(), moment))?;
+        let row = (key.copy(), moment);
+        let old = self.tables.locks.put(String::from_str(alloc, text)?, row)?;
+        let noted = self.note(rt, Table::Locks, &line);
+        keep_if(noted, &mut self.tables.locks, text, old)
+    }
+
+    /// Makes a change. It lasts when this returns, and was made in order.
+    pub fn change<R: Files<File = F>>(
+        &mut self,
+        rt: &R,
+        alloc: Global,
+        change: &Change,
+    ) -> Result<(), HostErr> {
+        if !self.is_sound() {
+            return Err(HostErr::Refused);
+        }
+        match change {
+            Change::PutFile(path, bytes) => {
+                self.put_leaf(rt, alloc, path, Leaf::File(bytes.as_slice()))
+            }
+            Change::PutDir(path) => self.put_leaf(rt, alloc, path, Leaf::Dir),
+            Change::Remove(path) => self.remove_node(rt, alloc, path),
+            Change::SetPerms(path, perms) => self.set_perms(rt, alloc, path, perms),
+            Change::PutService(name, row) => self.put_service(rt, alloc, name, *row),
+            Change::PutLock(key, moment) => self.put_lock(rt, alloc, key, *moment),
+            Change::Append(bytes) => self.append(rt, bytes),
+        }
+    }
+}

@@ -1,0 +1,71 @@
+// Real files, read and written whole.
+use crate::errors::HostErr;
+use crate::looking::{Kind, kind_at};
+use cfa_base::Bytes;
+use std::alloc::Global;
+use std::fs;
+use std::fs::{OpenFile, OpenOptions};
+use std::io::{Read, Write};
+use std::os::unix::fs::MetadataExt;
+use std::rt::Files;
+
+pub fn sync_folder<R: Files>(rt: &R, path: &str) -> Result<(), HostErr> {
+    fs::open(rt, path)?.sync_all()?;
+    Ok(())
+}
+
+/// Makes a file with these bytes and syncs it. Where something stands there already, a link too, none is made.
+pub fn write_new<R: Files>(rt: &R, path: &str, bytes: &[u8]) -> Result<(), HostErr> {
+    let mut options = OpenOptions::new();
+    options.write(true).create_new(true);
+    let mut file = options.open(rt, path)?;
+    file.write_all(bytes)?;
+    file.sync_all()?;
+    Ok(())
+}
+
+// The bytes up to the end, of which there are to be no more than `most`.
+fn read_to_end<F: Read>(alloc: Global, file: &mut F, most: u64) -> Result<Bytes, HostErr> {
+    let mut all = Bytes::from_vec(Vec::new(alloc));
+    let mut piece = [0u8; 4096];
+    for _ in 0..u64::MAX {
+        let count = file.read(&mut piece)?;
+        if count == 0 {
+            return Ok(all);
+        }
+        all.append(&piece[..count])?;
+        if all.as_slice().len() as u64 > most {
+            return Err(HostErr::Refused);
+        }
+    }
+    Err(HostErr::Refused)
+}
+
+/// The bytes of a regular file of no more than `most` bytes. What was opened is held against what was looked at, so that
+/// a file that was put in its place meanwhile isn't read.
+pub fn read_file<R: Files>(rt: &R, alloc: Global, path: &str, most: u64) -> Result<Bytes, HostErr> {
+    let named = rt.symlink_metadata(path)?;
+    if !named.is_file() || named.len() > most {
+        return Err(HostErr::Refused);
+    }
+    let mut file = fs::open(rt, path)?;
+    let found = file.metadata()?;
+    if found.dev() != named.dev() || found.ino() != named.ino() {
+        return Err(HostErr::Refused);
+    }
+    read_to_end(alloc, &mut file, most)
+}
+
+/// The bytes of a regular file, none where nothing stands there.
+pub fn read_if_there<R: Files>(
+    rt: &R,
+    alloc: Global,
+    path: &str,
+    most: u64,
+) -> Result<Bytes, HostErr> {
+    match kind_at(rt, path)? {
+        Kind::Missing => Ok(Bytes::from_vec(Vec::new(alloc))),
+        Kind::File(_) => read_file(rt, alloc, path, most),
+        Kind::Dir | Kind::Other => Err(HostErr::Refused),
+    }
+}

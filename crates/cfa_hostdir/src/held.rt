@@ -1,0 +1,234 @@
+// A host whose folder is held: what it answers, and how it writes its tables.
+use crate::errors::HostErr;
+use crate::files::read_file;
+use crate::growing::Growing;
+use crate::kept_rows::HostTables;
+use crate::layout::{Layout, Table};
+use crate::looking::{Spot, has_nodes, walk};
+use crate::putting::{Lasting, Leaf, put};
+use cfa_base::{Bytes, MOST_FILE_BYTES, Name, NoMemory};
+use cfa_outside::{Look, Path, Perms};
+use std::alloc::Global;
+use std::fs::OpenFile;
+use std::io::Write;
+use std::rt::Files;
+
+// The tables are written once the changed rows have more bytes than this, and than so many for each row of the tables.
+const LEAST_CHANGES: u64 = 1 << 20;
+
+const CHANGES_PER_ROW: u64 = 256;
+
+/// Which tables have rows that changed since they were written.
+#[derive(Clone, Copy, PartialEq, Eq)]
+pub struct Changed {
+    perms: bool,
+    services: bool,
+    locks: bool,
+}
+
+impl Changed {
+    pub const NONE: Changed = Changed {
+        perms: false,
+        services: false,
+        locks: false,
+    };
+
+    pub const ALL: Changed = Changed {
+        perms: true,
+        services: true,
+        locks: true,
+    };
+
+    fn set(&mut self, table: Table) {
+        match table {
+            Table::Perms => self.perms = true,
+            Table::Services => self.services = true,
+            Table::Locks => self.locks = true,
+        }
+    }
+
+    fn has(self, table: Table) -> bool {
+        match table {
+            Table::Perms => self.perms,
+            Table::Services => self.services,
+            Table::Locks => self.locks,
+        }
+    }
+}
+
+/// A host whose folder is held.
+#[derive(Drop)]
+pub struct Held<F> {
+    pub layout: Layout,
+    // The open folder: it is held as long as this is.
+    _folder: F,
+    pub tables: HostTables,
+    changed: Changed,
+    changes: Growing<F>,
+    journal: Growing<F>,
+    // The length of the changed rows at which the tables are written.
+    most_changes: u64,
+    // False once a change of the tree is seen that may not last.
+    sound: bool,
+}
+
+fn new_perms(alloc: Global, mode: u16) -> Result<Perms, NoMemory> {
+    Ok(Perms {
+        mode,
+        owner: Name::from_text(alloc, "root")?,
+        group: Name::from_text(alloc, "root")?,
+    })
+}
+
+impl<F: Write + OpenFile> Held<F> {
+    pub fn new(
+        layout: Layout,
+        folder: F,
+        tables: HostTables,
+        changed: Changed,
+        changes: Growing<F>,
+        journal: Growing<F>,
+    ) -> Held<F> {
+        Held {
+            layout,
+            _folder: folder,
+            tables,
+            changed,
+            changes,
+            journal,
+            most_changes: LEAST_CHANGES,
+            sound: true,
+        }
+    }
+
+    /// Whether it is known what stands on the disk. Where it isn't, no change is made any more.
+    pub fn is_sound(&self) -> bool {
+        self.sound && self.changes.is_sound() && self.journal.is_sound()
+    }
+
+    /// A change of the tree was made. Where it may not last, it is told as refused.
+    pub fn settle(&mut self, lasting: Lasting) -> Result<(), HostErr> {
+        match lasting {
+            Lasting::Durable => Ok(()),
+            Lasting::Unsure => {
+                self.sound = false;
+                Err(HostErr::Refused)
+            }
+        }
+    }
+
+    /// What stands at a real path of the host.
+    pub fn spot<R: Files<File = F>>(&self, rt: &R, real: &str) -> Result<Spot, HostErr> {
+        walk(rt, real, self.layout.tree.len())
+    }
+
+    pub fn look<R: Files<File = F>>(
+        &self,
+        rt: &R,
+        alloc: Global,
+        path: &Path,
+    ) -> Result<Look, HostErr> {
+        let real = self.layout.real(alloc, path.text().as_str())?;
+        match self.spot(rt, real.as_str())? {
+            Spot::Missing(_) => Ok(Look::Nothing),
+            Spot::Blocked => Ok(Look::Blocked),
+            Spot::File(size) => Ok(Look::File(size)),
+            Spot::Dir => Ok(Look::Dir(!has_nodes(rt, real.as_str())?)),
+        }
+    }
+
+    pub fn read<R: Files<File = F>>(
+        &self,
+        rt: &R,
+        alloc: Global,
+        path: &Path,
+    ) -> Result<Bytes, HostErr> {
+        let real = self.layout.real(alloc, path.text().as_str())?;
+        match self.spot(rt, real.as_str())? {
+            Spot::File(_) => read_file(rt, alloc, real.as_str(), MOST_FILE_BYTES as u64),
+            _ => Err(HostErr::Refused),
+        }
+    }
+
+    pub fn perms<R: Files<File = F>>(
+        &self,
+        rt: &R,
+        alloc: Global,
+        path: &Path,
+    ) -> Result<Perms, HostErr> {
+        let text = path.text().as_str();
+        let real = self.layout.real(alloc, text)?;
+        let mode = match self.spot(rt, real.as_str())? {
+            Spot::File(_) => 0o600,
+            Spot::Dir => 0o700,
+            Spot::Missing(_) | Spot::Blocked => return Err(HostErr::Refused),
+        };
+        match self.tables.perms.get(text) {
+            Some(row) => Ok(row.1.copy(alloc)?),
+            None => Ok(new_perms(alloc, mode)?),
+        }
+    }
+
+    /// Adds the line of a changed row, or leaves the lines as they were.
+    pub fn note<R: Files<File = F>>(
+        &mut self,
+        rt: &R,
+        table: Table,
+        line: &Bytes,
+    ) -> Result<(), HostErr> {
+        self.changed.set(table);
+        self.changes
+            .append(rt, self.layout.root.as_str(), line.as_slice())
+    }
+
+    /// Adds bytes at the end of the journal, or leaves it as it was.
+    pub fn append<R: Files<File = F>>(&mut self, rt: &R, bytes: &Bytes) -> Result<(), HostErr> {
+        self.journal
+            .append(rt, self.layout.root.as_str(), bytes.as_slice())
+    }
+
+    fn write_table<R: Files<File = F>>(
+        &self,
+        rt: &R,
+        alloc: Global,
+        table: Table,
+    ) -> Result<(), HostErr> {
+        let text = self.tables.text_of(alloc, table)?;
+        let path = self.layout.table(table);
+        let stage = self.layout.stage.as_str();
+        let leaf = Leaf::File(text.as_slice());
+        match put(rt, alloc, stage, path, path.len(), leaf)? {
+            Lasting::Durable => Ok(()),
+            Lasting::Unsure => Err(HostErr::Refused),
+        }
+    }
+
+    /// Writes each table that has changed rows, and then takes these rows' lines away. Where that is cut off at any
+    /// place, the lines still tell the rows.
+    pub fn write_tables<R: Files<File = F>>(
+        &mut self,
+        rt: &R,
+        alloc: Global,
+    ) -> Result<(), HostErr> {
+        if self.changes.len() == 0 {
+            return Ok(());
+        }
+        for table in [Table::Perms, Table::Services, Table::Locks] {
+            if self.changed.has(table) {
+                self.write_table(rt, alloc, table)?;
+            }
+        }
+        self.changes.clear(rt, self.layout.root.as_str())?;
+        self.changed = Changed::NONE;
+        let by_rows = self.tables.count().saturating_mul(CHANGES_PER_ROW);
+        self.most_changes = by_rows.max(LEAST_CHANGES);
+        Ok(())
+    }
+
+    /// Writes the tables where the changed rows have become long, so that each row is written a few times at most.
+    pub fn keep_short<R: Files<File = F>>(&mut self, rt: &R, alloc: Global) {
+        if self.is_sound() && self.changes.len() > self.most_changes {
+            let _ = self.write_tables(rt, alloc);
+        }
+    }
+}

@@ -1,0 +1,53 @@
+// Files as inputs.
+ghost use Rattle.std.specs.Prelude.{None};
+
+use crate::errors::HostErr;
+use crate::faults::counted;
+use cfa_base::{Bytes, Name};
+use cfa_outside::{Inputs, OutsideErr};
+use std::alloc::Global;
+use std::fs;
+use std::io::Read;
+use std::rt::Files;
+
+/// Files as inputs, each under its path. They tell nothing of their content.
+#[derive(Drop)]
+pub struct HostInputs<R> {
+    rt: R,
+    faults: u64,
+}
+
+impl<R: Drop> HostInputs<R> {
+    /// The files that the runtime opens, without taking memory.
+    pub fn new(rt: R) -> HostInputs<R> {
+        HostInputs { rt, faults: 0 }
+    }
+}
+
+// At most the first `limit` bytes of a file.
+fn read_front<R: Files>(alloc: Global, rt: &R, path: &str, limit: usize) -> Result<Bytes, HostErr> {
+    let mut file = fs::open(rt, path)?;
+    let mut all = Vec::new(alloc);
+    let mut piece = [0u8; 4096];
+    for _ in 0..limit {
+        let most = piece.len().min(limit.saturating_sub(all.len()));
+        if most == 0 {
+            break;
+        }
+        let count = file.read(&mut piece[..most])?;
+        if count == 0 {
+            break;
+        }
+        all.extend_from_slice(&piece[..count])?;
+    }
+    Ok(Bytes::from_vec(all))
+}
+
+impl<R: Files + Drop> Inputs for HostInputs<R> {
+    ghost shown = { λ h. record { told = None; faults = h.faults } };
+
+    fn read(&mut self, alloc: Global, name: &Name, limit: u32) -> Result<Bytes, OutsideErr> {
+        let answer = read_front(alloc, &self.rt, name.as_str(), limit as usize);
+        counted(&mut self.faults, answer)
+    }
+}

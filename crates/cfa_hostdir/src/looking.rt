@@ -1,0 +1,101 @@
+// What stands at a real path. No symbolic link is followed: each component is looked at by itself.
+use crate::errors::HostErr;
+use std::io::{ErrorKind, Read};
+use std::rt::Files;
+
+/// What stands at the end of a real path.
+#[derive(Clone, Copy, PartialEq, Eq)]
+pub enum Kind {
+    Missing,
+    /// A regular file, with its size.
+    File(u64),
+    Dir,
+    /// A symbolic link or a special file.
+    Other,
+}
+
+/// What stands at a real path whose directories were looked at too.
+#[derive(Clone, Copy, PartialEq, Eq)]
+pub enum Spot {
+    /// Nothing. The path up to this place is the first part that is missing.
+    Missing(usize),
+    /// Nothing, and a file stands above.
+    Blocked,
+    File(u64),
+    Dir,
+}
+
+pub fn kind_at<R: Files>(rt: &R, path: &str) -> Result<Kind, HostErr> {
+    match rt.symlink_metadata(path) {
+        Ok(found) if found.is_file() => Ok(Kind::File(found.len())),
+        Ok(found) if found.is_dir() => Ok(Kind::Dir),
+        Ok(_) => Ok(Kind::Other),
+        Err(error) if error.kind() == ErrorKind::NotFound => Ok(Kind::Missing),
+        Err(error) => Err(HostErr::from(error)),
+    }
+}
+
+/// The first bytes of a path.
+pub fn part_of(path: &str, end: usize) -> Result<&str, HostErr> {
+    path.get(..end).ok_or(HostErr::Refused)
+}
+
+/// The folder above a path.
+pub fn folder_of(path: &str) -> Result<&str, HostErr> {
+    match path.rsplit_once('/') {
+        Some((above, _)) => Ok(above),
+        None => Err(HostErr::Refused),
+    }
+}
+
+/// Whether a component of the path ends at this place.
+pub fn ends_component(path: &str, at: usize) -> bool {
+    let bytes = path.as_bytes();
+    at >= bytes.len() || bytes[at] == b'/'
+}
+
+/// Looks at each component from the one that ends at `from` on.
+pub fn walk<R: Files>(rt: &R, path: &str, from: usize) -> Result<Spot, HostErr> {
+    for end in from..path.len() {
+        if ends_component(path, end) {
+            match kind_at(rt, part_of(path, end)?)? {
+                Kind::Missing => return Ok(Spot::Missing(end)),
+                Kind::Dir => {}
+                Kind::File(_) => return Ok(Spot::Blocked),
+                Kind::Other => return Err(HostErr::Refused),
+            }
+        }
+    }
+    match kind_at(rt, path)? {
+        Kind::Missing => Ok(Spot::Missing(path.len())),
+        Kind::Dir => Ok(Spot::Dir),
+        Kind::File(size) => Ok(Spot::File(size)),
+        Kind::Other => Err(HostErr::Refused),
+    }
+}
+
+// Whether a buffer of names, each ended by a zero byte, has one that isn't `.` or `..`.
+fn has_name(names: &[u8]) -> bool {
+    for name in names.split(|byte| *byte == 0) {
+        if !name.is_empty() && name != b".".as_slice() && name != b"..".as_slice() {
+            return true;
+        }
+    }
+    false
+}
+
+/// Whether something stands in a directory.
+pub fn has_nodes<R: Files>(rt: &R, path: &str) -> Result<bool, HostErr> {
+    let mut dir = rt.open_dir(path)?;
+    let mut names = [0u8; 4096];
+    for _ in 0..u64::MAX {
+        let count = dir.read(&mut names)?;
+        if count == 0 {
+            return Ok(false);
+        }
+        if has_name(&names[..count]) {
+            return Ok(true);
+        }
+    }
+    Err(HostErr::Refused)
+}

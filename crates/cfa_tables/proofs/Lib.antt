@@ -1,0 +1,5 @@
+pub mod FieldLemmas
+pub mod ModeLemmas
+pub mod RowLemmas
+pub mod TableLemmas
+pub mod RowChangeLemmas

@@ -1,0 +1,18 @@
+-- Of the code alone: a line of four fields, with a space between them, and octal digits.
+use Rattle.std.specs.Prelude.{◌≡◌, ℕ, List, Bool, ◌&&◌, nat_le}
+use Rattle.cfa_rows.specs.Cuts.{Lacks}
+use Rattle.cfa_rows.specs.Rows.{◌then◌}
+
+-- the first three fields have no space
+pub record IsFourFields (line first second third fourth : List ℕ) : Type 0 where
+  pub whole : first then second then third then fourth ≡ line
+  pub lacks_first : Lacks 32 first
+  pub lacks_second : Lacks 32 second
+  pub lacks_third : Lacks 32 third
+
+-- no four fields are the line
+abbrev pub HasFewerFields : List ℕ → Type 0
+HasFewerFields line = (first second third fourth : List ℕ) → IsFourFields line first second third fourth → ⊥
+
+abbrev pub is_octal_digit : ℕ → Bool
+is_octal_digit b = nat_le 48 b && nat_le b 55

@@ -1,0 +1,55 @@
+// Modes in octal digits.
+ghost use Rattle.std.specs.Prelude.{◌≡◌, ◌++◌, OnOk};
+ghost use Rattle.std.specs.List.{list_all};
+ghost use Rattle.cfa_rows.specs.Rows.{Reads};
+ghost use Rattle.cfa_tables.specs.Fields.{is_octal_digit};
+ghost use Rattle.cfa_tables.specs.Tables.{IsMode, mode_text, octal_digit};
+
+use cfa_base::{Bytes, NoMemory};
+
+fn is_octal_digit(byte: u8) -> bool
+    ensures { result ≡ is_octal_digit byte }
+{
+    matches!(byte, b'0'..=b'7')
+}
+
+fn are_octal_digits(text: &[u8]) -> bool
+    ensures { result ≡ list_all is_octal_digit text.now }
+{
+    text.iter().all(|byte| is_octal_digit(*byte))
+}
+
+/// The mode that a text is in four octal digits.
+pub fn read_mode(field: &[u8]) -> Option<u16>
+    ensures { Reads mode_text IsMode field.now result }
+{
+    if field.len() != 4 || !are_octal_digits(field) {
+        return None;
+    }
+    let [a, b, c, d] = [
+        u16::from(field[0]) - 48,
+        u16::from(field[1]) - 48,
+        u16::from(field[2]) - 48,
+        u16::from(field[3]) - 48,
+    ];
+    Some(a * 512 + b * 64 + c * 8 + d)
+}
+
+fn octal_digit(number: u16) -> u8
+    ensures { result ≡ octal_digit number }
+{
+    b'0' + (number % 8) as u8
+}
+
+/// Adds the four octal digits of a mode at the end of bytes.
+#[tactic(auto, unfolding(crate::specs::Tables::mode_text))]
+pub fn append_mode(bytes: &mut Bytes, mode: u16) -> Result<(), NoMemory>
+    ensures { OnOk result (bytes.new ≡ bytes.old ++ mode_text mode) }
+{
+    bytes.append(&[
+        octal_digit(mode / 512),
+        octal_digit(mode / 64),
+        octal_digit(mode / 8),
+        octal_digit(mode),
+    ])
+}

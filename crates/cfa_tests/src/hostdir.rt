@@ -1,0 +1,234 @@
+// The real host, in folders that each test makes where it runs.
+ghost use Rattle.cfa_acts.specs.Acts.{IsAct};
+
+use crate::acts::{act_of, pair, told};
+use cfa_acts::{Act, Decision, decide};
+use cfa_base::{Bytes, Key, Name};
+use cfa_hostdir::HostSite;
+use cfa_outside::{Change, MemorySite, Path, ServiceRow, Site, World};
+use std::alloc::Global;
+use std::fs;
+use std::os::unix::fs::symlink;
+use std::process::Abort;
+use std::test::Fail;
+
+type RealHost = HostSite<HostRuntime>;
+
+const ZEROS: &str = "0000000000000000000000000000000000000000000000000000000000000000";
+
+fn host_in(rt: &HostRuntime, folder: &str) -> Result<RealHost, Fail> {
+    Ok(HostSite::new(
+        rt.clone()?,
+        Name::from_text(rt.alloc(), folder)?,
+    ))
+}
+
+// The host in a new folder, which has the file.
+fn host_with(rt: &HostRuntime, folder: &str, file: &str, text: &str) -> Result<RealHost, Fail> {
+    let _ = fs::remove_dir_all(rt, folder);
+    fs::create_dir(rt, folder)?;
+    fs::write(rt, file, text)?;
+    host_in(rt, folder)
+}
+
+fn memory_host(alloc: Global) -> Result<MemorySite, Fail> {
+    let mut world = World::new(alloc);
+    let row = ServiceRow {
+        running: true,
+        enabled: true,
+        restarts: 0,
+    };
+    world
+        .services
+        .insert(String::from_str(alloc, "sshd")?, row)?;
+    Ok(MemorySite::new(alloc, world, Vec::new(alloc), None)?)
+}
+
+// What is decided of an act; the change that it needs is made.
+fn actuate<S: Site>(alloc: Global, act: &Act, site: &mut S) -> Result<String, Fail>
+    requires { IsAct act.now }
+{
+    let decision = decide(alloc, act, site)?;
+    if let Decision::Needs(change) = &decision {
+        site.change(alloc, change)?;
+    }
+    told(alloc, &decision)
+}
+
+// Takes the acts of a table one after the other on a site. Each line is an act, `=>`, and what is decided.
+fn compare<S: Site>(
+    rt: &impl Abort,
+    alloc: Global,
+    site: &mut S,
+    table: &str,
+) -> Result<(), Fail> {
+    for row in table.lines() {
+        let (text, expected) = pair(rt, row, " => ");
+        let act = act_of(rt, alloc, text)?;
+        assert_eq!(rt; actuate(alloc, &act, site)?.as_str(), expected, "{text}");
+    }
+    Ok(())
+}
+
+const ACTS: &str = "create /etc/motd => put /etc/motd 0
+create /etc/motd => kept
+mkdir /etc => kept
+create /etc => F3
+content /etc/motd hello => put /etc/motd 5
+content /etc/motd hello => kept
+create /etc/motd/x => F3
+copy /etc/motd /a/b/c => put /a/b/c 5
+copy /etc/motd /a/b/c => kept
+perms /a/b/c 644 ann www => set /a/b/c 420 ann www
+content /a/b/c bye => put /a/b/c 3
+perms /a/b/c 644 ann www => kept
+perms /a/b 700 root root => kept
+rmdir /a/b => F3
+delete /a/b/c => remove /a/b/c
+rmdir /a/b => remove /a/b
+delete /a => F3
+content /a/b/c x => put /a/b/c 1
+perms /a/b/c 644 * * => set /a/b/c 420 root root
+mkdir /e/f => dir /e/f
+perms /n 644 * * => F2
+copy /n /m => F2
+delete /n => kept
+stop sshd => row sshd false true 0
+restart sshd => row sshd true true 1
+disable sshd => row sshd true false 1
+start none => F8";
+
+const KEPT: &str = "content /etc/motd hello => kept
+content /a/b/c x => kept
+perms /a/b/c 644 root root => kept
+perms /a/b 700 root root => kept
+mkdir /e/f => kept
+start sshd => kept
+disable sshd => kept";
+
+fn has_text(rt: &HostRuntime, file: &str, want: &str) -> bool {
+    match fs::read_to_string(rt, file) {
+        Ok(text) => text.as_str() == want,
+        Err(_) => false,
+    }
+}
+
+#[test]
+fn acts_as_in_memory(rt: HostRuntime) -> Result<(), Fail> {
+    let alloc = rt.alloc();
+    compare(&rt, alloc, &mut memory_host(alloc)?, ACTS)?;
+    let services = "sshd running enabled 0\n";
+    let mut site = host_with(&rt, "acts", "acts/services.tab", services)?;
+    compare(&rt, alloc, &mut site, ACTS)?;
+    drop(site);
+    let mut next = host_in(&rt, "acts")?;
+    compare(&rt, alloc, &mut next, KEPT)?;
+    assert!(rt; next.write_tables(alloc));
+    drop(next);
+    assert!(rt; has_text(&rt, "acts/services.tab", "sshd running disabled 1\n"));
+    assert!(rt; has_text(&rt, "acts/perms.tab", "/a/b/c 0644 root root\n"));
+    assert!(rt; has_text(&rt, "acts/changes", ""));
+    compare(&rt, alloc, &mut host_in(&rt, "acts")?, KEPT)
+}
+
+fn path_of(alloc: Global, text: &str) -> Result<Path, Fail> {
+    Ok(Path::read(alloc, &Name::from_text(alloc, text)?)?)
+}
+
+fn zeros() -> Result<Key, Fail> {
+    Ok(Key::read(ZEROS.as_bytes()).ok_or("no key")?)
+}
+
+// Whether a look at a path is answered.
+fn answers(alloc: Global, site: &mut RealHost, path: &str) -> Result<bool, Fail> {
+    Ok(site.look(alloc, &path_of(alloc, path)?).is_ok())
+}
+
+// Whether a change at a path, of this kind, is made.
+fn makes(alloc: Global, site: &mut RealHost, kind: &str, path: &str) -> Result<bool, Fail> {
+    let path = path_of(alloc, path)?;
+    let change = match kind {
+        "dir" => Change::PutDir(path),
+        "remove" => Change::Remove(path),
+        "lock" => Change::PutLock(zeros()?, 7),
+        "append" => Change::Append(Bytes::from_slice(alloc, b"run 5\n")?),
+        text => Change::PutFile(path, Bytes::from_slice(alloc, text.as_bytes())?),
+    };
+    Ok(site.change(alloc, &change).is_ok())
+}
+
+// A row of a node that isn't there counts for nothing, lines that were cut off are taken away, and the rest stays.
+#[test]
+fn ends_that_were_cut_off(rt: HostRuntime) -> Result<(), Fail> {
+    let alloc = rt.alloc();
+    let changes = "perms /a 0700 root root\nperms /b 07";
+    let mut site = host_with(&rt, "cut", "cut/changes", changes)?;
+    fs::write(&rt, "cut/journal", "run 4\nopen 1")?;
+    assert!(rt; answers(alloc, &mut site, "/a")?);
+    assert!(rt; has_text(&rt, "cut/journal", "run 4\n"));
+    for (kind, path) in [("one", "/a"), ("append", "/x"), ("lock", "/x")] {
+        assert!(rt; makes(alloc, &mut site, kind, path)?, "{kind}");
+    }
+    assert!(rt; site.lock(alloc, &zeros()?)? == Some(7));
+    drop(site);
+    let lines = format!(in alloc; "perms /a 0700 root root\ngone /a\nlock {ZEROS} 7\n")?;
+    assert!(rt; has_text(&rt, "cut/changes", lines.as_str()));
+    assert!(rt; has_text(&rt, "cut/journal", "run 4\nrun 5\n"));
+    assert!(rt; has_text(&rt, "cut/tree/a", "one"));
+    assert!(rt; host_in(&rt, "cut")?.lock(alloc, &zeros()?)? == Some(7));
+    Ok(())
+}
+
+#[test]
+fn damage_refuses_all(rt: HostRuntime) -> Result<(), Fail> {
+    let alloc = rt.alloc();
+    for (file, text) in [
+        ("damage/perms.tab", "/b 0644 root root\n/a 0644 root root\n"),
+        ("damage/perms.tab", "/b 0644 root root"),
+        ("damage/services.tab", "sshd on\n"),
+        ("damage/locks.tab", "0 5\n"),
+        ("damage/changes", "what 5\n"),
+        ("damage/changes", "gone a\n"),
+    ] {
+        let mut site = host_with(&rt, "damage", file, text)?;
+        assert!(rt; !answers(alloc, &mut site, "/a")?, "{text}");
+        assert!(rt; !makes(alloc, &mut site, "one", "/a")?, "{text}");
+        assert!(rt; has_text(&rt, file, text), "{text}");
+    }
+    Ok(())
+}
+
+#[test]
+fn no_link_is_followed(rt: HostRuntime) -> Result<(), Fail> {
+    let alloc = rt.alloc();
+    let mut site = host_with(&rt, "links", "links/out", "out")?;
+    assert!(rt; makes(alloc, &mut site, "in", "/a/b")?);
+    symlink(&rt, "../out", "links/tree/end")?;
+    symlink(&rt, "a", "links/tree/mid")?;
+    symlink(&rt, "nowhere", "links/tree/loose")?;
+    for path in ["/end", "/mid", "/mid/b", "/mid/new", "/loose"] {
+        assert!(rt; !answers(alloc, &mut site, path)?, "{path}");
+        for kind in ["text", "dir", "remove"] {
+            assert!(rt; !makes(alloc, &mut site, kind, path)?, "{kind} {path}");
+        }
+    }
+    assert!(rt; has_text(&rt, "links/out", "out"));
+    assert!(rt; has_text(&rt, "links/tree/a/b", "in"));
+    Ok(())
+}
+
+// A host that another agent holds is refused, and stays so; a file in the folder's place too. A missing folder is made.
+#[test]
+fn one_agent_at_a_time(rt: HostRuntime) -> Result<(), Fail> {
+    let alloc = rt.alloc();
+    let _ = fs::remove_dir_all(&rt, "two");
+    let mut first = host_in(&rt, "two")?;
+    assert!(rt; makes(alloc, &mut first, "1", "/a")?);
+    let mut second = host_in(&rt, "two")?;
+    assert!(rt; !answers(alloc, &mut second, "/a")?);
+    drop(first);
+    assert!(rt; !answers(alloc, &mut second, "/a")?);
+    assert!(rt; answers(alloc, &mut host_in(&rt, "two")?, "/a")?);
+    assert!(rt; !answers(alloc, &mut host_in(&rt, "two/tree/a")?, "/a")?);
+    Ok(())
+}
