@@ -4,9 +4,7 @@ use crate::layout::Table;
 use cfa_base::{Bytes, Key, Name, NoMemory};
 use cfa_outside::{Path, Perms, ServiceRow};
 use cfa_rows::Format;
-use cfa_tables::{
-    Locks, Permissions, RowChange, Services, read_locks, read_perms, read_services,
-};
+use cfa_tables::{Locks, Permissions, RowChange, Services, read_locks, read_perms, read_services};
 use std::alloc::{AllocFailed, Global};
 use std::collections::BTreeMap;
 

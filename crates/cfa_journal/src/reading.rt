@@ -5,9 +5,7 @@ ghost use Rattle.cfa_rows.specs.Rows.{Reads, ◌then◌};
 ghost use Rattle.cfa_journal.specs.Records.{IsRecord, IsCount, record_text};
 
 use crate::Record;
-use crate::fields::{
-    append_id, append_reason, read_count, read_id, read_moment, read_reason,
-};
+use crate::fields::{append_id, append_reason, read_count, read_id, read_moment, read_reason};
 use cfa_base::{Bytes, Key, NoMemory};
 use cfa_rows::{append_number, cut, is_text};
 use std::alloc::Global;

@@ -14,6 +14,6 @@ pub use errors::TableErr;
 pub use laws::tables_tell_rows;
 pub use row_changes::{RowChange, RowChanges, change_line};
 pub use tables::{
-    Locks, Permissions, Services, read_locks, read_perms, read_services, write_locks,
-    write_perms, write_services,
+    Locks, Permissions, Services, read_locks, read_perms, read_services, write_locks, write_perms,
+    write_services,
 };

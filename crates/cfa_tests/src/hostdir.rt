@@ -146,13 +146,15 @@ fn answers(alloc: Global, site: &mut RealHost, path: &str) -> Result<bool, Fail>
 
 // Whether a change at a path, of this kind, is made.
 fn makes(alloc: Global, site: &mut RealHost, kind: &str, path: &str) -> Result<bool, Fail> {
-    let path = path_of(alloc, path)?;
     let change = match kind {
-        "dir" => Change::PutDir(path),
-        "remove" => Change::Remove(path),
+        "dir" => Change::PutDir(path_of(alloc, path)?),
+        "remove" => Change::Remove(path_of(alloc, path)?),
         "lock" => Change::PutLock(zeros()?, 7),
         "append" => Change::Append(Bytes::from_slice(alloc, b"run 5\n")?),
-        text => Change::PutFile(path, Bytes::from_slice(alloc, text.as_bytes())?),
+        text => {
+            let bytes = Bytes::from_slice(alloc, text.as_bytes())?;
+            Change::PutFile(path_of(alloc, path)?, bytes)
+        }
     };
     Ok(site.change(alloc, &change).is_ok())
 }
