@@ -1,8 +1,7 @@
 -- The lines of the demo policy as they are written, and one promise more.
-use Rattle.std.proofs.Common.{◌≡◌, ℕ, zero, suc, ◌+◌, ◌*◌, ◌%◌, ◌<◌, ◌≤◌, ◌==◌, List, [], ◌∷◌, ◌++◌, Bool, if◌then◌else◌, codes, refl, sym, ap, ◌∙◌, append_assoc, append-nil, add-one, length, length-append, arith}
+use Rattle.std.proofs.Common.{◌≡◌, ℕ, zero, suc, ◌+◌, ◌*◌, ◌%◌, ◌<◌, ◌≤◌, ◌==◌, List, [], ◌∷◌, ◌++◌, if◌then◌else◌, codes, refl, sym, ap, ◌∙◌, append_assoc, append-nil, add-one, length, length-append, arith}
 use Rattle.std.proofs.lemmas.Fmt.{length-decimal-le}
 use Rattle.std.specs.Fmt.{decimal}
-use Rattle.std.specs.List.{flat_map}
 use Rattle.cfa_demo.specs.Policies.{ended, text_of, opening, ending, promising, content, promise_line, promise_lines, demo_text}
 
 -- the line of a number, by the number modulo 4

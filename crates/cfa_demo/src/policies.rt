@@ -32,7 +32,6 @@ pub fn demo_policy(alloc: Global, n: u32) -> Result<Name, NoMemory>
 }
 
 // Adds the line of the promise of a number.
-#[tactic(auto, unfolding(crate::specs::Policies::promise_line))]
 fn push_promise(text: &mut String, k: u32) -> Result<(), AllocError>
     ensures { OnOk result
         (string_bytes text.new ≡ string_bytes text.old ++ ended (promise_line k)) }

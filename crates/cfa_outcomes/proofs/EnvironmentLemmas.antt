@@ -1,5 +1,5 @@
 -- What an environment tells after a change.
-use Rattle.std.proofs.Common.{◌≡◌, ◌≢◌, ℕ, ◌<◌, ◌+◌, List, [], ◌∷◌, length, take, get_or, Option, Some, None, is_some, Bool, true, false, cond, ◌||◌, if◌then◌else◌, map, unwrap_or, option_copied, refl, sym, ap, subst, ◌∙◌}
+use Rattle.std.proofs.Common.{◌≡◌, ◌≢◌, ℕ, ◌<◌, ◌+◌, List, [], ◌∷◌, length, take, get_or, Option, Some, None, is_some, Bool, true, false, cond, ◌||◌, if◌then◌else◌, map, unwrap_or, refl, sym, ap, subst, ◌∙◌}
 use Rattle.std.proofs.lemmas.Bool.{false≢true, false_from_ne_true}
 use Rattle.std.proofs.lemmas.List.Folds.{list_any_more}
 use Rattle.std.proofs.lemmas.Map.Steps.{set_value_same}
@@ -8,13 +8,12 @@ use Rattle.std.proofs.lemmas.Slice.Eq.{bytes_eq-Decides}
 use Rattle.std.specs.BTreeMap as tree
 use Rattle.std.specs.Cmp.Lexicographic.{nat_list_cmp_total, slice_cmp}
 use Rattle.std.specs.FinMap as finite
-use Rattle.std.specs.List.{list_any}
 use Rattle.std.specs.Option.{option_or}
 use Rattle.std.specs.Ordering.{nat_cmp}
 use Rattle.std.specs.Prelude.{String, IsSome}
 use Rattle.std.specs.Str.{bytes_eq}
 use Rattle.std.specs.String.{string_bytes, string_cmp}
-use Rattle.cfa_base.specs.TextMaps.{TextMap, text_cmp, text_map}
+use Rattle.cfa_base.specs.TextMaps.{text_cmp, text_map}
 use Rattle.cfa_base.specs.declared.places.PromiseId.{PromiseId}
 use Rattle.cfa_base.specs.lemmas.TextMaps.{get-put, get-text_map, text_map-put, remove-insert, ties_alike, same_texts}
 use Rattle.cfa_classes.specs.declared.levels.Status.{Status}

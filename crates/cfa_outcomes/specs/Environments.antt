@@ -1,7 +1,7 @@
 -- An environment keeps the statuses of classes, the sources of classes, and the marks of instances. A status and a mark
 -- never fall: what is raised gets the greater of what it was and what it is raised to, and what never was is No. The
 -- source of a class is that of the first raise that had one. An instance is named by its path and its text.
-use Rattle.std.specs.Prelude.{◌≡◌, ℕ, Bool, List, Option, Some, None, if◌then◌else◌, map, unwrap_or}
+use Rattle.std.specs.Prelude.{ℕ, Bool, List, Option, Some, None, if◌then◌else◌, map, unwrap_or}
 use Rattle.std.specs.List.{list_any}
 use Rattle.std.specs.Str.{bytes_eq}
 use Rattle.std.specs.FinMap as finite

@@ -1,8 +1,7 @@
 -- Lines that are known.
-use Rattle.std.proofs.Common.{◌≡◌, ℕ, List, codes, refl}
+use Rattle.std.proofs.Common.{◌≡◌, codes, refl}
 use Rattle.std.specs.Fmt.{digits}
 use Rattle.cfa_base.specs.declared.places.PromiseId.{PromiseId}
-use Rattle.cfa_output.specs.declared.items.Item.{Item}
 use Rattle.cfa_output.specs.declared.items.Item.TheVariants.{Refused, JournalBad, JournalLong, Repaired, Failed, Report, Total, Conflict, Audit, Torn}
 use Rattle.cfa_output.specs.Lines.{id_text, refused_line, journal_bad_line, journal_long_line, repaired_line, failed_line, report_line, total_line, conflict_line, audit_line, number_line, line_of}
 

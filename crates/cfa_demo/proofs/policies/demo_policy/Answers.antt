@@ -1,4 +1,4 @@
-use Rattle.std.proofs.Common.{◌≡◌, ◌++◌, ℕ, List, string_bytes, sym, ap, ◌∙◌, arith}
+use Rattle.std.proofs.Common.{◌≡◌, ◌++◌, string_bytes, sym, ap, ◌∙◌, arith}
 use Rattle.cfa_demo.specs.Policies.{ended, text_of, opening, ending, promise_line, promise_lines}
 use Rattle.cfa_demo.proofs.PolicyLemmas.{no_promises, one_promise_more, with_the_end, the_end, short_demo}
 use Rattle.cfa_demo.proofs.policies.demo_policy.Goals as goal

@@ -1,4 +1,4 @@
-use Rattle.std.proofs.Common.{◌≡◌, ◌++◌, ℕ, ◌%◌, ◌<◌, string_bytes, sym, ap, ◌∙◌, arith}
+use Rattle.std.proofs.Common.{◌≡◌, ◌++◌, ◌%◌, string_bytes, sym, ap, ◌∙◌, arith}
 use Rattle.std.proofs.lemmas.Result.{on_ok_weaker}
 use Rattle.cfa_demo.proofs.PolicyLemmas.{ended_0, ended_1, ended_2, ended_3}
 use Rattle.cfa_demo.proofs.policies.push_promise.Goals as goal

@@ -1,4 +1,4 @@
-use Rattle.std.proofs.Common.{◌≡◌, Some, None, sym, ap, ◌∙◌}
+use Rattle.std.proofs.Common.{Some, None, sym, ap, ◌∙◌}
 use Rattle.cfa_classes.specs.Raised.{status_in}
 use Rattle.cfa_classes.specs.lemmas.Raised.{status_in-none_raised}
 use Rattle.cfa_outcomes.proofs.EnvironmentLemmas.{marks_at-found}
