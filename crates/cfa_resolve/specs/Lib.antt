@@ -1,0 +1,6 @@
+pub mod Bodies
+pub mod FileActs
+pub mod Instances
+pub mod KeyTexts
+pub mod OwnTexts
+pub mod Resolution
