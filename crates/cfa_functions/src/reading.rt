@@ -103,7 +103,9 @@ fn name_list<'a>(argument: Given<'a>, scopes: &Scopes<'a>) -> Given<'a>
     }
 }
 
-pub(crate) fn referred_list(value: &Value) -> Option<&str>
+/// The name of a value that is a list reference, or a text that is wholly one, without taking memory. `None` for every
+/// other value.
+pub fn referred_list(value: &Value) -> Option<&str>
     ensures { option_copied result ≡ referred_list (plain_value value.now) }
 {
     match value {
