@@ -74,8 +74,8 @@ fn expand_text(
     }
 }
 
-// The text of a reference by its name.
-fn written(alloc: Global, name: &Name) -> Result<Name, NoMemory>
+/// The text of a reference by its name.
+pub fn reference_text(alloc: Global, name: &Name) -> Result<Name, NoMemory>
     ensures { IfOk result (λ text. text ≡ codes "$(" ++ name.now ++ codes ")") }
 {
     let name = name.as_str();
@@ -165,7 +165,7 @@ pub fn text_of_value(
     match value {
         Value::Text(text, _) => expand_text(alloc, text, scopes, choice),
         Value::Word(text, _) => expand_text(alloc, text, scopes, choice),
-        Value::Ref(name, _) => expand_text(alloc, &written(alloc, name)?, scopes, choice),
+        Value::Ref(name, _) => expand_text(alloc, &reference_text(alloc, name)?, scopes, choice),
         Value::ListRef(_, _) => Ok(ValueText::Unresolved(None)),
         Value::List(_, _) => Ok(ValueText::Unresolved(None)),
         Value::Call(name, arguments, _) => {

@@ -144,17 +144,17 @@ empty_classes_are_left_out = refl
 
 calls_tell_their_arguments :
     texts promises.Methods (codes "m")
-        (says (codes "usebundle") (call (codes "sub") (value_trees (quoted (codes "$(x) y") ∷ list_reference (codes "l") here ∷ quoted (codes "@(none)") ∷ [])) here) ∷ [])
+    (says (codes "usebundle") (call (codes "sub") (value_trees (quoted (codes "$(x) y") ∷ list_reference (codes "l") here ∷ quoted (codes "@(none)") ∷ [])) here) ∷ [])
     ≡ codes "main 1;call sub t/v%20y l,p,q l;k=;r=;f=;e=5" ∷ []
 unfolding resolution combined own_reads made heard bodies_of made_instance file_acts service_act outcome_classes key_text mode_text datum_given expanded scalar look key_of pieces reference_at list_reference_of are_too_many list_given path_of body_of minutes_of escaped escape_of digits is_literal is_boolean files_attribute outcome_attribute methods_attribute services_attribute delete_attribute copy_from_attribute perms_attribute classes_body_attribute action_attribute
 calls_tell_their_arguments = refl
 
 acts_stand_in_their_order :
     works promises.Files (codes "$(x)")
-        (says (codes "content") (quoted (codes "c")) ∷ says (codes "create") (quoted (codes "on")) ∷ says (codes "delete") (word (codes "tidy") here)
-        ∷ with_argument (codes "copy_from") (codes "local_cp") (codes "/s//t") ∷ with_argument (codes "perms") (codes "m") (codes "644") ∷ [])
+    (says (codes "content") (quoted (codes "c")) ∷ says (codes "create") (quoted (codes "on")) ∷ says (codes "delete") (word (codes "tidy") here)
+    ∷ with_argument (codes "copy_from") (codes "local_cp") (codes "/s//t") ∷ with_argument (codes "perms") (codes "m") (codes "644") ∷ [])
     ≡ Acts (Delete (codes "/v") true ∷ Create (codes "/v") ∷ Copy (codes "/s/t") (codes "/v") ∷ Content (codes "/v") (codes "c")
-        ∷ Perms (codes "/v") (Some 420) [] [] ∷ []) ∷ []
+    ∷ Perms (codes "/v") (Some 420) [] [] ∷ []) ∷ []
 unfolding resolution combined own_reads made heard bodies_of made_instance file_acts service_act outcome_classes key_text mode_text datum_given expanded scalar look key_of pieces reference_at list_reference_of are_too_many list_given path_of body_of minutes_of escaped escape_of digits is_literal is_boolean files_attribute outcome_attribute methods_attribute services_attribute delete_attribute copy_from_attribute perms_attribute classes_body_attribute action_attribute
 acts_stand_in_their_order = refl
 

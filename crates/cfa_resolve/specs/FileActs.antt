@@ -140,7 +140,7 @@ perms_by path (Some mode) (Some owners) (Some groups) = Perms path mode owners g
 abbrev pub perms_act : (path : List ℕ) → Sayings → Act
 perms_act path sayings =
     perms_by path (mode_said (thing_at sayings (codes "mode")))
-        (names_said (thing_at sayings (codes "owners"))) (names_said (thing_at sayings (codes "groups")))
+    (names_said (thing_at sayings (codes "owners"))) (names_said (thing_at sayings (codes "groups")))
 
 abbrev pub perms_acts : (path : List ℕ) → Option Sayings → List Act
 perms_acts path None = []

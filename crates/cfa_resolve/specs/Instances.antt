@@ -90,7 +90,7 @@ minutes_said r (Some said) = minutes_written (text_in said)
 abbrev pub classed : Reached → Chosen → Bodies → Work → (minutes : ℕ) → Instance
 classed r choice bodies work minutes =
     instance_of r (promiser_in r choice) work (outcome_classes bodies (codes "promise_kept"))
-        (outcome_classes bodies (codes "promise_repaired")) (outcome_classes bodies (codes "repair_failed")) minutes
+    (outcome_classes bodies (codes "promise_repaired")) (outcome_classes bodies (codes "repair_failed")) minutes
 
 abbrev pub timed : Reached → Chosen → Bodies → Option ℕ → Instance
 timed r choice bodies None = classed r choice bodies (Acts (Bust reasons.BadValue ∷ [])) 1

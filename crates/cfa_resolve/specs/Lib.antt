@@ -4,3 +4,4 @@ pub mod Instances
 pub mod KeyTexts
 pub mod OwnTexts
 pub mod Resolution
+pub mod ReadTexts

@@ -22,12 +22,12 @@ use Rattle.cfa_vars.specs.References.{names_in, list_reference_of}
 use Rattle.cfa_vars.specs.Scopes.{InScope, look}
 use Rattle.cfa_vars.specs.Expansion.{Chosen, expanded}
 use Rattle.cfa_vars.specs.Choices.{first_unset, lists_among, all_choices, are_too_many}
+use Rattle.cfa_resolve.specs.declared.reads.Read.{Read}
+use Rattle.cfa_resolve.specs.declared.reads.Read.TheVariants.{Text as a_text, List as a_list}
+use Rattle.cfa_resolve.specs.declared.combining.Combined.{Combined}
+use Rattle.cfa_resolve.specs.declared.combining.Combined.TheVariants.{Lacks as lacks, TooMany as too_many, TooLong as too_long, Found as found}
 
 -- ---- what is read
-
-pub data Read : Type 0 where
-  a_text : (content : List ℕ) → Read
-  a_list : (name : List ℕ) → Read
 
 abbrev pub text_or_list : List ℕ → Option (List ℕ) → Read
 text_or_list content None = a_text content
@@ -129,12 +129,6 @@ abbrev pub has_too_long : InScope → List Read → Chosen → Bool
 has_too_long scopes reads choice = list_any (is_too_long scopes choice) reads
 
 -- what reading comes to
-pub data Combined : Type 0 where
-  lacks : (name : List ℕ) → Combined
-  too_many : Combined
-  too_long : (combinations : ℕ) → Combined
-  found : List Chosen → Combined
-
 abbrev pub found_or_too_long : Bool → List Chosen → Combined
 found_or_too_long true choices = too_long (length choices)
 found_or_too_long false choices = found choices

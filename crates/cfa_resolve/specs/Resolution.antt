@@ -16,7 +16,9 @@ use Rattle.cfa_vars.specs.Expansion.{Chosen}
 use Rattle.cfa_acts.specs.declared.acts.Reason.TheVariants as reasons
 use Rattle.cfa_resolve.specs.declared.instances.Instance.{Instance}
 use Rattle.cfa_resolve.specs.declared.instances.Resolved.{Resolved}
-use Rattle.cfa_resolve.specs.OwnTexts.{Combined, lacks, too_many, too_long, found, combined, own_reads}
+use Rattle.cfa_resolve.specs.declared.combining.Combined.{Combined}
+use Rattle.cfa_resolve.specs.declared.combining.Combined.TheVariants.{Lacks as lacks, TooMany as too_many, TooLong as too_long, Found as found}
+use Rattle.cfa_resolve.specs.OwnTexts.{combined, own_reads}
 use Rattle.cfa_resolve.specs.Bodies.{Bodies, bodies_of, Heard, lacks_body, many_in_body, long_in_body, all_heard, heard}
 use Rattle.cfa_resolve.specs.Instances.{Reached, bust_instance, made_instance}
 

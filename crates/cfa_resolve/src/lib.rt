@@ -1,7 +1,9 @@
 //! What a promise resolves to in a view of variables and classes: its instances with their work, and why it did nothing.
 #![tactic(auto)]
 
+mod combining;
 mod instances;
+mod reads;
 
 pub use instances::{
     Acts, Data, Instance, Instances, ResolveErr, Resolved, Unsettled, UnsettledList, View, Work,
