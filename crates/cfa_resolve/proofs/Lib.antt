@@ -1,3 +1,4 @@
+pub mod BodyLemmas
 pub mod ReadLemmas
 pub mod Rules
 mod ResolutionRows

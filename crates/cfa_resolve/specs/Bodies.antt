@@ -24,6 +24,10 @@ use Rattle.cfa_functions.specs.declared.listing.ValueList.{ValueList}
 use Rattle.cfa_functions.specs.declared.listing.ValueList.TheVariants.{Items, Unresolved as list_unresolved, TooLong as list_too_long}
 use Rattle.cfa_functions.specs.Calls.{text_given, list_given, referred_list}
 use Rattle.cfa_schema.specs.Served.{body_of}
+use Rattle.cfa_resolve.specs.declared.sayings.Said.{Said}
+use Rattle.cfa_resolve.specs.declared.sayings.Said.TheVariants.{Text as text_said, Items as items_said, Unresolved as unresolved, Over as over}
+use Rattle.cfa_resolve.specs.declared.hearing.Heard.{Heard}
+use Rattle.cfa_resolve.specs.declared.hearing.Heard.TheVariants.{Lacks as lacks_body, TooMany as many_in_body, TooLong as long_in_body, All as all_heard}
 use Rattle.cfa_resolve.specs.OwnTexts.{arguments_of, held_list}
 
 -- ---- arguments
@@ -66,22 +70,17 @@ body_scope scopes params = record { own = params; own_name = []; shared = scopes
 
 -- ---- what is said
 
--- what an attribute of a body says: a text, or the items of a list. A text of it is over the limit, in a list of so many items
-pub data Said : Type 0 where
-  text_said : List ℕ → Said
-  items_said : List (List ℕ) → Said
-  unresolved : Option (List ℕ) → Said
-  over : (items : ℕ) → Said
-
+-- what an attribute of a body says: a text, or the items of a list. Where a text of it is over the limit, it is told whether the
+-- list has more than 4,096 items
 abbrev pub text_of_said : ValueText → Said
 text_of_said (whole_text content) = text_said content
 text_of_said (text_unresolved name) = unresolved name
-text_of_said text_too_long = over 0
+text_of_said text_too_long = over false
 
-abbrev pub list_of_said : ℕ → ValueList → Said
-list_of_said count (Items items) = items_said items
-list_of_said count (list_unresolved name) = unresolved name
-list_of_said count list_too_long = over count
+abbrev pub list_of_said : (has_many : Bool) → ValueList → Said
+list_of_said has_many (Items items) = items_said items
+list_of_said has_many (list_unresolved name) = unresolved name
+list_of_said has_many list_too_long = over has_many
 
 abbrev pub count_under : InScope → Option (List ℕ) → ℕ → ℕ
 count_under scopes None other = other
@@ -104,11 +103,14 @@ items_written (call name arguments place) = no_value
 abbrev pub item_count : InScope → ValueTree → ℕ
 item_count scopes value = count_under scopes (referred_list value) (counted scopes (items_written value))
 
+abbrev pub has_many_items : InScope → ValueTree → Bool
+has_many_items scopes value = nat_lt MOST_COMBINATIONS (item_count scopes value)
+
 -- what an attribute says, by what it takes
 abbrev pub said_by : InScope → Option Kind → ValueTree → Option Said
 said_by scopes None value = None
-said_by scopes (Some kinds.List) value = Some (list_of_said (item_count scopes value) (list_given scopes [] value))
-said_by scopes (Some kinds.FullList) value = Some (list_of_said (item_count scopes value) (list_given scopes [] value))
+said_by scopes (Some kinds.List) value = Some (list_of_said (has_many_items scopes value) (list_given scopes [] value))
+said_by scopes (Some kinds.FullList) value = Some (list_of_said (has_many_items scopes value) (list_given scopes [] value))
 said_by scopes (Some kind) value = Some (text_of_said (text_given scopes [] value))
 
 -- what an attribute of a body takes, if it is read
@@ -174,30 +176,24 @@ abbrev pub is_many : Said → Bool
 is_many (text_said content) = false
 is_many (items_said items) = nat_lt MOST_COMBINATIONS (length items)
 is_many (unresolved name) = false
-is_many (over items) = nat_lt MOST_COMBINATIONS items
+is_many (over has_many) = has_many
 
 abbrev pub is_over : Said → Bool
 is_over (text_said content) = false
 is_over (items_said items) = false
 is_over (unresolved name) = false
-is_over (over items) = true
+is_over (over has_many) = true
 
 -- the name that is unresolved, if it can be told
 abbrev pub or_first : Said → Option (Option (List ℕ)) → Option (Option (List ℕ))
 or_first (text_said content) rest = rest
 or_first (items_said items) rest = rest
 or_first (unresolved name) rest = Some name
-or_first (over items) rest = rest
+or_first (over has_many) rest = rest
 
 abbrev pub first_unresolved : List Said → Option (Option (List ℕ))
 first_unresolved [] = None
 first_unresolved (said ∷ more) = or_first said (first_unresolved more)
-
-pub data Heard : Type 0 where
-  lacks_body : Option (List ℕ) → Heard
-  many_in_body : Heard
-  long_in_body : Heard
-  all_heard : Heard
 
 abbrev pub heard_by : Option (Option (List ℕ)) → (many long : Bool) → Heard
 heard_by (Some name) many long = lacks_body name

@@ -18,7 +18,9 @@ use Rattle.cfa_outside.specs.Paths.{path_of}
 use Rattle.cfa_acts.specs.declared.acts.Act.{Act}
 use Rattle.cfa_acts.specs.declared.acts.Act.TheVariants.{Create, MakeDir, Delete, Content, Copy, Perms, Start, Stop, Enable, Disable, Restart, Bust}
 use Rattle.cfa_acts.specs.declared.acts.Reason.TheVariants.{BadPath, BadValue}
-use Rattle.cfa_resolve.specs.Bodies.{Said, text_said, items_said, unresolved, over, Sayings, Bodies, said_in, whole_or_empty}
+use Rattle.cfa_resolve.specs.declared.sayings.Said.{Said}
+use Rattle.cfa_resolve.specs.declared.sayings.Said.TheVariants.{Text as text_said, Items as items_said, Unresolved as unresolved, Over as over}
+use Rattle.cfa_resolve.specs.Bodies.{Sayings, Bodies, said_in, whole_or_empty}
 
 -- ---- values of their kinds
 
@@ -36,13 +38,13 @@ abbrev pub text_in : Said → List ℕ
 text_in (text_said content) = content
 text_in (items_said items) = []
 text_in (unresolved name) = []
-text_in (over items) = []
+text_in (over has_many) = []
 
 abbrev pub items_in : Said → List (List ℕ)
 items_in (text_said content) = []
 items_in (items_said items) = items
 items_in (unresolved name) = []
-items_in (over items) = []
+items_in (over has_many) = []
 
 -- the text that an attribute of the promise itself gives
 abbrev pub own_text : InScope → Chosen → PromiseTree → List ℕ → Option (List ℕ)

@@ -25,7 +25,8 @@ use Rattle.cfa_resolve.specs.declared.instances.Instance.{Instance}
 use Rattle.cfa_resolve.specs.declared.instances.Work.{Work}
 use Rattle.cfa_resolve.specs.declared.instances.Work.TheVariants.{Acts, Call, Report}
 use Rattle.cfa_resolve.specs.OwnTexts.{arguments_of}
-use Rattle.cfa_resolve.specs.Bodies.{Said, Bodies, said_in, data_given, name_given}
+use Rattle.cfa_resolve.specs.declared.sayings.Said.{Said}
+use Rattle.cfa_resolve.specs.Bodies.{Bodies, said_in, data_given, name_given}
 use Rattle.cfa_resolve.specs.FileActs.{file_acts, service_act, own_text, outcome_classes, text_in}
 use Rattle.cfa_resolve.specs.KeyTexts.{key_text}
 

@@ -19,7 +19,9 @@ use Rattle.cfa_resolve.specs.declared.instances.Resolved.{Resolved}
 use Rattle.cfa_resolve.specs.declared.combining.Combined.{Combined}
 use Rattle.cfa_resolve.specs.declared.combining.Combined.TheVariants.{Lacks as lacks, TooMany as too_many, TooLong as too_long, Found as found}
 use Rattle.cfa_resolve.specs.OwnTexts.{combined, own_reads}
-use Rattle.cfa_resolve.specs.Bodies.{Bodies, bodies_of, Heard, lacks_body, many_in_body, long_in_body, all_heard, heard}
+use Rattle.cfa_resolve.specs.declared.hearing.Heard.{Heard}
+use Rattle.cfa_resolve.specs.declared.hearing.Heard.TheVariants.{Lacks as lacks_body, TooMany as many_in_body, TooLong as long_in_body, All as all_heard}
+use Rattle.cfa_resolve.specs.Bodies.{Bodies, bodies_of, heard}
 use Rattle.cfa_resolve.specs.Instances.{Reached, bust_instance, made_instance}
 
 -- what one combination comes to: an instance, or what keeps it from being made
