@@ -2,6 +2,7 @@
 #![tactic(auto)]
 
 mod arguments;
+mod bodies;
 mod combining;
 mod hearing;
 mod instances;
