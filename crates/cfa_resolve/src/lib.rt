@@ -4,10 +4,13 @@
 mod arguments;
 mod bodies;
 mod combining;
+mod files;
 mod hearing;
 mod instances;
+mod permissions;
 mod reads;
 mod sayings;
+mod values;
 
 pub use instances::{
     Acts, Data, Instance, Instances, ResolveErr, Resolved, Unsettled, UnsettledList, View, Work,
