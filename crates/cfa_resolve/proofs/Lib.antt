@@ -1,4 +1,5 @@
 pub mod BodyLemmas
+pub mod FileLemmas
 pub mod ReadLemmas
 pub mod Rules
 pub mod ValueLemmas

@@ -150,22 +150,23 @@ perms_acts path (Some sayings) = perms_act path sayings ∷ []
 
 -- ---- all of them
 
--- the acts at a path; `given` are the texts of the promise's own attributes
-abbrev pub acts_at : (path : List ℕ) → (is_directory : Bool) → (given : List ℕ → Option (List ℕ)) → Bodies → List Act
-acts_at path is_directory given bodies =
+-- the acts at a path; `create` and `content` are the texts of the promise's own attributes
+abbrev pub acts_at : (path : List ℕ) → (is_directory : Bool) → (create content : Option (List ℕ)) → Bodies → List Act
+acts_at path is_directory create content bodies =
     delete_acts path (thing_at bodies (codes "delete"))
-    ++ (create_acts path is_directory (given (codes "create"))
+    ++ (create_acts path is_directory create
     ++ (copy_acts path is_directory (thing_at bodies (codes "copy_from"))
-    ++ (content_acts path is_directory (given (codes "content"))
+    ++ (content_acts path is_directory content
     ++ perms_acts path (thing_at bodies (codes "perms")))))
 
 -- a promiser that is no path gives one act that fails for it
-abbrev pub acts_by : Option (List ℕ) → (is_directory : Bool) → (given : List ℕ → Option (List ℕ)) → Bodies → List Act
-acts_by None is_directory given bodies = Bust BadPath ∷ []
-acts_by (Some path) is_directory given bodies = acts_at path is_directory given bodies
+abbrev pub acts_by : Option (List ℕ) → (is_directory : Bool) → (create content : Option (List ℕ)) → Bodies → List Act
+acts_by None is_directory create content bodies = Bust BadPath ∷ []
+acts_by (Some path) is_directory create content bodies = acts_at path is_directory create content bodies
 
-unfoldable pub file_acts : (promiser : List ℕ) → (given : List ℕ → Option (List ℕ)) → Bodies → List Act
-file_acts promiser given bodies = acts_by (target_of promiser) (is_directory_form promiser) given bodies
+unfoldable pub file_acts : (promiser : List ℕ) → (create content : Option (List ℕ)) → Bodies → List Act
+file_acts promiser create content bodies =
+    acts_by (target_of promiser) (is_directory_form promiser) create content bodies
 
 -- ---- services
 

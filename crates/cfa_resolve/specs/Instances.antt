@@ -75,7 +75,8 @@ call_by r choice (Some value) = Call (name_given value) (data_given r.scopes cho
 
 abbrev pub work_by : Reached → Chosen → Bodies → PromiseType → Work
 work_by r choice bodies promises.Files =
-    Acts (file_acts (promiser_in r choice) (own_text r.scopes choice r.promise) bodies)
+    Acts (file_acts (promiser_in r choice) (own_text r.scopes choice r.promise (codes "create"))
+    (own_text r.scopes choice r.promise (codes "content")) bodies)
 work_by r choice bodies promises.Services =
     Acts (service_act (promiser_in r choice) (own_text r.scopes choice r.promise (codes "service_policy")) ∷ [])
 work_by r choice bodies promises.Methods = call_by r choice (value_of (codes "usebundle") r.promise.attributes)

@@ -5,3 +5,4 @@ pub mod KeyTexts
 pub mod OwnTexts
 pub mod Resolution
 pub mod ReadTexts
+pub mod Lengths

@@ -1,9 +1,14 @@
 // What files promises ask for.
-ghost use Rattle.std.specs.Prelude.{◌≡◌, [], IfOk, option_copied};
+ghost use Rattle.std.specs.Prelude.{◌≡◌, ◌++◌, [], All, IfOk, OnOk, option_copied};
 ghost use Rattle.std.specs.List.{cons_option};
+ghost use Rattle.cfa_acts.specs.Acts.{IsAct};
 ghost use Rattle.cfa_outside.specs.Paths.{path_of};
-ghost use Rattle.cfa_resolve.specs.FileActs.{delete_by, or_false, delete_acts, create_by, create_acts, is_wrong_digest, source_in, copy_from, copy_act, copy_acts, content_acts};
+ghost use Rattle.cfa_resolve.specs.Lengths.{IsShort};
+ghost use Rattle.cfa_resolve.specs.FileActs.{delete_by, or_false, delete_acts, create_by, create_acts, is_wrong_digest, source_in, copy_from, copy_act, copy_acts, content_acts, is_directory_form, path_part, acts_at, file_acts};
 
+use crate::bodies::push_if;
+use crate::hearing::Bodies;
+use crate::permissions::perms_act;
 use crate::sayings::{Said, Sayings};
 use crate::values::{text_in, truth};
 use cfa_acts::{Act, Reason};
@@ -13,7 +18,8 @@ use cfa_outside::{Path, PathErr};
 use std::alloc::Global;
 
 fn delete_by(path: Path, with_directories: Option<bool>) -> Act
-    ensures { result ≡ delete_by path with_directories }
+    ensures value { result ≡ delete_by path with_directories }
+    ensures fact { IsAct result }
 {
     match with_directories {
         None => Act::Bust(Reason::BadValue),
@@ -35,8 +41,9 @@ fn delete_act(
     path: &Path,
     sayings: Option<&Sayings>,
 ) -> Result<Option<Act>, NoMemory>
-    ensures { IfOk result
+    ensures value { IfOk result
         (λ act. cons_option act [] ≡ delete_acts path.now (option_copied sayings.entry)) }
+    ensures facts { IfOk result (λ act. All IsAct (cons_option act [])) }
 {
     match sayings {
         None => Ok(None),
@@ -45,7 +52,8 @@ fn delete_act(
 }
 
 fn create_by(path: Path, is_directory: bool, wanted: Option<bool>) -> Option<Act>
-    ensures { cons_option result [] ≡ create_by path is_directory wanted }
+    ensures value { cons_option result [] ≡ create_by path is_directory wanted }
+    ensures facts { All IsAct (cons_option result []) }
 {
     match (wanted, is_directory) {
         (None, _) => Some(Act::Bust(Reason::BadValue)),
@@ -61,7 +69,9 @@ fn create_act(
     is_directory: bool,
     wanted: &Option<Name>,
 ) -> Result<Option<Act>, NoMemory>
-    ensures { IfOk result (λ act. cons_option act [] ≡ create_acts path.now is_directory wanted.now) }
+    ensures value { IfOk result
+        (λ act. cons_option act [] ≡ create_acts path.now is_directory wanted.now) }
+    ensures facts { IfOk result (λ act. All IsAct (cons_option act [])) }
 {
     match wanted {
         None => Ok(None),
@@ -99,7 +109,8 @@ fn read_path(alloc: Global, text: &str) -> Result<Option<Path>, NoMemory>
 }
 
 fn copy_from(alloc: Global, path: &Path, source: Option<Path>) -> Result<Act, NoMemory>
-    ensures { IfOk result (λ act. act ≡ copy_from path.now source) }
+    ensures value { IfOk result (λ act. act ≡ copy_from path.now source) }
+    ensures fact { IfOk result (λ act. IsAct act) }
 {
     match source {
         None => Ok(Act::Bust(Reason::BadPath)),
@@ -113,7 +124,8 @@ fn copy_by(
     is_directory: bool,
     sayings: &Sayings,
 ) -> Result<Act, NoMemory>
-    ensures { IfOk result (λ act. act ≡ copy_act path.now is_directory sayings.now) }
+    ensures value { IfOk result (λ act. act ≡ copy_act path.now is_directory sayings.now) }
+    ensures fact { IfOk result (λ act. IsAct act) }
 {
     if is_wrong_digest(sayings.get("compare")) {
         return Ok(Act::Bust(Reason::BadValue));
@@ -131,8 +143,9 @@ fn copy_act(
     is_directory: bool,
     sayings: Option<&Sayings>,
 ) -> Result<Option<Act>, NoMemory>
-    ensures { IfOk result (λ act. cons_option act []
+    ensures value { IfOk result (λ act. cons_option act []
         ≡ copy_acts path.now is_directory (option_copied sayings.entry)) }
+    ensures facts { IfOk result (λ act. All IsAct (cons_option act [])) }
 {
     match sayings {
         None => Ok(None),
@@ -146,8 +159,10 @@ fn content_act(
     is_directory: bool,
     content: &Option<Name>,
 ) -> Result<Option<Act>, NoMemory>
-    ensures { IfOk result
+    requires { IsShort content.now }
+    ensures value { IfOk result
         (λ act. cons_option act [] ≡ content_acts path.now is_directory content.now) }
+    ensures facts { IfOk result (λ act. All IsAct (cons_option act [])) }
 {
     match content {
         None => Ok(None),
@@ -158,5 +173,76 @@ fn content_act(
             let bytes = Bytes::from_slice(alloc, content.as_str().as_bytes())?;
             Ok(Some(Act::Content(path.copy(alloc)?, bytes)))
         }
+    }
+}
+
+// Adds an act, if there is one.
+#[tactic(auto, using(crate::proofs::Rules::appended))]
+fn add_act(acts: &mut Vec<Act>, act: Option<Act>) -> Result<(), NoMemory>
+    requires old { All IsAct acts.old.items }
+    requires act { All IsAct (cons_option act []) }
+    ensures value { OnOk result (acts.new.items ≡ acts.old.items ++ cons_option act []) }
+    ensures facts { OnOk result (All IsAct acts.new.items) }
+{
+    push_if(acts, act)
+}
+
+// The acts at a path, in the order in which they are made.
+fn acts_at(
+    alloc: Global,
+    path: &Path,
+    is_directory: bool,
+    create: &Option<Name>,
+    content: &Option<Name>,
+    bodies: &Bodies,
+) -> Result<Vec<Act>, NoMemory>
+    requires { IsShort content.now }
+    ensures value { IfOk result (λ acts. acts.items
+        ≡ acts_at path.now is_directory create.now content.now bodies.now) }
+    ensures facts { IfOk result (λ acts. All IsAct acts.items) }
+{
+    let mut acts = Vec::new(alloc);
+    add_act(&mut acts, delete_act(alloc, path, bodies.get("delete"))?)?;
+    add_act(&mut acts, create_act(alloc, path, is_directory, create)?)?;
+    let copied = copy_act(alloc, path, is_directory, bodies.get("copy_from"))?;
+    add_act(&mut acts, copied)?;
+    add_act(&mut acts, content_act(alloc, path, is_directory, content)?)?;
+    add_act(&mut acts, perms_act(alloc, path, bodies.get("perms"))?)?;
+    Ok(acts)
+}
+
+// What a promiser names as a path, and whether it is written as a directory.
+fn path_part(promiser: &str) -> (&str, bool)
+    ensures part { result.0.now ≡ path_part promiser.now }
+    ensures directory { result.1 ≡ is_directory_form promiser.now }
+{
+    match promiser.strip_suffix("/.") {
+        Some(path) => (path, true),
+        None => (promiser, false),
+    }
+}
+
+/// The acts of a files promise.
+#[tactic(auto, unfolding(crate::specs::FileActs::file_acts))]
+pub(crate) fn file_acts(
+    alloc: Global,
+    promiser: &str,
+    create: &Option<Name>,
+    content: &Option<Name>,
+    bodies: &Bodies,
+) -> Result<Vec<Act>, NoMemory>
+    requires { IsShort content.now }
+    ensures value { IfOk result
+        (λ acts. acts.items ≡ file_acts promiser.now create.now content.now bodies.now) }
+    ensures facts { IfOk result (λ acts. All IsAct acts.items) }
+{
+    let (part, is_directory) = path_part(promiser);
+    match read_path(alloc, part)? {
+        None => {
+            let mut acts = Vec::new(alloc);
+            acts.push(Act::Bust(Reason::BadPath))?;
+            Ok(acts)
+        }
+        Some(path) => acts_at(alloc, &path, is_directory, create, content, bodies),
     }
 }

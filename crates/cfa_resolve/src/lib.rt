@@ -3,6 +3,7 @@
 
 mod arguments;
 mod bodies;
+mod classes;
 mod combining;
 mod files;
 mod hearing;
@@ -10,6 +11,7 @@ mod instances;
 mod permissions;
 mod reads;
 mod sayings;
+mod services;
 mod values;
 
 pub use instances::{

@@ -1,10 +1,11 @@
 // What files promises ask of permissions.
-ghost use Rattle.std.specs.Prelude.{◌≡◌, [], IfOk, option_copied};
+ghost use Rattle.std.specs.Prelude.{◌≡◌, [], All, IfOk, option_copied};
 ghost use Rattle.std.specs.List.{cons_option, list_any};
+ghost use Rattle.cfa_acts.specs.Acts.{IsAct};
 ghost use Rattle.cfa_resolve.specs.FileActs.{mode_said, is_empty, full_list, names_said, perms_by, perms_act, perms_acts};
 
 use crate::sayings::{Said, Sayings};
-use crate::values::{items_in, mode_written, text_in};
+use crate::values::{mode_written, text_in};
 use cfa_acts::{Act, Reason};
 use cfa_base::{Name, Names, NoMemory};
 use cfa_outside::Path;
@@ -31,23 +32,13 @@ fn has_empty(items: &[Name]) -> bool
     false
 }
 
-fn copy_names(alloc: Global, items: &[Name]) -> Result<Names, NoMemory>
-    ensures { IfOk result (λ names. names ≡ items.now) }
-{
-    let mut names = Names::new(alloc);
-    for item in items {
-        names.push(item.copy(alloc)?)?;
-    }
-    Ok(names)
-}
-
-fn full_list(alloc: Global, items: &[Name]) -> Result<Option<Names>, NoMemory>
+fn full_list(alloc: Global, items: &Names) -> Result<Option<Names>, NoMemory>
     ensures { IfOk result (λ names. names ≡ full_list items.now) }
 {
-    if items.is_empty() || has_empty(items) {
+    if items.as_slice().is_empty() || has_empty(items.as_slice()) {
         Ok(None)
     } else {
-        Ok(Some(copy_names(alloc, items)?))
+        Ok(Some(items.copy(alloc)?))
     }
 }
 
@@ -56,7 +47,8 @@ fn names_said(alloc: Global, said: Option<&Said>) -> Result<Option<Names>, NoMem
 {
     match said {
         None => Ok(Some(Names::new(alloc))),
-        Some(said) => full_list(alloc, items_in(said)),
+        Some(Said::Items(items)) => full_list(alloc, items),
+        Some(_) => Ok(None),
     }
 }
 
@@ -89,8 +81,9 @@ pub(crate) fn perms_act(
     path: &Path,
     sayings: Option<&Sayings>,
 ) -> Result<Option<Act>, NoMemory>
-    ensures { IfOk result
+    ensures value { IfOk result
         (λ act. cons_option act [] ≡ perms_acts path.now (option_copied sayings.entry)) }
+    ensures facts { IfOk result (λ act. All IsAct (cons_option act [])) }
 {
     match sayings {
         None => Ok(None),

@@ -3,7 +3,8 @@ ghost use Rattle.std.specs.Prelude.{◌≡◌, ◌≤◌, IfOk};
 ghost use Rattle.cfa_kinds.specs.Forms.{minutes_written};
 ghost use Rattle.cfa_tree.specs.Plain.{plain_promise};
 ghost use Rattle.cfa_vars.specs.Scopes.{in_scope};
-ghost use Rattle.cfa_resolve.specs.FileActs.{truth, mode_written, text_in, items_in, own_text};
+ghost use Rattle.cfa_resolve.specs.Lengths.{IsShort};
+ghost use Rattle.cfa_resolve.specs.FileActs.{truth, mode_written, text_in, own_text};
 
 use crate::arguments::whole_or_empty;
 use crate::sayings::Said;
@@ -71,18 +72,6 @@ pub(crate) fn text_in(said: &Said) -> &str
     }
 }
 
-/// What is said as a list, empty where it is none.
-pub(crate) fn items_in(said: &Said) -> &[Name]
-    ensures { result.now ≡ items_in said.now }
-{
-    match said {
-        Said::Text(_) => &[],
-        Said::Items(items) => items.as_slice(),
-        Said::Unresolved(_) => &[],
-        Said::Over(_) => &[],
-    }
-}
-
 /// The text that an attribute of a promise itself gives.
 pub(crate) fn own_text(
     alloc: Global,
@@ -91,8 +80,9 @@ pub(crate) fn own_text(
     scopes: &Scopes<'_>,
     choice: &[(Name, Name)],
 ) -> Result<Option<Name>, NoMemory>
-    ensures { IfOk result (λ t. t
+    ensures value { IfOk result (λ t. t
         ≡ own_text (in_scope scopes.now) choice.now (plain_promise promise.now) name.now) }
+    ensures short { IfOk result (λ t. IsShort t) }
 {
     match value_named(promise.attributes.as_slice(), name) {
         None => Ok(None),
