@@ -1,5 +1,6 @@
 pub mod BodyLemmas
 pub mod FileLemmas
+pub mod KeyLemmas
 pub mod ReadLemmas
 pub mod Rules
 pub mod ValueLemmas

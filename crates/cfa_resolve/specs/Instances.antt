@@ -68,6 +68,10 @@ done_text TooLong = []
 abbrev pub promiser_in : Reached → Chosen → List ℕ
 promiser_in r choice = done_text (expanded r.scopes choice r.promise.promiser)
 
+-- the text that an attribute of the promise itself gives
+abbrev pub text_of : Reached → Chosen → List ℕ → Option (List ℕ)
+text_of r choice name = own_text r.scopes choice r.promise name
+
 -- the bundle that a methods promise calls, with what its arguments give
 abbrev pub call_by : Reached → Chosen → Option ValueTree → Work
 call_by r choice None = Call [] []
@@ -75,10 +79,9 @@ call_by r choice (Some value) = Call (name_given value) (data_given r.scopes cho
 
 abbrev pub work_by : Reached → Chosen → Bodies → PromiseType → Work
 work_by r choice bodies promises.Files =
-    Acts (file_acts (promiser_in r choice) (own_text r.scopes choice r.promise (codes "create"))
-    (own_text r.scopes choice r.promise (codes "content")) bodies)
+    Acts (file_acts (promiser_in r choice) (text_of r choice (codes "create")) (text_of r choice (codes "content")) bodies)
 work_by r choice bodies promises.Services =
-    Acts (service_act (promiser_in r choice) (own_text r.scopes choice r.promise (codes "service_policy")) ∷ [])
+    Acts (service_act (promiser_in r choice) (text_of r choice (codes "service_policy")) ∷ [])
 work_by r choice bodies promises.Methods = call_by r choice (value_of (codes "usebundle") r.promise.attributes)
 work_by r choice bodies promises.Reports = Report (promiser_in r choice)
 work_by r choice bodies type = Acts []

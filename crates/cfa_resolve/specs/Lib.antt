@@ -6,3 +6,4 @@ pub mod OwnTexts
 pub mod Resolution
 pub mod ReadTexts
 pub mod Lengths
+pub mod SeenReached

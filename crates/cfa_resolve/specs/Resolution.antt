@@ -22,13 +22,11 @@ use Rattle.cfa_resolve.specs.OwnTexts.{combined, own_reads}
 use Rattle.cfa_resolve.specs.declared.hearing.Heard.{Heard}
 use Rattle.cfa_resolve.specs.declared.hearing.Heard.TheVariants.{Lacks as lacks_body, TooMany as many_in_body, TooLong as long_in_body, All as all_heard}
 use Rattle.cfa_resolve.specs.Bodies.{Bodies, bodies_of, heard}
+use Rattle.cfa_resolve.specs.declared.resolving.Made.{Made}
+use Rattle.cfa_resolve.specs.declared.resolving.Made.TheVariants.{Instance as an_instance, Nothing as nothing_for}
 use Rattle.cfa_resolve.specs.Instances.{Reached, bust_instance, made_instance}
 
 -- what one combination comes to: an instance, or what keeps it from being made
-pub data Made : Type 0 where
-  an_instance : Instance → Made
-  nothing_for : Option (List ℕ) → Made
-
 abbrev pub made_by : Reached → Chosen → Bodies → Heard → Made
 made_by r choice bodies (lacks_body name) = nothing_for name
 made_by r choice bodies many_in_body = an_instance (bust_instance r reasons.TooMany)
@@ -67,11 +65,22 @@ names_after r names (choice ∷ choices) = names_after r (with_name names (name_
 abbrev pub at_least_one : ℕ → ℕ
 at_least_one n = if n == 0 then 1 else n
 
+-- how many visits a promise counts
+abbrev pub visits_of : Combined → ℕ
+visits_of (lacks name) = 1
+visits_of too_many = 1
+visits_of (too_long combinations) = combinations
+visits_of (found choices) = at_least_one (length choices)
+
 abbrev pub resolved_as : Reached → Combined → Resolved
 resolved_as r (lacks name) = record { instances = []; unresolved = name ∷ []; unsettled = []; visits = 1 }
 resolved_as r too_many = record { instances = bust_instance r reasons.TooMany ∷ []; unresolved = []; unsettled = []; visits = 1 }
-resolved_as r (too_long combinations) =
-    record { instances = bust_instance r reasons.TooLong ∷ []; unresolved = []; unsettled = []; visits = combinations }
+resolved_as r (too_long combinations) = record {
+  instances = bust_instance r reasons.TooLong ∷ [];
+  unresolved = [];
+  unsettled = [];
+  visits = combinations;
+}
 resolved_as r (found choices) = record {
   instances = instances_for r choices;
   unresolved = names_after r [] choices;

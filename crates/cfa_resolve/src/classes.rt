@@ -22,6 +22,14 @@ fn classes_among(alloc: Global, texts: &[Name]) -> Result<Names, NoMemory>
     Ok(classes)
 }
 
+/// The classes for each outcome.
+#[derive(Drop)]
+pub(crate) struct Outcomes {
+    pub kept: Names,
+    pub repaired: Names,
+    pub failed: Names,
+}
+
 /// The classes that the `classes` body of a promise lists under a name.
 #[tactic(auto, unfolding(crate::specs::FileActs::outcome_classes))]
 pub(crate) fn outcome_classes(alloc: Global, bodies: &Bodies, name: &str) -> Result<Names, NoMemory>

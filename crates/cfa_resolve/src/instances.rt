@@ -1,8 +1,10 @@
 // Instances of promises.
 ghost use Rattle.std.specs.Prelude.{◌≡◌, All};
 ghost use Rattle.cfa_acts.specs.Acts.{IsAct};
+ghost use Rattle.cfa_resolve.specs.declared.instances.ResolveErr.TheVariants.{NoMemory};
 
 use cfa_acts::Act;
+use cfa_base as base;
 use cfa_base::{Name, Names, PromiseId};
 use cfa_classes::Statuses;
 use cfa_vars::{Datum, Scopes};
@@ -218,4 +220,12 @@ pub enum ResolveErr {
     /// No memory was left.
     #[error("out of memory")]
     NoMemory,
+}
+
+impl From<base::NoMemory> for ResolveErr {
+    ghost from_gives = { λ _ e. e ≡ NoMemory };
+
+    fn from(_: base::NoMemory) -> Self {
+        ResolveErr::NoMemory
+    }
 }

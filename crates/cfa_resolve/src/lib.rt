@@ -5,11 +5,16 @@ mod arguments;
 mod bodies;
 mod classes;
 mod combining;
+mod fields;
 mod files;
 mod hearing;
 mod instances;
+mod keys;
+mod making;
 mod permissions;
+mod reached;
 mod reads;
+mod resolving;
 mod sayings;
 mod services;
 mod values;
@@ -17,3 +22,4 @@ mod values;
 pub use instances::{
     Acts, Data, Instance, Instances, ResolveErr, Resolved, Unsettled, UnsettledList, View, Work,
 };
+pub use resolving::resolve;

@@ -353,37 +353,75 @@ fn add_service(alloc: Global, world: &mut World, name: &str) -> Result<(), Fail>
     Ok(())
 }
 
-// A lock is seen as never taken, and then at the moment that it was given; a service has the row that it was given.
+fn has_restarts(
+    alloc: Global,
+    site: &mut MemorySite,
+    name: &Name,
+    restarts: u32,
+) -> Result<bool, Fail> {
+    match site.service(alloc, name)? {
+        Some(row) => Ok(row.running && row.restarts == restarts),
+        None => Ok(false),
+    }
+}
+
+fn put_restarts(
+    rt: &impl Abort,
+    alloc: Global,
+    site: &mut MemorySite,
+    name: &Name,
+) -> Result<(), Fail> {
+    if let Some(mut row) = site.service(alloc, name)? {
+        row.restarts = 3;
+        assert!(rt; site.world().services.contains(name.as_str()));
+        site.change(alloc, &Change::PutService(name.copy(alloc)?, row))?;
+    }
+    Ok(())
+}
+
+// A service has the row that it was given.
 #[test]
-fn changes_services_and_locks(rt: HostRuntime) -> Result<(), Fail> {
+fn changes_services(rt: HostRuntime) -> Result<(), Fail> {
     let alloc = rt.alloc();
     let mut world = World::new(alloc);
     add_service(alloc, &mut world, "ssh")?;
     let mut site = MemorySite::new(alloc, world, Vec::new(alloc), None)?;
     let name = Name::from_text(alloc, "ssh")?;
-    assert!(rt;
-        site.service(alloc, &Name::from_text(alloc, "ss")?)?
-            .is_none()
-    );
-    if let Some(mut row) = site.service(alloc, &name)? {
-        assert_eq!(rt; row.restarts, 2);
-        row.restarts = 3;
-        assert!(rt; site.world().services.contains("ssh"));
-        site.change(alloc, &Change::PutService(name.copy(alloc)?, row))?;
+    let other = Name::from_text(alloc, "ss")?;
+    assert!(rt; !has_restarts(alloc, &mut site, &other, 2)?);
+    assert!(rt; has_restarts(alloc, &mut site, &name, 2)?);
+    put_restarts(&rt, alloc, &mut site, &name)?;
+    assert!(rt; has_restarts(alloc, &mut site, &name, 3)?);
+    Ok(())
+}
+
+fn take_lock(alloc: Global, site: &mut MemorySite, moment: u64) -> Result<Option<u64>, Fail> {
+    match Key::read(&[b'0'; 64]) {
+        Some(key) => {
+            let last = site.lock(alloc, &key)?;
+            site.change(alloc, &Change::PutLock(key, moment))?;
+            Ok(last)
+        }
+        None => Ok(None),
     }
-    assert!(rt;
-        site.service(alloc, &name)?
-            .is_some_and(|row| row.running && row.restarts == 3)
-    );
-    if let Some(key) = Key::read(&[b'0'; 64]) {
-        assert!(rt; site.lock(alloc, &key)?.is_none());
-        site.change(alloc, &Change::PutLock(key.copy(), 7))?;
-        assert_eq!(rt; site.lock(alloc, &key)?, Some(7));
-    }
-    for line in ["run 1\n", "open 1\n"] {
-        let line = Bytes::from_slice(alloc, line.as_bytes())?;
-        site.change(alloc, &Change::Append(line))?;
-    }
+}
+
+fn append(alloc: Global, site: &mut MemorySite, line: &str) -> Result<(), Fail> {
+    let line = Bytes::from_slice(alloc, line.as_bytes())?;
+    site.change(alloc, &Change::Append(line))?;
+    Ok(())
+}
+
+// A lock is seen as never taken, and then at the moment that it was given; the journal has what was appended.
+#[test]
+fn changes_locks_and_the_journal(rt: HostRuntime) -> Result<(), Fail> {
+    let alloc = rt.alloc();
+    let mut site = MemorySite::new(alloc, World::new(alloc), Vec::new(alloc), None)?;
+    let first = take_lock(alloc, &mut site, 7)?;
+    let second = take_lock(alloc, &mut site, 8)?;
+    assert!(rt; first.is_none() && second == Some(7));
+    append(alloc, &mut site, "run 1\n")?;
+    append(alloc, &mut site, "open 1\n")?;
     assert!(rt; site.world().journal.as_slice() == b"run 1\nopen 1\n".as_slice());
     assert_eq!(rt; site.log().len(), 4);
     Ok(())
