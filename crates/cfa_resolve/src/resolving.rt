@@ -195,6 +195,7 @@ fn resolved_as(
 }
 
 // What a promise resolves to, where it counts no more visits than are left.
+#[tactic(auto, unfolding(crate::specs::Resolution::resolution), using(crate::proofs::ResolutionLemmas::visits_counted))]
 fn resolution(alloc: Global, reached: &Reached<'_>, left: u64) -> Result<Resolved, ResolveErr>
     ensures resolved { IfOk result (λ r. r ≡ resolution (seen_reached reached.now)) }
     ensures within { IfOk result (λ r. r.visits ≤ left) }
