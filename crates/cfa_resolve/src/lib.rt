@@ -22,4 +22,4 @@ mod values;
 pub use instances::{
     Acts, Data, Instance, Instances, ResolveErr, Resolved, Unsettled, UnsettledList, View, Work,
 };
-pub use resolving::resolve;
+pub use resolving::{is_acting, resolve};

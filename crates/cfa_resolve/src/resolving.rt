@@ -1,12 +1,12 @@
 // What promises resolve to.
-ghost use Rattle.std.specs.Prelude.{◌≡◌, ◌++◌, ◌∷◌, [], ◌≤◌, ◌<◌, ℕ, List, Some, IfOk, IfSome, IsErrOf, OnOk};
+ghost use Rattle.std.specs.Prelude.{◌≡◌, ◌++◌, ◌∷◌, [], ◌≤◌, ◌<◌, ℕ, List, Some, IfOk, IfSome, IsErrOf, IsTrue, OnOk, ◌↔◌};
 ghost use Rattle.std.specs.List.{cons_option};
 ghost use Rattle.cfa_schema.specs.Checked.{typed_promise_of};
 ghost use Rattle.cfa_schema.specs.Seen.{tree_of};
 ghost use Rattle.cfa_vars.specs.Scopes.{in_scope};
 ghost use Rattle.cfa_acts.specs.Acts.{IsOwn};
 ghost use Rattle.cfa_resolve.specs.Instances.{bust_instance};
-ghost use Rattle.cfa_resolve.specs.Resolution.{made, instance_in, name_in, is_among, with_name, instances_for, names_after, visits_of, resolved_as, resolution, IsActing, resolution_of};
+ghost use Rattle.cfa_resolve.specs.Resolution.{made, instance_in, name_in, is_among, with_name, instances_for, names_after, visits_of, resolved_as, resolution, is_acting, IsActing, resolution_of};
 ghost use Rattle.cfa_resolve.specs.SeenReached.{seen_reached};
 
 use crate::bodies::bodies_of;
@@ -18,7 +18,9 @@ use crate::reads::own_reads;
 use crate::{Instance, Instances, ResolveErr, Resolved, UnsettledList, View};
 use cfa_acts::Reason;
 use cfa_base::{Name, Names, NoMemory, Patterns, PromiseId};
+use cfa_kinds::PromiseType;
 use cfa_schema::Checked;
+use cfa_values::has_attribute;
 use cfa_vars::Choice;
 use std::alloc::Global;
 
@@ -209,6 +211,28 @@ fn resolution(alloc: Global, reached: &Reached<'_>, left: u64) -> Result<Resolve
         return Err(ResolveErr::TooLarge);
     }
     Ok(resolved_as(alloc, reached, combined)?)
+}
+
+fn has_instances(promise_type: PromiseType) -> bool
+    ensures { result ≡ is_acting promise_type }
+{
+    matches!(
+        promise_type,
+        PromiseType::Files | PromiseType::Methods | PromiseType::Services | PromiseType::Reports
+    )
+}
+
+/// Whether an id names a promise that `resolve` takes, without taking memory: one of files, methods, services or reports,
+/// without line edits.
+pub fn is_acting(checked: &Checked, promise: &PromiseId) -> bool
+    ensures { IsTrue result ↔ IsActing (typed_promise_of (tree_of checked.now) promise.now) }
+{
+    match checked.typed_promise(promise) {
+        None => false,
+        Some((promise_type, found)) => {
+            has_instances(promise_type) && !has_attribute(found.attributes.as_slice(), "edit_line")
+        }
+    }
 }
 
 /// What a promise resolves to in a view: an instance for each combination of the items of the lists that its own texts
