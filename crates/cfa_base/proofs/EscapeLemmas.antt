@@ -1,11 +1,12 @@
 -- The escaped field of a text is its percent-encoding by the code's set, so that decoding gives the text back.
-use Rattle.std.proofs.Common.{◌≡◌, ℕ, ◌+◌, ◌/◌, ◌%◌, ◌<◌, ◌≤◌, List, [], ◌∷◌, ◌++◌, true, false, not, ltb, All, refl, sym, ap, ◌∙◌, subst, ⊎_elim, arith}
+use Rattle.std.proofs.Common.{Fits, w8, get_or, ◌≡◌, ℕ, ◌+◌, ◌/◌, ◌%◌, ◌<◌, ◌≤◌, List, [], ◌∷◌, ◌++◌, true, false, not, ltb, All, refl, sym, ap, ◌∙◌, subst, ⊎_elim, arith}
 use Rattle.std.proofs.lemmas.Bool.{cases_Bool, cond_both, and_parts, agree_below, agree_below_at, ltb-true}
 use Rattle.std.proofs.lemmas.Bool.Decides.{nat_tests}
 use Rattle.std.proofs.lemmas.List.Elements.{All-nil, All-cons, All-head, All-tail, All-append}
 use Rattle.std.specs.Fmt.{digit_glyph}
 use Rattle.std.specs.Str.{IsUtf8}
 use lib.Utf8.{scalar, scalars, scalar_cases, next, encode, encodes}
+use Rattle.std.proofs.lemmas.List.Elements.{All-from_get_or}
 use Rattle.percent_encoding.specs.AsciiSet.{contains, should_percent_encode}
 use Rattle.percent_encoding.specs.Percent.{percent_encode_byte, percent_encode, percent_decode}
 use Rattle.percent_encoding.proofs.PercentLemmas.{IsByte, percent_encode-nil, percent_encode_escaped, percent_encode_kept, round_trip}
@@ -90,6 +91,9 @@ encodes_bytes (c ∷ cs) all =
 
 pub text_bytes : (text : List ℕ) → IsUtf8 text → All IsByte text
 text_bytes text (cs, (all, same)) = subst (All IsByte) same (encodes_bytes cs all)
+
+pub bytes_fit : (text : List ℕ) → ((i : ℕ) → Fits w8 (get_or text i 0)) → All IsByte text
+bytes_fit text fit = All-from_get_or IsByte text 0 (λ i h. omega (arith, fit i))
 
 -- a field decodes to its text
 pub percent_decode-escaped : (text : List ℕ) → IsUtf8 text → percent_decode (escaped text) ≡ text

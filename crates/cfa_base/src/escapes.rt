@@ -50,8 +50,15 @@ impl From<memory::NoMemory> for FieldErr {
 pub fn escape(alloc: Global, text: &Name) -> Result<Name, memory::NoMemory>
     ensures { IfOk result (λ field. field ≡ escaped text.now) }
 {
+    escape_bytes(alloc, text.as_str().as_bytes())
+}
+
+/// The same of a text that stands in bytes.
+pub fn escape_bytes(alloc: Global, text: &[u8]) -> Result<Name, memory::NoMemory>
+    ensures { IfOk result (λ field. field ≡ escaped text.now) }
+{
     let mut field = String::new(alloc);
-    percent_encode(text.as_str().as_bytes(), ESCAPED).append_to(&mut field)?;
+    percent_encode(text, ESCAPED).append_to(&mut field)?;
     Ok(Name::from_string(field))
 }
 

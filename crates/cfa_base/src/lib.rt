@@ -17,7 +17,7 @@ mod words;
 
 pub use byte_strings::Bytes;
 pub use decimals::{are_digits, is_decimal};
-pub use escapes::{FieldErr, escape, fields_tell_texts, unescape, unescape_bytes};
+pub use escapes::{FieldErr, escape, escape_bytes, fields_tell_texts, unescape, unescape_bytes};
 pub use index::{NameIndex, PairIndex};
 pub use keys::Key;
 pub use limits::{

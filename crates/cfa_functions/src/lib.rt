@@ -11,4 +11,5 @@ mod wanting;
 pub use answering::Answer;
 pub use calling::{CallErr, call};
 pub use listing::{ValueList, list_of_value};
-pub use reading::{ValueText, text_of_value};
+pub use making::canonify;
+pub use reading::{ValueText, reference_text, referred_list, text_of_value};

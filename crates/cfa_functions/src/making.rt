@@ -19,7 +19,8 @@ fn canonical_byte(byte: u8) -> u8
     if is_word_byte(byte) { byte } else { b'_' }
 }
 
-fn canonify(alloc: Global, text: &Name) -> Result<Name, NoMemory>
+/// A text with an underscore in the place of each byte that a class name doesn't have.
+pub fn canonify(alloc: Global, text: &Name) -> Result<Name, NoMemory>
     ensures { IfOk result (λ n. n ≡ canonified text.now) }
 {
     let mut whole = String::new(alloc);

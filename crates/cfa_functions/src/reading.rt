@@ -74,8 +74,8 @@ fn expand_text(
     }
 }
 
-// The text of a reference by its name.
-fn written(alloc: Global, name: &Name) -> Result<Name, NoMemory>
+/// The text of a reference by its name.
+pub fn reference_text(alloc: Global, name: &Name) -> Result<Name, NoMemory>
     ensures { IfOk result (λ text. text ≡ codes "$(" ++ name.now ++ codes ")") }
 {
     let name = name.as_str();
@@ -103,7 +103,9 @@ fn name_list<'a>(argument: Given<'a>, scopes: &Scopes<'a>) -> Given<'a>
     }
 }
 
-pub(crate) fn referred_list(value: &Value) -> Option<&str>
+/// The name of a value that is a list reference, or a text that is wholly one, without taking memory. `None` for every
+/// other value.
+pub fn referred_list(value: &Value) -> Option<&str>
     ensures { option_copied result ≡ referred_list (plain_value value.now) }
 {
     match value {
@@ -163,7 +165,7 @@ pub fn text_of_value(
     match value {
         Value::Text(text, _) => expand_text(alloc, text, scopes, choice),
         Value::Word(text, _) => expand_text(alloc, text, scopes, choice),
-        Value::Ref(name, _) => expand_text(alloc, &written(alloc, name)?, scopes, choice),
+        Value::Ref(name, _) => expand_text(alloc, &reference_text(alloc, name)?, scopes, choice),
         Value::ListRef(_, _) => Ok(ValueText::Unresolved(None)),
         Value::List(_, _) => Ok(ValueText::Unresolved(None)),
         Value::Call(name, arguments, _) => {

@@ -344,7 +344,8 @@ fn replace_patterns_attribute(name: &str) -> Option<Kind>
     }
 }
 
-fn own_attribute(promise: PromiseType, name: &str) -> Option<Kind>
+/// What an attribute of a type of promises takes, without those that every type has. `None` where the type lacks it.
+pub fn own_attribute(promise: PromiseType, name: &str) -> Option<Kind>
     ensures { result ≡ own_attribute promise name.now }
 {
     match promise {

@@ -41,6 +41,8 @@ mod parser;
 #[cfg(test)]
 mod printer;
 #[cfg(test)]
+mod resolve;
+#[cfg(test)]
 mod sources;
 #[cfg(test)]
 mod tables;

@@ -112,7 +112,8 @@ fn is_unset(scopes: &Scopes<'_>, name: &str) -> bool
     look_up(scopes, name).is_none()
 }
 
-fn first_unset_in<'t>(text: &'t str, scopes: &Scopes<'_>) -> Option<&'t str>
+/// The first name of a text, from left to right, that refers to no variable that is set, without taking memory.
+pub fn first_unset_in<'t>(text: &'t str, scopes: &Scopes<'_>) -> Option<&'t str>
     ensures { option_copied result ≡ first_unset (in_scope scopes.now) (names_in text.now) }
 {
     let mut rest = text;

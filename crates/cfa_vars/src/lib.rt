@@ -8,7 +8,7 @@ mod looking;
 mod references;
 mod scoping;
 
-pub use choosing::{Choice, ChoiceList, Choices, combinations};
+pub use choosing::{Choice, ChoiceList, Choices, combinations, first_unset_in};
 pub use expanding::{Expanded, expand};
 pub use looking::{Scopes, Variable, constant, list_key, look_up};
 pub use references::{Reference, closing, first_reference, list_reference, split_name};

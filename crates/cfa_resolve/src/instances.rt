@@ -1,0 +1,231 @@
+// Instances of promises.
+ghost use Rattle.std.specs.Prelude.{◌≡◌, All};
+ghost use Rattle.cfa_acts.specs.Acts.{IsAct};
+ghost use Rattle.cfa_resolve.specs.declared.instances.ResolveErr.TheVariants.{NoMemory};
+
+use cfa_acts::Act;
+use cfa_base as base;
+use cfa_base::{Name, Names, PromiseId};
+use cfa_classes::Statuses;
+use cfa_vars::{Datum, Scopes};
+use std::marker::Model;
+use thiserror::Error;
+
+/// Acts, in the order in which they are made.
+#[derive(Drop)]
+pub struct Acts {
+    items: Vec<Act>,
+}
+
+impl Model for Acts {
+    ghost use Rattle.std.specs.Prelude.{List, All};
+    ghost use Rattle.cfa_acts.specs.declared.acts.Act.{Act};
+    ghost use Rattle.cfa_acts.specs.Acts.{IsAct};
+
+    ghost Value = { List Act };
+
+    ghost view = { λ a. a.items.items };
+
+    ghost invariant = { λ a. All IsAct a.items.items };
+}
+
+impl Acts {
+    /// The acts of a `Vec`, without taking memory.
+    pub fn from_vec(items: Vec<Act>) -> Acts
+        requires { All IsAct items.items }
+        ensures { result ≡ items.items }
+    {
+        Acts { items }
+    }
+
+    /// The acts, without taking memory.
+    pub fn as_slice(&self) -> &[Act]
+        ensures acts { result.now ≡ self.now }
+        ensures facts { All IsAct self.now }
+    {
+        self.items.as_slice()
+    }
+}
+
+/// What the arguments of a call hold, in their order.
+#[derive(Drop)]
+pub struct Data {
+    items: Vec<Datum>,
+}
+
+impl Model for Data {
+    ghost use Rattle.std.specs.Prelude.{List};
+    ghost use Rattle.cfa_vars.specs.declared.scoping.Datum.{Datum};
+
+    ghost Value = { List Datum };
+
+    ghost view = { λ d. d.items.items };
+}
+
+impl Data {
+    /// The data of a `Vec`, without taking memory.
+    pub fn from_vec(items: Vec<Datum>) -> Data
+        ensures { result ≡ items.items }
+    {
+        Data { items }
+    }
+
+    /// The data, without taking memory.
+    pub fn as_slice(&self) -> &[Datum]
+        ensures { result.now ≡ self.now }
+    {
+        self.items.as_slice()
+    }
+}
+
+/// What an instance asks for.
+#[derive(Drop)]
+pub enum Work {
+    /// Acts on the host, one after the other.
+    Acts(Acts),
+    /// An activation of a bundle with arguments.
+    Call(Name, Data),
+    /// A line that is put.
+    Report(Name),
+}
+
+/// One combination of a promise. It is named by its path and its text.
+#[derive(Drop)]
+pub struct Instance {
+    /// The activation in which its promise was reached.
+    pub path: Name,
+    /// Its promise.
+    pub source: PromiseId,
+    pub work: Work,
+    /// The classes that are raised where it is kept, canonified, none of them empty.
+    pub kept: Names,
+    /// Those that are raised where it is repaired.
+    pub repaired: Names,
+    /// Those that are raised where it failed.
+    pub failed: Names,
+    /// How many minutes have to go by before it is due again.
+    pub elapsed: u32,
+    /// Its key text, which tells its promise, work, classes and minutes.
+    pub text: Name,
+}
+
+/// Instances, in the order of their combinations.
+#[derive(Drop)]
+pub struct Instances {
+    items: Vec<Instance>,
+}
+
+impl Model for Instances {
+    ghost use Rattle.std.specs.Prelude.{List};
+    ghost use Rattle.cfa_resolve.specs.declared.instances.Instance.{Instance};
+
+    ghost Value = { List Instance };
+
+    ghost view = { λ i. i.items.items };
+}
+
+impl Instances {
+    /// The instances of a `Vec`, without taking memory.
+    pub fn from_vec(items: Vec<Instance>) -> Instances
+        ensures { result ≡ items.items }
+    {
+        Instances { items }
+    }
+
+    /// The instances, without taking memory.
+    pub fn as_slice(&self) -> &[Instance]
+        ensures { result.now ≡ self.now }
+    {
+        self.items.as_slice()
+    }
+
+    /// The instances as a `Vec`, without taking memory.
+    pub fn into_vec(self) -> Vec<Instance>
+        ensures { result.items ≡ self }
+    {
+        self.items
+    }
+}
+
+/// A promise of an edit bundle whose guard may hold or not.
+#[derive(Drop)]
+pub struct Unsettled {
+    pub promise: PromiseId,
+    /// The first class of its guard that may be set or not.
+    pub class: Name,
+    /// That class where it is global, else the global class that it goes back to.
+    pub origin: Name,
+}
+
+/// Promises of edit bundles whose guards may hold or not.
+#[derive(Drop)]
+pub struct UnsettledList {
+    items: Vec<Unsettled>,
+}
+
+impl Model for UnsettledList {
+    ghost use Rattle.std.specs.Prelude.{List};
+    ghost use Rattle.cfa_resolve.specs.declared.instances.Unsettled.{Unsettled};
+
+    ghost Value = { List Unsettled };
+
+    ghost view = { λ u. u.items.items };
+}
+
+impl UnsettledList {
+    /// The promises of a `Vec`, without taking memory.
+    pub fn from_vec(items: Vec<Unsettled>) -> UnsettledList
+        ensures { result ≡ items.items }
+    {
+        UnsettledList { items }
+    }
+
+    /// The promises, without taking memory.
+    pub fn as_slice(&self) -> &[Unsettled]
+        ensures { result.now ≡ self.now }
+    {
+        self.items.as_slice()
+    }
+}
+
+/// What a promise resolves to.
+#[derive(Drop)]
+pub struct Resolved {
+    pub instances: Instances,
+    /// The names that kept something from being made, once each, in the order in which they are met.
+    pub unresolved: Names,
+    pub unsettled: UnsettledList,
+    /// How many visits the promise counts.
+    pub visits: u64,
+}
+
+/// What a promise is resolved in: the variables that its texts may refer to, the global classes, and the path of its
+/// activation.
+#[derive(Clone, Copy)]
+pub struct View<'a> {
+    pub scopes: Scopes<'a>,
+    pub statuses: &'a Statuses,
+    pub path: &'a Name,
+}
+
+/// Why a promise was not resolved.
+#[derive(Debug, Drop, Error)]
+pub enum ResolveErr {
+    /// The promise counts more visits than are left.
+    #[error("more visits than are left")]
+    TooLarge,
+    /// The pattern of this text was refused for its size.
+    #[error("a pattern is too big")]
+    PatternTooBig(Name),
+    /// No memory was left.
+    #[error("out of memory")]
+    NoMemory,
+}
+
+impl From<base::NoMemory> for ResolveErr {
+    ghost from_gives = { λ _ e. e ≡ NoMemory };
+
+    fn from(_: base::NoMemory) -> Self {
+        ResolveErr::NoMemory
+    }
+}

@@ -1,0 +1,257 @@
+// The instances of combinations.
+ghost use Rattle.std.specs.Prelude.{◌≡◌, ◌∷◌, [], Some, IfOk, codes, option_copied};
+ghost use Rattle.cfa_acts.specs.Acts.{IsAct, IsOwn};
+ghost use Rattle.cfa_schema.specs.Seen.{tree_of};
+ghost use Rattle.cfa_schema.specs.Served.{minutes_of};
+ghost use Rattle.cfa_tree.specs.Plain.{plain_promise, plain_value};
+ghost use Rattle.cfa_values.specs.Attributes.{value_of};
+ghost use Rattle.cfa_resolve.specs.declared.instances.Work.TheVariants.{Acts as of_acts};
+ghost use Rattle.cfa_resolve.specs.FileActs.{file_acts, service_act, outcome_classes};
+ghost use Rattle.cfa_resolve.specs.Instances.{instance_of, bust_instance, promiser_in, text_of, call_by, work_by, minutes_said, classed, made_instance};
+ghost use Rattle.cfa_resolve.specs.SeenReached.{seen_reached};
+
+use crate::arguments::{data_given, empty_text, name_given};
+use crate::classes::{Outcomes, outcome_classes};
+use crate::files::file_acts;
+use crate::hearing::Bodies;
+use crate::keys::key_text;
+use crate::reached::Reached;
+use crate::reads::arguments_of;
+use crate::sayings::Said;
+use crate::services::service_act;
+use crate::values::{minutes_written, own_text, short_minutes, text_in};
+use crate::{Acts, Data, Instance, Work};
+use cfa_acts::{Act, Reason};
+use cfa_base::{Name, Names, NoMemory, PromiseId};
+use cfa_kinds::PromiseType;
+use cfa_schema::Checked;
+use cfa_tree::Value;
+use cfa_values::value_named;
+use cfa_vars::{Expanded, expand};
+use std::alloc::Global;
+
+fn copy_id(alloc: Global, id: &PromiseId) -> Result<PromiseId, NoMemory>
+    ensures { IfOk result (λ copy. copy ≡ id.now) }
+{
+    Ok(PromiseId {
+        bundle: id.bundle.copy(alloc)?,
+        number: id.number,
+        line: id.line,
+    })
+}
+
+fn instance_of(
+    alloc: Global,
+    reached: &Reached<'_>,
+    promiser: &Name,
+    work: Work,
+    outcomes: Outcomes,
+    minutes: u32,
+) -> Result<Instance, NoMemory>
+    ensures { IfOk result (λ i. i ≡ instance_of (seen_reached reached.now) promiser.now work
+        outcomes.kept outcomes.repaired outcomes.failed minutes) }
+{
+    let text = key_text(alloc, reached.id, promiser, &work, &outcomes, minutes)?;
+    Ok(Instance {
+        path: reached.path.copy(alloc)?,
+        source: copy_id(alloc, reached.id)?,
+        work,
+        kept: outcomes.kept,
+        repaired: outcomes.repaired,
+        failed: outcomes.failed,
+        elapsed: minutes,
+        text,
+    })
+}
+
+fn one_act(alloc: Global, act: Act) -> Result<Acts, NoMemory>
+    requires { IsAct act }
+    ensures { IfOk result (λ acts. acts ≡ act ∷ []) }
+{
+    let mut items = Vec::new(alloc);
+    items.push(act)?;
+    Ok(Acts::from_vec(items))
+}
+
+fn control_minutes(checked: &Checked) -> u32
+    ensures { result ≡ minutes_of (tree_of checked.now) }
+{
+    short_minutes(checked.minutes())
+}
+
+/// The one instance of what is too many or too long.
+pub(crate) fn bust_instance(
+    alloc: Global,
+    reached: &Reached<'_>,
+    reason: Reason,
+) -> Result<Instance, NoMemory>
+    requires { IsOwn reason }
+    ensures { IfOk result (λ i. i ≡ bust_instance (seen_reached reached.now) reason) }
+{
+    let work = Work::Acts(one_act(alloc, Act::Bust(reason))?);
+    let none = Outcomes {
+        kept: Names::new(alloc),
+        repaired: Names::new(alloc),
+        failed: Names::new(alloc),
+    };
+    let minutes = control_minutes(reached.checked);
+    instance_of(
+        alloc,
+        reached,
+        &reached.promise.promiser,
+        work,
+        none,
+        minutes,
+    )
+}
+
+fn promiser_in(
+    alloc: Global,
+    reached: &Reached<'_>,
+    choice: &[(Name, Name)],
+) -> Result<Name, NoMemory>
+    ensures { IfOk result (λ p. p ≡ promiser_in (seen_reached reached.now) choice.now) }
+{
+    match expand(alloc, &reached.promise.promiser, &reached.scopes, choice)? {
+        Expanded::Done(whole) => Ok(whole),
+        Expanded::Unresolved(_) => Ok(empty_text(alloc)),
+        Expanded::TooLong => Ok(empty_text(alloc)),
+    }
+}
+
+fn call_of(
+    alloc: Global,
+    reached: &Reached<'_>,
+    value: &Value,
+    choice: &[(Name, Name)],
+) -> Result<Work, NoMemory>
+    ensures { IfOk result (λ w. w
+        ≡ call_by (seen_reached reached.now) choice.now (Some (plain_value value.now))) }
+{
+    let name = Name::from_text(alloc, name_given(value))?;
+    let arguments = data_given(alloc, arguments_of(value), &reached.scopes, choice)?;
+    Ok(Work::Call(name, Data::from_vec(arguments)))
+}
+
+// The bundle that a methods promise calls.
+fn call_work(
+    alloc: Global,
+    reached: &Reached<'_>,
+    choice: &[(Name, Name)],
+) -> Result<Work, NoMemory>
+    ensures { IfOk result (λ w. w ≡ call_by (seen_reached reached.now) choice.now
+        (value_of (codes "usebundle") (plain_promise reached.now.promise.now).attributes)) }
+{
+    match value_named(reached.promise.attributes.as_slice(), "usebundle") {
+        None => Ok(Work::Call(empty_text(alloc), Data::from_vec(Vec::new(alloc)))),
+        Some(value) => call_of(alloc, reached, value, choice),
+    }
+}
+
+fn files_work(
+    alloc: Global,
+    reached: &Reached<'_>,
+    promiser: &Name,
+    bodies: &Bodies,
+    choice: &[(Name, Name)],
+) -> Result<Work, NoMemory>
+    ensures { IfOk result (λ w. w ≡ of_acts (file_acts promiser.now
+        (text_of (seen_reached reached.now) choice.now (codes "create"))
+        (text_of (seen_reached reached.now) choice.now (codes "content")) bodies.now)) }
+{
+    let (promise, scopes) = (reached.promise, &reached.scopes);
+    let create = own_text(alloc, promise, "create", scopes, choice)?;
+    let content = own_text(alloc, promise, "content", scopes, choice)?;
+    let acts = file_acts(alloc, promiser.as_str(), &create, &content, bodies)?;
+    Ok(Work::Acts(Acts::from_vec(acts)))
+}
+
+fn services_work(
+    alloc: Global,
+    reached: &Reached<'_>,
+    promiser: &Name,
+    choice: &[(Name, Name)],
+) -> Result<Work, NoMemory>
+    ensures { IfOk result (λ w. w ≡ of_acts (service_act promiser.now
+        (text_of (seen_reached reached.now) choice.now (codes "service_policy")) ∷ [])) }
+{
+    let policy = own_text(
+        alloc,
+        reached.promise,
+        "service_policy",
+        &reached.scopes,
+        choice,
+    )?;
+    let act = service_act(promiser.copy(alloc)?, &policy);
+    Ok(Work::Acts(one_act(alloc, act)?))
+}
+
+// What a promise asks for in one combination, where this is its promiser.
+fn work_by(
+    alloc: Global,
+    reached: &Reached<'_>,
+    promiser: &Name,
+    bodies: &Bodies,
+    choice: &[(Name, Name)],
+) -> Result<Work, NoMemory>
+    requires { promiser.now ≡ promiser_in (seen_reached reached.now) choice.now }
+    ensures { IfOk result (λ w. w
+        ≡ work_by (seen_reached reached.now) choice.now bodies.now reached.now.promise_type) }
+{
+    match reached.promise_type {
+        PromiseType::Files => files_work(alloc, reached, promiser, bodies, choice),
+        PromiseType::Services => services_work(alloc, reached, promiser, choice),
+        PromiseType::Methods => call_work(alloc, reached, choice),
+        PromiseType::Reports => Ok(Work::Report(promiser.copy(alloc)?)),
+        _ => Ok(Work::Acts(Acts::from_vec(Vec::new(alloc)))),
+    }
+}
+
+fn minutes_said(reached: &Reached<'_>, said: Option<&Said>) -> Option<u32>
+    ensures { result ≡ minutes_said (seen_reached reached.now) (option_copied said.entry) }
+{
+    match said {
+        None => Some(control_minutes(reached.checked)),
+        Some(said) => minutes_written(text_in(said)),
+    }
+}
+
+fn outcomes_of(alloc: Global, bodies: &Bodies) -> Result<Outcomes, NoMemory>
+    ensures kept { IfOk result
+        (λ o. o.kept ≡ outcome_classes bodies.now (codes "promise_kept")) }
+    ensures repaired { IfOk result
+        (λ o. o.repaired ≡ outcome_classes bodies.now (codes "promise_repaired")) }
+    ensures failed { IfOk result
+        (λ o. o.failed ≡ outcome_classes bodies.now (codes "repair_failed")) }
+{
+    Ok(Outcomes {
+        kept: outcome_classes(alloc, bodies, "promise_kept")?,
+        repaired: outcome_classes(alloc, bodies, "promise_repaired")?,
+        failed: outcome_classes(alloc, bodies, "repair_failed")?,
+    })
+}
+
+/// The instance of a combination, where nothing that a body says keeps it from being made.
+#[tactic(auto, unfolding(crate::specs::Instances::made_instance))]
+pub(crate) fn made_instance(
+    alloc: Global,
+    reached: &Reached<'_>,
+    bodies: &Bodies,
+    choice: &[(Name, Name)],
+) -> Result<Instance, NoMemory>
+    ensures { IfOk result
+        (λ i. i ≡ made_instance (seen_reached reached.now) choice.now bodies.now) }
+{
+    let promiser = promiser_in(alloc, reached, choice)?;
+    let outcomes = outcomes_of(alloc, bodies)?;
+    match minutes_said(reached, bodies.said("action", "ifelapsed")) {
+        None => {
+            let work = Work::Acts(one_act(alloc, Act::Bust(Reason::BadValue))?);
+            instance_of(alloc, reached, &promiser, work, outcomes, 1)
+        }
+        Some(minutes) => {
+            let work = work_by(alloc, reached, &promiser, bodies, choice)?;
+            instance_of(alloc, reached, &promiser, work, outcomes, minutes)
+        }
+    }
+}

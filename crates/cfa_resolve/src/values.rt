@@ -1,0 +1,94 @@
+// Values of their kinds, and what is said as a text or a list.
+ghost use Rattle.std.specs.Prelude.{◌≡◌, ◌≤◌, IfOk};
+ghost use Rattle.cfa_kinds.specs.Forms.{minutes_written};
+ghost use Rattle.cfa_tree.specs.Plain.{plain_promise};
+ghost use Rattle.cfa_vars.specs.Scopes.{in_scope};
+ghost use Rattle.cfa_resolve.specs.Lengths.{IsShort};
+ghost use Rattle.cfa_resolve.specs.FileActs.{truth, mode_written, text_in, own_text};
+
+use crate::arguments::whole_or_empty;
+use crate::sayings::Said;
+use cfa_base::{Name, NoMemory};
+use cfa_functions::text_of_value;
+use cfa_kinds::{Form, has_form, minutes};
+use cfa_tree::Promise;
+use cfa_values::value_named;
+use cfa_vars::Scopes;
+use std::alloc::Global;
+
+/// Whether a text says yes or no.
+pub(crate) fn truth(text: &str) -> Option<bool>
+    ensures { result ≡ truth text.now }
+{
+    if matches!(text, "true" | "yes" | "on") {
+        Some(true)
+    } else if has_form(Form::Boolean, text) {
+        Some(false)
+    } else {
+        None
+    }
+}
+
+/// The mode that 3 or 4 octal digits write.
+pub(crate) fn mode_written(text: &str) -> Option<u16>
+    ensures { result ≡ mode_written text.now }
+{
+    if !has_form(Form::Mode, text) {
+        return None;
+    }
+    match u16::from_str_radix(text, 8) {
+        Ok(mode) => Some(mode),
+        Err(_) => None,
+    }
+}
+
+/// So many minutes, which are at most those of a year.
+pub(crate) fn short_minutes(minutes: u64) -> u32
+    requires { minutes ≤ 525600 }
+    ensures { result ≡ minutes }
+{
+    minutes as u32
+}
+
+/// The minutes that a text writes.
+pub(crate) fn minutes_written(text: &str) -> Option<u32>
+    ensures { result ≡ minutes_written text.now }
+{
+    match minutes(text) {
+        Some(number) => Some(short_minutes(number)),
+        None => None,
+    }
+}
+
+/// What is said as a text, empty where it is none.
+pub(crate) fn text_in(said: &Said) -> &str
+    ensures { result.now ≡ text_in said.now }
+{
+    match said {
+        Said::Text(content) => content.as_str(),
+        Said::Items(_) => "",
+        Said::Unresolved(_) => "",
+        Said::Over(_) => "",
+    }
+}
+
+/// The text that an attribute of a promise itself gives.
+pub(crate) fn own_text(
+    alloc: Global,
+    promise: &Promise,
+    name: &str,
+    scopes: &Scopes<'_>,
+    choice: &[(Name, Name)],
+) -> Result<Option<Name>, NoMemory>
+    ensures value { IfOk result (λ t. t
+        ≡ own_text (in_scope scopes.now) choice.now (plain_promise promise.now) name.now) }
+    ensures short { IfOk result (λ t. IsShort t) }
+{
+    match value_named(promise.attributes.as_slice(), name) {
+        None => Ok(None),
+        Some(value) => Ok(Some(whole_or_empty(
+            alloc,
+            text_of_value(alloc, value, scopes, choice)?,
+        ))),
+    }
+}
