@@ -9,8 +9,9 @@ use Rattle.cfa_base.specs.Escapes.{escaped}
 use Rattle.cfa_vars.specs.declared.scoping.Datum.{Datum}
 use Rattle.cfa_vars.specs.declared.scoping.Datum.TheVariants.{Text as text_of, List as list_of}
 use Rattle.cfa_acts.specs.declared.acts.Act.{Act}
-use Rattle.cfa_acts.specs.declared.acts.Act.TheVariants.{Create, MakeDir, Delete, Content, Copy, Perms, Start, Stop, Enable, Disable, Restart, Bust}
+use Rattle.cfa_acts.specs.declared.acts.Act.TheVariants.{Create, MakeDir, Delete, Content, Copy, Edit, Perms, Start, Stop, Enable, Disable, Restart, Bust}
 use Rattle.cfa_acts.specs.Reasons.{code_of}
+use Rattle.cfa_edits.specs.Scripts.{script_text}
 use Rattle.cfa_resolve.specs.declared.instances.Work.{Work}
 use Rattle.cfa_resolve.specs.declared.instances.Work.TheVariants.{Acts, Call, Report}
 
@@ -45,6 +46,7 @@ act_text promiser (MakeDir path) = fields_after (codes "mkdir") (escaped path �
 act_text promiser (Delete path with_directories) = fields_after (codes "delete") (escaped path ∷ yes_or_no with_directories ∷ [])
 act_text promiser (Content path bytes) = fields_after (codes "content") (escaped path ∷ escaped bytes ∷ [])
 act_text promiser (Copy source path) = fields_after (codes "copy") (escaped source ∷ escaped path ∷ [])
+act_text promiser (Edit path script) = fields_after (codes "edit") (escaped path ∷ script_text script ∷ [])
 act_text promiser (Perms path mode owners groups) =
     fields_after (codes "perms") (escaped path ∷ mode_field mode ∷ names_field owners ∷ names_field groups ∷ [])
 act_text promiser (Start name) = fields_after (codes "start") (escaped name ∷ [])

@@ -66,6 +66,9 @@ fn act_text(alloc: Global, promiser: &Name, act: &Act) -> Result<Name, NoMemory>
         Act::Copy(source, path) => {
             path_and_field(alloc, "copy", source, escape(alloc, path.text())?)
         }
+        Act::Edit(path, script) => {
+            path_and_field(alloc, "edit", path, script.text().copy(alloc)?)
+        }
         Act::Perms(path, mode, owners, groups) => perms_text(
             alloc,
             path,
