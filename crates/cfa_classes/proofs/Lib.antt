@@ -3,5 +3,4 @@ pub mod CalendarRows
 pub mod ClassRows
 pub mod DayLemmas
 pub mod Orders
-pub mod RaisedLemmas
 pub mod Turns

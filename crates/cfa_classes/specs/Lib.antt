@@ -1,3 +1,4 @@
 pub mod Calendar
 pub mod Raised
 pub mod Status
+pub mod lemmas

@@ -1,4 +1,4 @@
-use Rattle.cfa_classes.proofs.RaisedLemmas.{status_in-none_raised}
+use Rattle.cfa_classes.specs.lemmas.Raised.{status_in-none_raised}
 use Rattle.cfa_classes.proofs.raising.Statuses.new.Goals as goal
 
 pub returns-clause-all_no : goal.returns-clause-all_no

@@ -1,0 +1,71 @@
+// The marks of instances.
+ghost use Rattle.std.specs.Prelude.{◌≡◌, OnOk, OnErr};
+ghost use Rattle.std.specs.FinMap as finite;
+ghost use Rattle.std.specs.String.{string_bytes};
+ghost use Rattle.cfa_outcomes.specs.Environments.{mark_in, marked};
+
+use cfa_base::{Name, NoMemory};
+use cfa_classes::{Status, Statuses};
+use std::alloc::Global;
+use std::collections::BTreeMap;
+use std::marker::Model;
+
+// By paths, and of one path by texts. A look-up and a change cost a logarithm of comparisons.
+#[derive(Drop)]
+pub struct Marks {
+    rows: BTreeMap<String, Statuses>,
+}
+
+impl Model for Marks {
+    ghost use Rattle.std.specs.String.{string_bytes};
+    ghost use Rattle.cfa_base.specs.TextMaps.{text_map};
+    ghost use Rattle.cfa_outcomes.specs.Environments.{Marks};
+    ghost use Rattle.cfa_outcomes.specs.EnvironmentCodes.{marks_code};
+
+    ghost Value = { Marks };
+
+    ghost coded = { marks_code };
+
+    ghost view = { λ m. text_map string_bytes m.rows.entries };
+}
+
+impl Marks {
+    pub fn new(alloc: Global) -> Marks
+        ensures { result ≡ finite.empty }
+    {
+        Marks {
+            rows: BTreeMap::new(alloc),
+        }
+    }
+
+    pub fn get(&self, path: &Name, text: &Name) -> Status
+        ensures { result ≡ mark_in self.now path.now text.now }
+    {
+        match self.rows.get(path.as_str()) {
+            Some(texts) => texts.get(text),
+            None => Status::No,
+        }
+    }
+
+    // Gives a mark the greater of what it was and `to`.
+    pub fn raise(
+        &mut self,
+        alloc: Global,
+        path: Name,
+        text: Name,
+        to: Status,
+    ) -> Result<(), NoMemory>
+        ensures ok { OnOk result (self.new ≡ marked self.old path text to) }
+        ensures err { OnErr result (self.new ≡ self.old) }
+    {
+        match self.rows.get_mut(path.as_str()) {
+            Some(texts) => texts.raise(text, to),
+            None => {
+                let mut texts = Statuses::new(alloc);
+                texts.raise(text, to)?;
+                self.rows.insert(path.into_string(), texts)?;
+                Ok(())
+            }
+        }
+    }
+}
