@@ -1,7 +1,7 @@
 -- A teller says which instances are skipped and how the others may end, by all that happened before. In a run each instance
--- ends in one way: an instance with acts as its acts do on the world as it stands, and a call as failed where an instance in its
--- bundle failed, else as repaired where one was repaired, else as kept. Where all is kept, each ends as kept. In the open walk
--- each may end as kept or as repaired. A report is kept, whoever tells.
+-- ends in one way: an instance with acts as its acts do on a world, and a call as failed where an instance in its bundle failed,
+-- else as repaired where one was repaired, else as kept. Where all is kept, each ends as kept. In the open walk each may end as
+-- kept or as repaired. A report is kept, whoever tells.
 use Rattle.std.specs.Prelude.{ℕ, Bool, true, false, List, [], ◌∷◌, ◌++◌, Option, Some, None}
 use Rattle.std.specs.Str.{bytes_eq}
 use Rattle.cfa_outside.specs.declared.worlds.World.{World}
@@ -81,20 +81,6 @@ acts_of (Acts acts) = acts
 acts_of (Call name arguments) = []
 acts_of (Report content) = []
 
--- ---- the world as it stands
-
--- the world after what a history actuated, from a first world
-abbrev pub world_in : World → History → World
-world_in first [] = first
-world_in first (Told instance [] ∷ h) = world_in first h
-world_in first (Told instance (outcome ∷ others) ∷ h) =
-    after_all (actuated (acts_of instance.work) (world_in first h)).changes (world_in first h)
-world_in first (Begun p arguments ∷ h) = world_in first h
-world_in first (Set p name datum ∷ h) = world_in first h
-world_in first (Raised place class status source ∷ h) = world_in first h
-world_in first (Reached p promise guard sets visits ∷ h) = world_in first h
-world_in first (Listed instance status ∷ h) = world_in first h
-
 -- ---- how a call ends
 
 abbrev pub worse : Outcome → Outcome → Outcome
@@ -123,18 +109,3 @@ worst_in (Listed instance status ∷ h) path = worst_in h path
 -- the path of a called bundle: that of the caller, a newline, and the key text of the call
 abbrev pub inner_path : Instance → List ℕ
 inner_path instance = instance.path ++ (10 ∷ instance.text)
-
--- ---- a run
-
-abbrev pub outcome_in : World → History → Instance → Work → Outcome
-outcome_in world h instance (Acts acts) = outcome_of (actuated acts world)
-outcome_in world h instance (Call name arguments) = worst_in h (inner_path instance)
-outcome_in world h instance (Report content) = Kept
-
--- how an instance ends on the world as a function of the history gives it
-abbrev pub real : (History → World) → Teller
-real world_at = one_each (λ h i. outcome_in (world_at h) h i i.work)
-
--- the teller of a run that begins on a world, without locks and without a failed call
-abbrev pub run_on : World → Teller
-run_on world = real (world_in world)
