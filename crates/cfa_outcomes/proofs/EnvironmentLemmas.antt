@@ -1,6 +1,6 @@
 -- What an environment tells after a change.
 use Rattle.std.proofs.Common.{◌≡◌, ◌≢◌, ℕ, ◌<◌, ◌+◌, List, [], ◌∷◌, length, take, get_or, Option, Some, None, is_some, Bool, true, false, cond, ◌||◌, if◌then◌else◌, map, unwrap_or, option_copied, refl, sym, ap, subst, ◌∙◌}
-use Rattle.std.proofs.lemmas.Bool.{false_from_ne_true}
+use Rattle.std.proofs.lemmas.Bool.{false≢true, false_from_ne_true}
 use Rattle.std.proofs.lemmas.List.Folds.{list_any_more}
 use Rattle.std.proofs.lemmas.Map.Steps.{set_value_same}
 use Rattle.std.proofs.lemmas.Map.Text.{btree_map_updates_text}
@@ -36,7 +36,7 @@ unwrap_or-cond false x d o = refl
 
 -- ---- marks
 
-marks_at-marked : (marks : Marks) (path text : List ℕ) (to : Status) (other : List ℕ)
+pub marks_at-marked : (marks : Marks) (path text : List ℕ) (to : Status) (other : List ℕ)
     → marks_at (marked marks path text to) other ≡ cond (bytes_eq path other) (raised (marks_at marks path) text to) (marks_at marks other)
 unfolding marks_at marked
 marks_at-marked marks path text to other =
@@ -58,9 +58,12 @@ mark_in-marked_other marks path text to other_path other_text differ =
       | false ↦ λ _. refl
     ] refl
 
-pub mark_in-none : (path text : List ℕ) → mark_in finite.empty path text ≡ No
+pub marks_at-none : (path : List ℕ) → marks_at finite.empty path ≡ none_raised
 unfolding marks_at
-mark_in-none path text = ap (λ o. status_in (unwrap_or o none_raised) text) (finite.get-empty text_cmp path) ∙ status_in-none_raised text
+marks_at-none path = ap (λ o. unwrap_or o none_raised) (finite.get-empty text_cmp path)
+
+pub mark_in-none : (path text : List ℕ) → mark_in finite.empty path text ≡ No
+mark_in-none path text = ap (λ r. status_in r text) (marks_at-none path) ∙ status_in-none_raised text
 
 -- ---- sources
 
@@ -81,6 +84,14 @@ sourced_other sources class (Some source) other differ =
       | true ↦ refl
       | false ↦ get-put sources class source other ∙ ap (λ b. cond b (Some source) (finite.get sources other)) (apart class other differ)
     ]
+
+pub get-sourced : (sources : Sources) (class : List ℕ) (source : Option PromiseId) (other : List ℕ)
+    → finite.get (sourced sources class source) other ≡ cond (bytes_eq class other) (option_or (finite.get sources class) source) (finite.get sources other)
+get-sourced sources class source other =
+    elim (bytes_eq class other) as (λ b. bytes_eq class other ≡ b → finite.get (sourced sources class source) other ≡ cond b (option_or (finite.get sources class) source) (finite.get sources other)) [
+      | true ↦ λ e. ap (finite.get (sourced sources class source)) (sym ((bytes_eq-Decides class other).0 e)) ∙ sourced_same sources class source
+      | false ↦ λ e. sourced_other sources class source other (λ one. false≢true (sym e ∙ (bytes_eq-Decides class other).1 (sym one)))
+    ] refl
 
 -- a class that has a source keeps it
 pub sourced_known : (sources : Sources) (class : List ℕ) (source : Option PromiseId) → finite.contains_key sources class ≡ true → sourced sources class source ≡ sources

@@ -1,1 +1,2 @@
 pub mod EnvironmentLemmas
+pub mod EnvironmentRows

@@ -67,5 +67,5 @@ is_listed classes class = list_any (λ other. bytes_eq other class) classes
 unfoldable pub all_yes : List (List ℕ) → Raised
 all_yes classes = finite.from_entries (map (λ class. (class, Yes)) classes)
 
-unfoldable pub first_environment : List (List ℕ) → EnvironmentMaps
+abbrev pub first_environment : List (List ℕ) → EnvironmentMaps
 first_environment classes = record { statuses = all_yes classes; sources = finite.empty; marks = finite.empty }

@@ -2,7 +2,7 @@
 ghost use Rattle.std.specs.Prelude.{◌≡◌, option_copied};
 ghost use Rattle.cfa_output.specs.Lines.{stop_line};
 
-use crate::SinkFailed;
+use crate::{Halt, SinkFailed};
 use cfa_base::{Name, NoMemory};
 use std::alloc::{AllocError, AllocFailed};
 use thiserror::Error;
@@ -36,10 +36,10 @@ impl Stop {
         ensures { option_copied result ≡ stop_line self.now }
     {
         match self {
-            Stop::Outside(Object::Inputs) => Some("stopped: outside\n"),
+            Stop::Outside(Object::Inputs) => Some(Halt::Outside.line()),
             Stop::Outside(Object::Sink) => None,
-            Stop::Memory => Some("stopped: memory\n"),
-            Stop::Pattern(_) => Some("stopped: pattern\n"),
+            Stop::Memory => Some(Halt::Memory.line()),
+            Stop::Pattern(_) => Some(Halt::Pattern.line()),
         }
     }
 }

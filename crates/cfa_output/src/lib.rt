@@ -7,6 +7,6 @@ mod lines;
 mod puts;
 
 pub use ends::{Failure, Object, Stop};
-pub use items::Item;
+pub use items::{End, Halt, Item};
 pub use lines::line;
 pub use puts::{SinkFailed, put_all};

@@ -11,6 +11,8 @@ mod calls;
 #[cfg(test)]
 mod classes;
 #[cfg(test)]
+mod demo;
+#[cfg(test)]
 mod edits;
 #[cfg(test)]
 mod escapes;
@@ -26,6 +28,10 @@ mod lexer;
 mod lines;
 #[cfg(test)]
 mod locks;
+#[cfg(test)]
+mod outcomes;
+#[cfg(test)]
+mod output;
 #[cfg(test)]
 mod outside;
 #[cfg(test)]

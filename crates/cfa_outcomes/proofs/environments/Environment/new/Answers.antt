@@ -22,7 +22,6 @@ all_given c =
     ∙ ap (λ classes. given classes class) (take_all c.loop-class.class-index c.as_slice-class-items.result.now c.loop-class-test.false ∙ c.as_slice-class-items.ensures))
 
 pub returns-clause-ok : goal.returns-clause-ok
-unfolding first_environment
 returns-clause-ok c = let s = all_given c in cc
 
 pub returns-clause-statuses : goal.returns-clause-statuses
