@@ -5,8 +5,7 @@
 --
 -- A mark says of the instance with a number that after so many changes a call of some kind failed in an act. The instance then
 -- fails with a fault at this place; where the call is a change, the next needed change was begun.
-use Rattle.std.specs.Prelude.{ℕ, ◌==◌, Bool, true, false, ◌||◌, List, [], ◌∷◌, ◌++◌, length, take, map, find, Option, Some, None, if◌then◌else◌}
-use Rattle.cfa_base.specs.declared.places.PromiseId.{PromiseId}
+use Rattle.std.specs.Prelude.{ℕ, ◌==◌, Bool, true, false, ◌||◌, List, [], ◌∷◌, ◌++◌, length, take, map, find, Option, Some, None}
 use Rattle.cfa_outside.specs.declared.worlds.World.{World}
 use Rattle.cfa_outside.specs.declared.sites.Call.{Call}
 use Rattle.cfa_outside.specs.declared.sites.Call.TheVariants as calls
@@ -14,7 +13,6 @@ use Rattle.cfa_outside.specs.declared.sites.Change.{Change}
 use Rattle.cfa_outside.specs.declared.sites.Change.TheVariants.{Append}
 use Rattle.cfa_outside.specs.declared.sites.Entry.{Entry}
 use Rattle.cfa_outside.specs.declared.sites.Entry.TheVariants.{Did, Refused}
-use Rattle.cfa_acts.specs.declared.acts.Act.{Act}
 use Rattle.cfa_acts.specs.declared.acts.Reason.{Reason}
 use Rattle.cfa_acts.specs.declared.acts.Reason.TheVariants as reasons
 use Rattle.cfa_journal.specs.declared.records.Record.{Record}
