@@ -1,0 +1,2 @@
+pub mod Actuations
+pub mod Runs

@@ -1,0 +1,2 @@
+//! The agent: what a run writes in a host's log, puts as lines, and counts.
+#![tactic(auto)]
