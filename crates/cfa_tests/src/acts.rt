@@ -1,24 +1,17 @@
 // Each act on each kind of node and service of a site in memory, by the rules on acts. A table is a text, each line of
 // which is an act, `=>`, and what is decided.
-ghost use Rattle.std.specs.Prelude.{◌≡◌, [], ◌∷◌, IfOk};
-ghost use Rattle.cfa_base.specs.declared.patterns.How.TheVariants.{Whole, Part};
-ghost use Rattle.cfa_edits.specs.Scripts.{IsEdit, IsOneLine};
 ghost use Rattle.cfa_acts.specs.Acts.{IsAct};
 
+use crate::act_texts::{act_of, pair, path_of};
 use cfa_acts::{
-    Act, Decision, Reason, decide, disturbs, has_script, kept_where_post_holds, needed_change_fits,
+    Act, Decision, decide, disturbs, has_script, kept_where_post_holds, needed_change_fits,
     needed_change_keeps_post, needed_change_makes_post, settles_as_lines,
 };
-use cfa_base::{Bytes, How, MOST_FILE_BYTES, Name, Names, Pattern, escape};
-use cfa_edits::{Edit, Edits, Script, Spot};
-use cfa_outside::{Change, MemorySite, Node, Path, Perms, ServiceRow, World};
+use cfa_base::{Bytes, Name, escape};
+use cfa_outside::{Change, MemorySite, Node, Perms, ServiceRow, World};
 use std::alloc::Global;
 use std::process::Abort;
 use std::test::Fail;
-
-fn path_of(alloc: Global, text: &str) -> Result<Path, Fail> {
-    Ok(Path::read(alloc, &Name::from_text(alloc, text)?)?)
-}
 
 fn perms(alloc: Global) -> Result<Perms, Fail> {
     Ok(Perms {
@@ -68,131 +61,6 @@ fn site_of(alloc: Global, failing_call: u32) -> Result<MemorySite, Fail> {
         world.services.insert(String::from_str(alloc, name)?, row)?;
     }
     Ok(MemorySite::new(alloc, world, vec![in alloc; failing_call]?, None)?)
-}
-
-// `*` is a list that isn't given.
-fn names_of(alloc: Global, text: &str) -> Result<Names, Fail> {
-    let mut names = Names::new(alloc);
-    if text != "*" {
-        for name in text.split(',') {
-            names.push(Name::from_text(alloc, name)?)?;
-        }
-    }
-    Ok(names)
-}
-
-fn perms_act(rt: &impl Abort, alloc: Global, text: &str) -> Result<Act, Fail>
-    ensures { IfOk result IsAct }
-{
-    let words: Vec<&str> = text.split(' ').collect(alloc)?;
-    if words.len() != 4 {
-        panic!(rt; "no act: {text}");
-    }
-    let mode = match words[1] {
-        "700" => Some(0o700),
-        "644" => Some(0o644),
-        _ => None,
-    };
-    let (owners, groups) = (names_of(alloc, words[2])?, names_of(alloc, words[3])?);
-    Ok(Act::Perms(path_of(alloc, words[0])?, mode, owners, groups))
-}
-
-pub fn pair<'a>(rt: &impl Abort, text: &'a str, between: &str) -> (&'a str, &'a str) {
-    match text.split_once(between) {
-        Some(sides) => sides,
-        None => panic!(rt; "no pair: {text}"),
-    }
-}
-
-fn content_act(rt: &impl Abort, alloc: Global, path: &str, text: &str) -> Result<Act, Fail>
-    ensures { IfOk result IsAct }
-{
-    if text.len() > MOST_FILE_BYTES {
-        panic!(rt; "a long content");
-    }
-    let bytes = Bytes::from_slice(alloc, text.as_bytes())?;
-    Ok(Act::Content(path_of(alloc, path)?, bytes))
-}
-
-fn pattern_of(alloc: Global, text: &str, how: How) -> Result<Pattern, Fail>
-    ensures { IfOk result (λ pattern. pattern.how ≡ how) }
-{
-    let text = Name::from_text(alloc, text)?;
-    Ok(Pattern::new(alloc, &text, how)?)
-}
-
-fn value_of(alloc: Global, text: &str) -> Result<Name, Fail>
-    ensures { IfOk result IsOneLine }
-{
-    Ok(match text {
-        "aa" => Name::from_text(alloc, "aa")?,
-        "x" => Name::from_text(alloc, "x")?,
-        "y" => Name::from_text(alloc, "y")?,
-        _ => Name::from_text(alloc, "*")?,
-    })
-}
-
-// The value at the end, before a line `c`, in a field of each line, or for each `a`.
-fn edit_of(alloc: Global, word: &str, value: Name) -> Result<Edit, Fail>
-    requires { IsOneLine value }
-    ensures { IfOk result IsEdit }
-{
-    Ok(match word {
-        "second" => Edit::Field(pattern_of(alloc, ".*", How::Whole)?, ':', 2, value),
-        "fourth" => Edit::Field(pattern_of(alloc, ".*", How::Whole)?, ':', 4, value),
-        "replace" => Edit::Replace(pattern_of(alloc, "a", How::Part)?, value, true),
-        "before" => {
-            let anchor = pattern_of(alloc, "c", How::Whole)?;
-            Edit::Insert(block_of(alloc, value)?, Spot::Before(anchor, true))
-        }
-        _ => Edit::Insert(block_of(alloc, value)?, Spot::End),
-    })
-}
-
-fn block_of(alloc: Global, line: Name) -> Result<Names, Fail>
-    ensures { IfOk result (λ block. block ≡ line ∷ []) }
-{
-    let mut block = Names::new(alloc);
-    block.push(line)?;
-    Ok(block)
-}
-
-fn script_of(rt: &impl Abort, alloc: Global, text: &str) -> Result<Script, Fail> {
-    let (word, value) = pair(rt, text, " ");
-    let mut edits = Vec::new(alloc);
-    edits.push(edit_of(alloc, word, value_of(alloc, value)?)?)?;
-    Ok(Script::new(alloc, Edits::from_vec(edits))?)
-}
-
-pub fn act_of(rt: &impl Abort, alloc: Global, text: &str) -> Result<Act, Fail>
-    ensures { IfOk result IsAct }
-{
-    let (word, rest) = pair(rt, text, " ");
-    Ok(match word {
-        "create" => Act::Create(path_of(alloc, rest)?),
-        "mkdir" => Act::MakeDir(path_of(alloc, rest)?),
-        "delete" => Act::Delete(path_of(alloc, rest)?, false),
-        "rmdir" => Act::Delete(path_of(alloc, rest)?, true),
-        "content" => {
-            let (path, bytes) = pair(rt, rest, " ");
-            content_act(rt, alloc, path, bytes)?
-        }
-        "copy" => {
-            let (source, path) = pair(rt, rest, " ");
-            Act::Copy(path_of(alloc, source)?, path_of(alloc, path)?)
-        }
-        "edit" => {
-            let (path, script) = pair(rt, rest, " ");
-            Act::Edit(path_of(alloc, path)?, script_of(rt, alloc, script)?)
-        }
-        "perms" => perms_act(rt, alloc, rest)?,
-        "start" => Act::Start(Name::from_text(alloc, rest)?),
-        "stop" => Act::Stop(Name::from_text(alloc, rest)?),
-        "enable" => Act::Enable(Name::from_text(alloc, rest)?),
-        "disable" => Act::Disable(Name::from_text(alloc, rest)?),
-        "restart" => Act::Restart(Name::from_text(alloc, rest)?),
-        _ => Act::Bust(Reason::BadValue),
-    })
 }
 
 // A text as an escaped field.
@@ -416,24 +284,4 @@ fn tells_what_disturbs(rt: HostRuntime) -> Result<(), Fail> {
     settles_as_lines();
     compare_pairs(&rt, alloc, DISTURBING, true)?;
     compare_pairs(&rt, alloc, QUIET, false)
-}
-
-fn filled(alloc: Global, size: usize) -> Result<String, Fail> {
-    Ok(String::from_utf8(vec![in alloc; b'x'; size]?)?)
-}
-
-fn tests_as_changed(rt: &impl Abort, alloc: Global, text: &str) -> Result<bool, Fail> {
-    let content = content_act(rt, alloc, "/f", text)?;
-    is_disturbed(rt, alloc, &content, "edit /f replace y")
-}
-
-// A text of the limit of a file: a newline behind it would be one byte too much.
-#[test]
-fn counts_lines_over_the_limit_as_changed(rt: HostRuntime) -> Result<(), Fail> {
-    let alloc = rt.alloc();
-    let full = filled(alloc, MOST_FILE_BYTES)?;
-    assert!(&rt; tests_as_changed(&rt, alloc, full.as_str())?);
-    let shorter = filled(alloc, MOST_FILE_BYTES - 1)?;
-    assert!(&rt; !tests_as_changed(&rt, alloc, shorter.as_str())?);
-    Ok(())
 }

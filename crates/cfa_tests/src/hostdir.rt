@@ -1,7 +1,8 @@
 // The real host, in folders that each test makes where it runs.
 ghost use Rattle.cfa_acts.specs.Acts.{IsAct};
 
-use crate::acts::{act_of, pair, told};
+use crate::act_texts::{act_of, pair};
+use crate::acts::told;
 use cfa_acts::{Act, Decision, decide};
 use cfa_base::{Bytes, Key, Name};
 use cfa_hostdir::HostSite;

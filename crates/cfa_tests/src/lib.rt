@@ -3,6 +3,8 @@
 #![tactic(auto)]
 
 #[cfg(test)]
+mod act_texts;
+#[cfg(test)]
 mod acts;
 #[cfg(test)]
 mod base;
