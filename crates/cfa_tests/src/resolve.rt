@@ -14,7 +14,7 @@ const BODIES: &str = "bundle agent sub(a, b) { }
 body perms m(x) { mode => \"$(x)\"; }
 body perms o(l) { owners => { @(l) }; }
 body perms far { mode => \"$(main.zzz)\"; }
-body perms blind { mode => \"$(main.x)\", owners => { \"$(x)\" }; }
+body perms blind { mode => \"$(main.x)\"; }
 body classes changed(x, y) { promise_repaired => { \"$(x)\", \"$(y)\" }; }
 body action each(n) { ifelapsed => \"$(n)\"; }
 body delete tidy { rmdirs => \"true\"; }
