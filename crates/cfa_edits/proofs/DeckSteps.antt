@@ -1,9 +1,9 @@
 -- One step over the lines of a deck: what stands before the place, and what is still to come.
-use Rattle.std.proofs.Common.{◌≡◌, ℕ, ◌+◌, ◌-◌, ◌<◌, ◌≤◌, ◌⊎◌, Bool, true, false, not, cond, List, [], ◌∷◌, ◌++◌, length, map, take, drop, get_or, reverse, Option, Some, None, suc, refl, sym, ap, ◌∙◌, arith, IfSome, inl, inr, ⊎_elim, add-one}
+use Rattle.std.proofs.Common.{◌≡◌, ℕ, ◌+◌, ◌<◌, ◌≤◌, Bool, true, false, List, [], ◌∷◌, ◌++◌, length, map, take, drop, Option, Some, None, suc, refl, sym, ap, ◌∙◌, arith, IfSome, ⊎_elim, add-one}
 use Rattle.std.specs.Prelude.{slice_get}
 use Rattle.std.specs.List.{remove, insert, position_from}
 use Rattle.std.specs.Option.{option_map, option_or}
-use Rattle.std.proofs.lemmas.List.{take_more, drop_more, take_at, drop_at, take_all, drop_all, append_assoc, append-nil, length-take-le, length-append, length-drop, take-append-drop}
+use Rattle.std.proofs.lemmas.List.{take_more, drop_more, take_at, drop_at, take_all, drop_all, append_assoc, length-take-le, length-append, length-drop, take-append-drop}
 use Rattle.std.proofs.lemmas.Option.{slice_get_within, get_or_from_slice_get, slice_get_cases}
 use Rattle.cfa_base.specs.Patterns.{PatternText, matches_in}
 use Rattle.cfa_edits.specs.Edits.{Lines, unmatched, led_by, each_becomes, last_from}

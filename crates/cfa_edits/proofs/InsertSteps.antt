@@ -1,15 +1,15 @@
 -- The lines of a block that aren't there: what a set of lines has, step by step.
-use Rattle.std.proofs.Common.{◌≡◌, ℕ, ◌+◌, ◌<◌, Bool, true, false, not, ◌&&◌, ◌||◌, cond, List, [], ◌∷◌, ◌++◌, length, map, take, drop, reverse, refl, sym, ap, ◌∙◌, arith, ⊎_elim}
-use Rattle.std.specs.List.{list_any, insert}
-use Rattle.std.specs.HashSet.{HashSet, UpdatesBy, contains_by}
+use Rattle.std.proofs.Common.{◌≡◌, ℕ, ◌+◌, ◌<◌, Bool, true, false, not, ◌&&◌, ◌||◌, cond, List, [], ◌∷◌, ◌++◌, length, drop, reverse, refl, sym, ap, ◌∙◌, arith, ⊎_elim}
+use Rattle.std.specs.List.{insert}
+use Rattle.std.specs.HashSet.{HashSet, UpdatesBy}
 use Rattle.std.specs.Str.{bytes_eq}
 use Rattle.std.proofs.lemmas.Bool.{cases_Bool, cond-true, cond-false}
 use Rattle.std.proofs.lemmas.Slice.Eq.{bytes_eq-Decides}
-use Rattle.std.proofs.lemmas.List.{append_assoc, map-append, reverse-append, length-append, take_at, drop_at}
+use Rattle.std.proofs.lemmas.List.{append_assoc, reverse-append, length-append, take_at, drop_at}
 use denote.Ref.{Bor}
 use Rattle.cfa_edits.specs.Edits.{Lines, is_among, lacking, spot_in, put_at, inserted}
 use Rattle.cfa_edits.specs.declared.edits.Spot.{Spot}
-use Rattle.cfa_edits.specs.Steps.{lines_lent, has_line, HasLacking}
+use Rattle.cfa_edits.specs.Steps.{has_line}
 
 text_is : (x y : List ℕ) → bytes_eq x y ≡ true → x ≡ y
 text_is x y = (bytes_eq-Decides x y).0

@@ -7,7 +7,6 @@ use Rattle.std.specs.Str.Parse.{digits_value}
 use Rattle.std.proofs.lemmas.Bool.{ne_eqb, true≢false}
 use Rattle.std.proofs.lemmas.Bool.Decides.{nat_tests}
 use Rattle.std.proofs.lemmas.Fmt.{decimal_is_IsNumeral, decimal_by_steps}
-use Rattle.std.proofs.lemmas.List.{append-nil}
 use Rattle.std.proofs.lemmas.List.Elements.{All-nil, All-cons, All-head, All-tail, All-append, All-push, All-weaker}
 use Rattle.std.proofs.lemmas.List.Splits.{slice_split_none, slice_split_at}
 use Rattle.std.proofs.lemmas.Str.{encode_same}
@@ -15,7 +14,7 @@ use Rattle.cfa_base.specs.Escapes.{escaped, is_field_byte}
 use Rattle.cfa_base.specs.lemmas.Escapes.{fields_tell_texts, escaped-avoids}
 use Rattle.cfa_base.specs.Patterns.{PatternText, pattern_of}
 use Rattle.cfa_edits.specs.Laws.{TextsTellScripts}
-use Rattle.cfa_edits.specs.Scripts.{IsSpot, IsEdit, AreEdits, spot_name, spot_pattern, block_text, edit_fields, edit_text, script_text}
+use Rattle.cfa_edits.specs.Scripts.{IsSpot, IsEdit, spot_name, spot_pattern, block_text, edit_fields, edit_text, script_text}
 use Rattle.cfa_edits.specs.declared.edits.Edit.{Edit}
 use Rattle.cfa_edits.specs.declared.edits.Edit.TheVariants.{Delete, Field, Insert, Replace}
 use Rattle.cfa_edits.specs.declared.edits.Spot.{Spot}

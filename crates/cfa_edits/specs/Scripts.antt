@@ -1,10 +1,9 @@
 -- Scripts: which lists of edits are scripts, and their texts. A text joins its edits by commas and the fields of an edit by
 -- colons; fields are escaped, patterns as they are in the policy.
-use Rattle.std.specs.Prelude.{◌≡◌, ◌≢◌, ℕ, ◌<◌, ◌≤◌, Bool, List, [], ◌∷◌, map, length, codes, All, encode_utf8, if◌then◌else◌}
+use Rattle.std.specs.Prelude.{◌≡◌, ◌≢◌, ℕ, ◌<◌, ◌≤◌, List, [], ◌∷◌, map, length, codes, All, encode_utf8, if◌then◌else◌}
 use Rattle.std.specs.Fmt.{decimal}
 use Rattle.std.specs.List.{join_with_byte}
 use Rattle.cfa_base.specs.Escapes.{escaped}
-use Rattle.cfa_base.specs.Patterns.{PatternText}
 use Rattle.cfa_base.specs.declared.patterns.How.TheVariants.{Whole, Part}
 use Rattle.cfa_edits.specs.declared.edits.Edit.{Edit}
 use Rattle.cfa_edits.specs.declared.edits.Edit.TheVariants.{Delete, Field, Insert, Replace}

@@ -1,11 +1,8 @@
-use Rattle.std.proofs.Common.{rules, ◌≡◌, ℕ, ◌+◌, ◌-◌, ◌<◌, ◌≤◌, Bool, true, false, not, ◌&&◌, List, [], ◌∷◌, ◌++◌, length, map, take, drop, get_or, reverse, Option, Some, None, Ok, Err, refl, sym, ap, ◌∙◌, arith, Bor}
-use Rattle.std.specs.Prelude.{slice_get}
-use Rattle.std.proofs.lemmas.List.{take_more, map-append, take-append-drop, length-map, length-take-le}
-use Rattle.std.proofs.lemmas.Option.{slice_get-get_or}
-use Rattle.cfa_edits.specs.Edits.{Lines, is_among, lacking, spot_in, inserted, put_at}
-use Rattle.cfa_edits.specs.Steps.{lines_lent, has_line, HasLacking}
-use Rattle.cfa_edits.proofs.DeckSteps.{Turn, turn, End, end}
-use Rattle.cfa_edits.proofs.InsertSteps.{has_updated, distinct_more, take_out_more, lacking_more, lacking_gets, lacking_skips, among_itself, gathers, passes_over, seen_more, put_more, inserted_some}
+use Rattle.std.proofs.Common.{rules, ◌≡◌, ℕ, ◌<◌, not, ◌&&◌, List, length, Some, None, Ok, sym, ap, ◌∙◌, arith, Bor}
+use Rattle.std.proofs.lemmas.List.{length-map}
+use Rattle.cfa_edits.specs.Edits.{is_among, lacking, spot_in, put_at}
+use Rattle.cfa_edits.specs.Steps.{lines_lent, HasLacking}
+use Rattle.cfa_edits.proofs.InsertSteps.{inserted_some}
 use Rattle.std.proofs.lemmas.Result.{on_ok_weaker}
 use Rattle.cfa_edits.proofs.inserting.insert.Goals as goal
 

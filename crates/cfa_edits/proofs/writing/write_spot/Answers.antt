@@ -1,12 +1,10 @@
-use Rattle.std.proofs.Common.{rules, ◌≡◌, ℕ, ◌+◌, ◌<◌, ◌≤◌, Bool, true, false, List, [], ◌∷◌, ◌++◌, length, map, take, refl, sym, ap, ◌∙◌, arith}
+use Rattle.std.proofs.Common.{[], ◌∷◌, ◌++◌, sym, ap, ◌∙◌}
 use Rattle.std.specs.String.{string_bytes}
-use Rattle.std.specs.List.{join_with_byte}
-use Rattle.std.proofs.lemmas.List.{append_assoc, take_all, take_more_same}
+use Rattle.std.proofs.lemmas.List.{append_assoc}
 use Rattle.cfa_base.specs.Escapes.{escaped}
 use Rattle.cfa_base.specs.lemmas.Escapes.{escaped-nil}
 use Rattle.cfa_edits.specs.declared.edits.Spot.{Spot}
-use Rattle.cfa_edits.specs.Scripts.{spot_name, spot_pattern, edit_text, script_text}
-use Rattle.cfa_edits.proofs.TextSteps.{first_text, later_text, is_zero, is_later, not_first}
+use Rattle.cfa_edits.specs.Scripts.{spot_name, spot_pattern}
 use Rattle.cfa_edits.proofs.writing.write_spot.Goals as goal
 
 pub returns-in-Start : goal.returns-in-Start
