@@ -18,10 +18,7 @@ type RealHost = HostSite<HostRuntime>;
 const ZEROS: &str = "0000000000000000000000000000000000000000000000000000000000000000";
 
 fn host_in(rt: &HostRuntime, folder: &str) -> Result<RealHost, Fail> {
-    Ok(HostSite::new(
-        rt.clone()?,
-        Name::from_text(rt.alloc(), folder)?,
-    ))
+    Ok(HostSite::new(rt.clone()?, Name::from_text(rt.alloc(), folder)?))
 }
 
 // The host in a new folder, which has the file.
@@ -57,12 +54,7 @@ fn actuate<S: Site>(alloc: Global, act: &Act, site: &mut S) -> Result<String, Fa
 }
 
 // Takes the acts of a table one after the other on a site. Each line is an act, `=>`, and what is decided.
-fn compare<S: Site>(
-    rt: &impl Abort,
-    alloc: Global,
-    site: &mut S,
-    table: &str,
-) -> Result<(), Fail> {
+fn compare<S: Site>(rt: &impl Abort, alloc: Global, site: &mut S, table: &str) -> Result<(), Fail> {
     for row in table.lines() {
         let (text, expected) = pair(rt, row, " => ");
         let act = act_of(rt, alloc, text)?;

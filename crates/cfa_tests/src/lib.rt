@@ -11,6 +11,8 @@ mod base;
 #[cfg(test)]
 mod calls;
 #[cfg(test)]
+mod checked;
+#[cfg(test)]
 mod classes;
 #[cfg(test)]
 mod demo;

@@ -186,7 +186,7 @@ fn own_scope(alloc: Global) -> Result<Scope, NoMemory> {
     Ok(own)
 }
 
-fn policy_of(alloc: Global, promise: &str) -> Result<Checked, Fail> {
+pub fn policy_of(alloc: Global, promise: &str) -> Result<Checked, Fail> {
     let source = format!(in alloc; "bundle agent main {{ {promise} }}\n{BODIES}")?;
     let mut files = Vec::new(alloc);
     files.push((

@@ -1,0 +1,47 @@
+// What a checked policy serves: each call once, on the policy of the tests of `resolve` with one report in `main`.
+use crate::resolve::policy_of;
+use cfa_base::{Name, PromiseId};
+use cfa_kinds::{BodyType, PromiseType};
+use cfa_schema::Checked;
+use std::alloc::Global;
+use std::test::Fail;
+
+fn has_blocks(checked: &Checked) -> bool {
+    checked.bundle("main").is_some()
+        && checked.bundle("sub").is_some()
+        && checked.bundle("m").is_none()
+        && checked.body(BodyType::Perms, "m").is_some()
+        && checked.body(BodyType::Perms, "tidy").is_none()
+        && checked.minutes() == 5
+}
+
+fn has_report_on(alloc: Global, checked: &Checked, line: u32) -> Result<bool, Fail> {
+    let id = PromiseId {
+        bundle: Name::from_text(alloc, "main")?,
+        number: 1,
+        line,
+    };
+    match checked.typed_promise(&id) {
+        Some((PromiseType::Reports, _)) => Ok(checked.promise(&id).is_some()),
+        Some(_) => Ok(false),
+        None => Ok(false),
+    }
+}
+
+fn has_one_promise(alloc: Global, checked: &Checked) -> Result<bool, Fail> {
+    let ids = checked.promise_ids(alloc)?;
+    let sequence = checked.sequence(alloc)?;
+    let commons = checked.common_bundles(alloc)?;
+    Ok(ids.len() == 1 && sequence.as_slice().len() == 1 && commons.is_empty())
+}
+
+#[test]
+fn a_checked_policy_serves_its_parts(rt: HostRuntime) -> Result<(), Fail> {
+    let alloc = rt.alloc();
+    let checked = policy_of(alloc, "reports: \"r\";")?;
+    assert!(rt; has_blocks(&checked));
+    assert!(rt; has_report_on(alloc, &checked, 1)?);
+    assert!(rt; !has_report_on(alloc, &checked, 2)?);
+    assert!(rt; has_one_promise(alloc, &checked)?);
+    Ok(())
+}
