@@ -1,5 +1,5 @@
 -- The table of which act disturbs which, and what edits need, at hand-made rows. No row has a pattern to match.
-use Rattle.std.proofs.Common.{◌≡◌, ℕ, List, [], ◌∷◌, ◌++◌, Option, Some, None, true, false, refl}
+use Rattle.std.proofs.Common.{◌≡◌, ℕ, List, [], ◌∷◌, Option, Some, None, true, false, refl}
 use Rattle.std.specs.Prelude.{codes}
 use Rattle.std.specs.Str.{chars, is_utf8}
 use Rattle.cfa_base.specs.Escapes.{escaped}

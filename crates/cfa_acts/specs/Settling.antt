@@ -1,7 +1,7 @@
 -- A line edit asks for a file that its script leaves as it is: a text within the limit of a file whose lines the script
 -- leaves. Else the text that the script makes is put, if the script leaves that one in turn. So what is edited again is the
 -- text that would be written, line by line as the next run would read it.
-use Rattle.std.specs.Prelude.{ℕ, ◌≤◌, List, length, Bool, true, false, ◌&&◌, nat_le, if◌then◌else◌, Option, Some, None, Result, Ok, Err}
+use Rattle.std.specs.Prelude.{ℕ, List, length, Bool, false, ◌&&◌, nat_le, if◌then◌else◌, Option, Some, None, Result, Ok, Err}
 use Rattle.std.specs.Cmp.Lexicographic.{pointwise}
 use Rattle.std.specs.Str.{bytes_eq, is_utf8}
 use Rattle.cfa_base.specs.declared.limits.TheConstants.{MOST_FILE_BYTES}

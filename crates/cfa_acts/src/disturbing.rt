@@ -111,12 +111,7 @@ fn rewrites(alloc: Global, path: &Path, bytes: &Bytes, act: &Act) -> Result<bool
     }
 }
 
-fn edits_otherwise(
-    alloc: Global,
-    path: &Path,
-    script: &Script,
-    act: &Act,
-) -> Result<bool, NoMemory>
+fn edits_otherwise(alloc: Global, path: &Path, script: &Script, act: &Act) -> Result<bool, NoMemory>
     ensures exact { IfOk result (λ yes. yes ≡ edits_otherwise path.now script.now act.now) }
     ensures memory { OnErr result (AreEditAndContent act.now (Act.Edit path.now script.now)) }
 {

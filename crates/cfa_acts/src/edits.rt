@@ -33,12 +33,7 @@ fn leaves(alloc: Global, script: &Script, text: &str) -> Result<bool, NoMemory>
     script.settled(alloc, &lines)
 }
 
-fn put_text(
-    alloc: Global,
-    path: &Path,
-    script: &Script,
-    text: &Name,
-) -> Result<Decision, NoMemory>
+fn put_text(alloc: Global, path: &Path, script: &Script, text: &Name) -> Result<Decision, NoMemory>
     ensures exact { IfOk result (λ d. d ≡ puts_text path.now script.now text.now) }
     ensures whole { IfOk result IsWhole }
 {

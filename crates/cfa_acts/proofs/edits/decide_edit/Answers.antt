@@ -1,5 +1,4 @@
-use Rattle.std.proofs.Common.{◌≡◌, Some, None, sym, ap, ◌∙◌}
-use Rattle.std.specs.FinMap as map
+use Rattle.std.proofs.Common.{◌≡◌, Some, None, ap, ◌∙◌}
 use Rattle.cfa_outside.specs.Sites.{look_of}
 use Rattle.cfa_acts.specs.Seeing.{edit_refusal, edit_decision}
 use Rattle.cfa_acts.proofs.Seen.{weaker, both, at_end}

@@ -1,4 +1,4 @@
-use Rattle.std.proofs.Common.{sym, subst, ap, ◌∙◌, IsUtf8}
+use Rattle.std.proofs.Common.{ap, ◌∙◌}
 use Rattle.cfa_lines.specs.Decks.{lines_of}
 use Rattle.cfa_acts.proofs.Settled.{text_decided, bytes_decided, same_decision}
 use Rattle.cfa_acts.proofs.edits.edit_bytes.Goals as goal
