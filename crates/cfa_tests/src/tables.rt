@@ -114,7 +114,10 @@ const TABLES: [(&str, &str, u64); 49] = [
 #[test]
 fn tables_read_back(rt: HostRuntime) -> Result<(), Fail> {
     for (kind, text, bad_line) in TABLES {
-        assert!(rt; reads_as(rt.alloc(), kind, text, bad_line)?, "{kind}: {text}");
+        assert!(rt;
+            reads_as(rt.alloc(), kind, text, bad_line)?,
+            "{kind}: {text}"
+        );
     }
     Ok(())
 }
