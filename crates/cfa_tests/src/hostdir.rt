@@ -15,6 +15,11 @@ use std::test::Fail;
 
 type RealHost = HostSite<HostRuntime>;
 
+const CHANGES: &str = "perms /a 0700 root root
+gone /a
+lock 0000000000000000000000000000000000000000000000000000000000000000 7
+";
+
 const ZEROS: &str = "0000000000000000000000000000000000000000000000000000000000000000";
 
 fn host_in(rt: &HostRuntime, folder: &str) -> Result<RealHost, Fail> {
@@ -107,21 +112,33 @@ fn has_text(rt: &HostRuntime, file: &str, want: &str) -> bool {
 }
 
 #[test]
-fn acts_as_in_memory(rt: HostRuntime) -> Result<(), Fail> {
-    let alloc = rt.alloc();
-    compare(&rt, alloc, &mut memory_host(alloc)?, ACTS)?;
+fn acts_in_memory(rt: HostRuntime) -> Result<(), Fail> {
+    let mut site = memory_host(rt.alloc())?;
+    compare(&rt, rt.alloc(), &mut site, ACTS)
+}
+
+// The same acts have the same answers, the next agent finds what was done, and so does the one behind a writing of the
+// tables.
+#[test]
+fn acts_in_a_folder(rt: HostRuntime) -> Result<(), Fail> {
     let services = "sshd running enabled 0\n";
     let mut site = host_with(&rt, "acts", "acts/services.tab", services)?;
-    compare(&rt, alloc, &mut site, ACTS)?;
+    compare(&rt, rt.alloc(), &mut site, ACTS)?;
     drop(site);
     let mut next = host_in(&rt, "acts")?;
-    compare(&rt, alloc, &mut next, KEPT)?;
-    assert!(rt; next.write_tables(alloc));
+    compare(&rt, rt.alloc(), &mut next, KEPT)?;
+    assert!(rt; next.write_tables(rt.alloc()));
     drop(next);
-    assert!(rt; has_text(&rt, "acts/services.tab", "sshd running disabled 1\n"));
-    assert!(rt; has_text(&rt, "acts/perms.tab", "/a/b/c 0644 root root\n"));
-    assert!(rt; has_text(&rt, "acts/changes", ""));
-    compare(&rt, alloc, &mut host_in(&rt, "acts")?, KEPT)
+    let mut last = host_in(&rt, "acts")?;
+    compare(&rt, rt.alloc(), &mut last, KEPT)?;
+    for (file, text) in [
+        ("acts/services.tab", "sshd running disabled 1\n"),
+        ("acts/perms.tab", "/a/b/c 0644 root root\n"),
+        ("acts/changes", ""),
+    ] {
+        assert!(rt; has_text(&rt, file, text), "{file}");
+    }
+    Ok(())
 }
 
 fn path_of(alloc: Global, text: &str) -> Result<Path, Fail> {
@@ -152,31 +169,75 @@ fn makes(alloc: Global, site: &mut RealHost, kind: &str, path: &str) -> Result<b
     Ok(site.change(alloc, &change).is_ok())
 }
 
+fn has_lock(alloc: Global, site: &mut RealHost) -> Result<bool, Fail> {
+    Ok(site.lock(alloc, &zeros()?)? == Some(7))
+}
+
+fn makes_all(alloc: Global, site: &mut RealHost) -> Result<bool, Fail> {
+    for (kind, path) in [("one", "/a"), ("append", "/x"), ("lock", "/x")] {
+        if !makes(alloc, site, kind, path)? {
+            return Ok(false);
+        }
+    }
+    has_lock(alloc, site)
+}
+
 // A row of a node that isn't there counts for nothing, lines that were cut off are taken away, and the rest stays.
 #[test]
 fn ends_that_were_cut_off(rt: HostRuntime) -> Result<(), Fail> {
-    let alloc = rt.alloc();
     let changes = "perms /a 0700 root root\nperms /b 07";
     let mut site = host_with(&rt, "cut", "cut/changes", changes)?;
     fs::write(&rt, "cut/journal", "run 4\nopen 1")?;
-    assert!(rt; answers(alloc, &mut site, "/a")?);
-    assert!(rt; has_text(&rt, "cut/journal", "run 4\n"));
-    for (kind, path) in [("one", "/a"), ("append", "/x"), ("lock", "/x")] {
-        assert!(rt; makes(alloc, &mut site, kind, path)?, "{kind}");
-    }
-    assert!(rt; site.lock(alloc, &zeros()?)? == Some(7));
+    assert!(rt; makes_all(rt.alloc(), &mut site)?);
     drop(site);
-    let lines = format!(in alloc; "perms /a 0700 root root\ngone /a\nlock {ZEROS} 7\n")?;
-    assert!(rt; has_text(&rt, "cut/changes", lines.as_str()));
-    assert!(rt; has_text(&rt, "cut/journal", "run 4\nrun 5\n"));
-    assert!(rt; has_text(&rt, "cut/tree/a", "one"));
-    assert!(rt; host_in(&rt, "cut")?.lock(alloc, &zeros()?)? == Some(7));
+    for (file, text) in [
+        ("cut/changes", CHANGES),
+        ("cut/journal", "run 4\nrun 5\n"),
+        ("cut/tree/a", "one"),
+    ] {
+        assert!(rt; has_text(&rt, file, text), "{file}");
+    }
+    let mut next = host_in(&rt, "cut")?;
+    assert!(rt; has_lock(rt.alloc(), &mut next)?);
+    Ok(())
+}
+
+// Whether looks and changes at a path are all refused.
+fn refuses(alloc: Global, site: &mut RealHost, path: &str) -> Result<bool, Fail> {
+    for kind in ["text", "dir", "remove"] {
+        if makes(alloc, site, kind, path)? {
+            return Ok(false);
+        }
+    }
+    Ok(!answers(alloc, site, path)?)
+}
+
+fn make_links(rt: &HostRuntime) -> Result<(), Fail> {
+    for (target, link) in [
+        ("../out", "links/tree/end"),
+        ("a", "links/tree/mid"),
+        ("nowhere", "links/tree/loose"),
+    ] {
+        symlink(rt, target, link)?;
+    }
+    Ok(())
+}
+
+#[test]
+fn no_link_is_followed(rt: HostRuntime) -> Result<(), Fail> {
+    let mut site = host_with(&rt, "links", "links/out", "out")?;
+    assert!(rt; makes(rt.alloc(), &mut site, "in", "/a/b")?);
+    make_links(&rt)?;
+    for path in ["/end", "/mid", "/mid/b", "/mid/new", "/loose"] {
+        assert!(rt; refuses(rt.alloc(), &mut site, path)?, "{path}");
+    }
+    assert!(rt; has_text(&rt, "links/out", "out"));
+    assert!(rt; has_text(&rt, "links/tree/a/b", "in"));
     Ok(())
 }
 
 #[test]
 fn damage_refuses_all(rt: HostRuntime) -> Result<(), Fail> {
-    let alloc = rt.alloc();
     for (file, text) in [
         ("damage/perms.tab", "/b 0644 root root\n/a 0644 root root\n"),
         ("damage/perms.tab", "/b 0644 root root"),
@@ -186,44 +247,31 @@ fn damage_refuses_all(rt: HostRuntime) -> Result<(), Fail> {
         ("damage/changes", "gone a\n"),
     ] {
         let mut site = host_with(&rt, "damage", file, text)?;
-        assert!(rt; !answers(alloc, &mut site, "/a")?, "{text}");
-        assert!(rt; !makes(alloc, &mut site, "one", "/a")?, "{text}");
+        assert!(rt; refuses(rt.alloc(), &mut site, "/a")?, "{text}");
         assert!(rt; has_text(&rt, file, text), "{text}");
     }
     Ok(())
 }
 
-#[test]
-fn no_link_is_followed(rt: HostRuntime) -> Result<(), Fail> {
-    let alloc = rt.alloc();
-    let mut site = host_with(&rt, "links", "links/out", "out")?;
-    assert!(rt; makes(alloc, &mut site, "in", "/a/b")?);
-    symlink(&rt, "../out", "links/tree/end")?;
-    symlink(&rt, "a", "links/tree/mid")?;
-    symlink(&rt, "nowhere", "links/tree/loose")?;
-    for path in ["/end", "/mid", "/mid/b", "/mid/new", "/loose"] {
-        assert!(rt; !answers(alloc, &mut site, path)?, "{path}");
-        for kind in ["text", "dir", "remove"] {
-            assert!(rt; !makes(alloc, &mut site, kind, path)?, "{kind} {path}");
-        }
-    }
-    assert!(rt; has_text(&rt, "links/out", "out"));
-    assert!(rt; has_text(&rt, "links/tree/a/b", "in"));
-    Ok(())
+// Whether a host in this folder answers a look.
+fn opens(rt: &HostRuntime, folder: &str) -> Result<bool, Fail> {
+    let mut site = host_in(rt, folder)?;
+    answers(rt.alloc(), &mut site, "/a")
 }
 
 // A host that another agent holds is refused, and stays so; a file in the folder's place too. A missing folder is made.
 #[test]
 fn one_agent_at_a_time(rt: HostRuntime) -> Result<(), Fail> {
-    let alloc = rt.alloc();
     let _ = fs::remove_dir_all(&rt, "two");
     let mut first = host_in(&rt, "two")?;
-    assert!(rt; makes(alloc, &mut first, "1", "/a")?);
+    assert!(rt; makes(rt.alloc(), &mut first, "1", "/a")?);
     let mut second = host_in(&rt, "two")?;
-    assert!(rt; !answers(alloc, &mut second, "/a")?);
+    let refused = !answers(rt.alloc(), &mut second, "/a")?;
     drop(first);
-    assert!(rt; !answers(alloc, &mut second, "/a")?);
-    assert!(rt; answers(alloc, &mut host_in(&rt, "two")?, "/a")?);
-    assert!(rt; !answers(alloc, &mut host_in(&rt, "two/tree/a")?, "/a")?);
+    let still_refused = !answers(rt.alloc(), &mut second, "/a")?;
+    assert!(rt; refused && still_refused);
+    drop(second);
+    assert!(rt; opens(&rt, "two")?);
+    assert!(rt; !opens(&rt, "two/tree/a")?);
     Ok(())
 }
