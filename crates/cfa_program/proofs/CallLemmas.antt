@@ -1,5 +1,5 @@
 -- What a whole call leaves.
-use Rattle.std.proofs.Common.{◌≡◌, ◌≢◌, ◌<◌, ◌≤◌, ◌⊎◌, inl, inr, ℕ, List, [], Some, None, Option, Result, Ok, Err, IfSome, refl, sym, ap, subst, ◌∙◌, arith, append-nil}
+use Rattle.std.proofs.Common.{◌≡◌, ◌≢◌, ◌<◌, ◌≤◌, ◌⊎◌, inl, inr, ℕ, List, Some, None, Option, Result, Ok, Err, IfSome, refl, sym, ap, subst, ◌∙◌, arith, append-nil}
 use Rattle.cfa_base.specs.declared.limits.TheConstants.{LAST_MOMENT}
 use Rattle.cfa_base.specs.Shown.{Shown, followed, Follows, Untouched}
 use Rattle.cfa_words.specs.declared.words.Request.{Request}
@@ -7,24 +7,23 @@ use Rattle.cfa_words.specs.Words.{asked}
 use Rattle.cfa_outside.specs.declared.worlds.World.{World}
 use Rattle.cfa_outside.specs.Inputs.{Library}
 use Rattle.cfa_outside.specs.Sinks.{adds_bytes}
-use Rattle.cfa_outside.specs.Sites.{Told, adds}
+use Rattle.cfa_outside.specs.Sites.{Told}
 use Rattle.cfa_output.specs.declared.ends.Object.TheVariants.{Inputs, Sink}
 use Rattle.cfa_output.specs.declared.ends.Stop.{Stop}
 use Rattle.cfa_output.specs.declared.ends.Stop.TheVariants.{Outside, Memory, Pattern}
 use Rattle.cfa_output.specs.declared.ends.Failure.{Failure}
 use Rattle.cfa_output.specs.declared.ends.Failure.TheVariants.{Refused, Stopped}
 use Rattle.cfa_output.specs.Lines.{words_line, moment_line, memory_line, pattern_line, stop_line}
-use Rattle.cfa_sources.specs.Sources.{Texts}
 use Rattle.cfa_program.specs.declared.ends.End.{End}
 use Rattle.cfa_program.specs.declared.ends.End.TheVariants.{Ended, PromiseFailed}
 use Rattle.cfa_program.specs.declared.work.Work.{Work}
 use Rattle.cfa_program.specs.declared.work.Work.TheVariants.{Run, Show, Check}
 use Rattle.cfa_program.specs.Calls as calls
 use Rattle.cfa_program.specs.Calls.{Does, RefusesRequest, TakesRequest, TakenIsNotRefused, done_by}
-use Rattle.cfa_program.specs.Done.{Done, IsDone, IsPut, Stands, Puts, HasFault, refused_with, status_of}
-use Rattle.cfa_program.specs.Ends.{IsEnd, IsStop, IsRefusal, IsNotDone, Asks, AsksRun, AsksNoRun, AsksRefused, RefusesCall, of_words, of_moment, of_request, PutsRefusal, IsUnread, ReadsInTurn, StopsReading, RefusesText}
+use Rattle.cfa_program.specs.Done.{IsDone, IsPut, Stands, Puts, HasFault, refused_with, status_of}
+use Rattle.cfa_program.specs.Ends.{IsEnd, IsStop, IsNotDone, AsksRun, AsksNoRun, AsksRefused, RefusesCall, of_words, of_moment, of_request, PutsRefusal, IsUnread, ReadsInTurn, StopsReading, RefusesText}
 use Rattle.cfa_program.specs.Lines.{valid_line}
-use Rattle.cfa_program.specs.Stages.{RunsPromises, IsWorkOf, IsAsked, OnlyRefused, Prepared, Performed, TextPut, PutsLast, PutsStop, status_of_stop, Called, not_prepared, ended, stopped_at_work}
+use Rattle.cfa_program.specs.Stages.{RunsPromises, IsAsked, OnlyRefused, Prepared, Performed, TextPut, PutsLast, PutsStop, status_of_stop, Called, not_prepared, ended, stopped_at_work}
 use Rattle.cfa_program.specs.Steps.{StopsRun}
 use Rattle.cfa_program.proofs.Faults.{some_weaker, each_some, some_injective, fault_along, fault_before, calm_so, follows_none}
 

@@ -1,9 +1,8 @@
 -- What a call does is one thing alone.
-use Rattle.std.proofs.Common.{◌≡◌, ◌<◌, ◌≤◌, ℕ, List, Some, None, Option, refl, sym, ap, subst, ◌∙◌, arith}
+use Rattle.std.proofs.Common.{◌≡◌, ◌<◌, ◌≤◌, ℕ, List, Some, Option, refl, sym, ap, subst, ◌∙◌, arith}
 use Rattle.cfa_base.specs.declared.limits.TheConstants.{LAST_MOMENT}
 use Rattle.cfa_words.specs.declared.words.Request.{Request}
 use Rattle.cfa_words.specs.declared.words.Request.TheVariants as request
-use Rattle.cfa_words.specs.Words.{asked}
 use Rattle.cfa_outside.specs.declared.worlds.World.{World}
 use Rattle.cfa_parser.specs.declared.first.FirstPromise.{FirstPromise}
 use Rattle.cfa_parser.specs.declared.first.FirstErr.TheVariants.{OtherForm}
@@ -14,8 +13,8 @@ use Rattle.cfa_sources.specs.Sources.{Texts, source_of}
 use Rattle.cfa_sources.specs.Laws.{FileTreeIsOne, FileLineIsOne, FileNeverBoth, PolicyLineIsOne, PolicyNeverBoth}
 use Rattle.cfa_program.specs.declared.work.Work.{Work}
 use Rattle.cfa_program.specs.declared.work.Work.TheVariants.{Run, Show, Check}
-use Rattle.cfa_program.specs.Calls.{RefusesForm, ReadsForm, RefusesRequest, TakesRequest, TakenIsNotRefused, DoesOneThing, Does, words_refused, moment_refused, request_refused, work_done, ran, done_by, shown}
-use Rattle.cfa_program.specs.Done.{Done, refused_with}
+use Rattle.cfa_program.specs.Calls.{RefusesForm, ReadsForm, RefusesRequest, TakesRequest, TakenIsNotRefused, DoesOneThing, words_refused, moment_refused, request_refused, work_done, ran, done_by, shown}
+use Rattle.cfa_program.specs.Done.{refused_with}
 use Rattle.cfa_program.specs.Lines.{form_line}
 use Rattle.cfa_program.specs.Runs.{run_of}
 use Rattle.cfa_program.proofs.AuditLemmas.{audit_is_one, journal_line_is_one, journal_never_both}

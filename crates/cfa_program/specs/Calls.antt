@@ -1,6 +1,6 @@
 -- What a call of the program does, by its words and moment, the texts of its inputs and the site's world. The words are
 -- refused first, then the moment, then the policy or journal that the words name; else the work that they ask for is done.
-use Rattle.std.specs.Prelude.{ℕ, ◌≡◌, ◌<◌, ◌≤◌, nat_lt, if◌then◌else◌, List, [], ◌∷◌, ◌++◌, length, Option, Some, None, ⊤}
+use Rattle.std.specs.Prelude.{ℕ, ◌≡◌, ◌<◌, ◌≤◌, nat_lt, if◌then◌else◌, List, [], ◌∷◌, ◌++◌, length, Some, None}
 use Rattle.cfa_base.specs.declared.limits.TheConstants.{LAST_MOMENT, MOST_SOURCE_BYTES}
 use Rattle.cfa_words.specs.declared.words.Request.{Request}
 use Rattle.cfa_words.specs.declared.words.Request.TheVariants as request

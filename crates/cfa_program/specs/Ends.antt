@@ -14,7 +14,6 @@ use Rattle.cfa_sources.specs.Sources.{Texts, IsNamed, IsNextFile}
 use Rattle.cfa_sources.specs.Checks.{RefusesSize}
 use Rattle.cfa_sources.specs.Readings.{FailsNext}
 use Rattle.cfa_program.specs.Calls.{RefusesRequest}
-use Rattle.cfa_program.specs.Done.{HasFault}
 
 -- ---- statuses
 

@@ -11,7 +11,7 @@ use Rattle.cfa_outside.specs.declared.worlds.World.{World}
 use Rattle.cfa_outside.specs.Inputs.{Library}
 use Rattle.cfa_outside.specs.Sites.{Told}
 use Rattle.cfa_outside.specs.Sinks.{adds_bytes}
-use Rattle.cfa_output.specs.declared.ends.Object.TheVariants.{Inputs, Sink}
+use Rattle.cfa_output.specs.declared.ends.Object.TheVariants.{Sink}
 use Rattle.cfa_output.specs.declared.ends.Stop.{Stop}
 use Rattle.cfa_output.specs.declared.ends.Stop.TheVariants.{Outside, Memory, Pattern}
 use Rattle.cfa_output.specs.declared.ends.Failure.{Failure}

@@ -67,11 +67,7 @@ fn audit_lines(alloc: Global, journal: &Journal) -> Result<Name, NoMemory>
 }
 
 /// The lines of the audit of the journal of that name. It is refused with the line of its first fault.
-pub fn audit_journal<I: Inputs>(
-    alloc: Global,
-    name: &Name,
-    inputs: &mut I,
-) -> Result<Name, Failure>
+pub fn audit_journal<I: Inputs>(alloc: Global, name: &Name, inputs: &mut I) -> Result<Name, Failure>
     ensures { JournalAudited name.now (I.shown inputs.old) (I.shown inputs.new) result }
 {
     let bytes = read_bytes(alloc, name, inputs)?;
