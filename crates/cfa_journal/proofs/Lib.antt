@@ -1,1 +1,2 @@
+pub mod AuditRows
 pub mod RecordLemmas

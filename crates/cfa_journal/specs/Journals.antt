@@ -31,3 +31,7 @@ OneJournal = (bytes : List ℕ) (records other : List Record) (torn torn' : ℕ)
 
 abbrev pub NeverBoth : Type 0
 NeverBoth = (bytes : List ℕ) (records : List Record) (torn line : ℕ) → IsJournal bytes records torn → ¬ HasBadRecord bytes line
+
+-- one line alone is the first that is no record in its place
+abbrev pub OneBadRecord : Type 0
+OneBadRecord = (bytes : List ℕ) (line other : ℕ) → HasBadRecord bytes line → HasBadRecord bytes other → line ≡ other

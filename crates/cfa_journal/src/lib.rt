@@ -1,12 +1,14 @@
 //! The journal of a host: its records, written and read.
 #![tactic(auto)]
 
+mod audits;
 mod fields;
 mod journals;
 mod laws;
 mod reading;
 mod records;
 
+pub use audits::{AuditedRun, AuditedRuns, audit};
 pub use journals::{Journal, JournalErr, MOST_JOURNAL_BYTES, Records, read, write};
 pub use laws::one_journal;
 pub use records::Record;

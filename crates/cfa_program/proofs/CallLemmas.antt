@@ -1,5 +1,5 @@
 -- What a whole call leaves.
-use Rattle.std.proofs.Common.{◌≡◌, ◌≢◌, ◌<◌, ◌≤◌, ◌⊎◌, inl, inr, ℕ, List, [], Some, None, Option, Result, Ok, Err, IfSome, refl, sym, ap, subst, ◌∙◌, arith, append-nil}
+use Rattle.std.proofs.Common.{◌≡◌, ◌≢◌, ◌<◌, ◌≤◌, ◌⊎◌, inl, inr, ℕ, List, Some, None, Option, Result, Ok, Err, IfSome, refl, sym, ap, subst, ◌∙◌, arith, append-nil}
 use Rattle.cfa_base.specs.declared.limits.TheConstants.{LAST_MOMENT}
 use Rattle.cfa_base.specs.Shown.{Shown, followed, Follows, Untouched}
 use Rattle.cfa_words.specs.declared.words.Request.{Request}
@@ -7,24 +7,23 @@ use Rattle.cfa_words.specs.Words.{asked}
 use Rattle.cfa_outside.specs.declared.worlds.World.{World}
 use Rattle.cfa_outside.specs.Inputs.{Library}
 use Rattle.cfa_outside.specs.Sinks.{adds_bytes}
-use Rattle.cfa_outside.specs.Sites.{Told, adds}
+use Rattle.cfa_outside.specs.Sites.{Told}
 use Rattle.cfa_output.specs.declared.ends.Object.TheVariants.{Inputs, Sink}
 use Rattle.cfa_output.specs.declared.ends.Stop.{Stop}
 use Rattle.cfa_output.specs.declared.ends.Stop.TheVariants.{Outside, Memory, Pattern}
 use Rattle.cfa_output.specs.declared.ends.Failure.{Failure}
 use Rattle.cfa_output.specs.declared.ends.Failure.TheVariants.{Refused, Stopped}
 use Rattle.cfa_output.specs.Lines.{words_line, moment_line, memory_line, pattern_line, stop_line}
-use Rattle.cfa_sources.specs.Sources.{Texts}
 use Rattle.cfa_program.specs.declared.ends.End.{End}
 use Rattle.cfa_program.specs.declared.ends.End.TheVariants.{Ended, PromiseFailed}
 use Rattle.cfa_program.specs.declared.work.Work.{Work}
 use Rattle.cfa_program.specs.declared.work.Work.TheVariants.{Run, Show, Check}
 use Rattle.cfa_program.specs.Calls as calls
-use Rattle.cfa_program.specs.Calls.{Does, RefusesPolicy, TakesPolicy, TakenIsNotRefused, done_by}
-use Rattle.cfa_program.specs.Done.{Done, IsDone, IsPut, Stands, Puts, HasFault, refused_with, status_of}
-use Rattle.cfa_program.specs.Ends.{IsEnd, IsStop, IsRefusal, IsNotDone, Asks, AsksRun, AsksNoRun, AsksRefused, RefusesCall, of_words, of_moment, of_policy, PutsRefusal, IsUnread, ReadsInTurn, StopsReading, RefusesText}
+use Rattle.cfa_program.specs.Calls.{Does, RefusesRequest, TakesRequest, TakenIsNotRefused, done_by}
+use Rattle.cfa_program.specs.Done.{IsDone, IsPut, Stands, Puts, HasFault, refused_with, status_of}
+use Rattle.cfa_program.specs.Ends.{IsEnd, IsStop, IsNotDone, AsksRun, AsksNoRun, AsksRefused, RefusesCall, of_words, of_moment, of_request, PutsRefusal, IsUnread, ReadsInTurn, StopsReading, RefusesText}
 use Rattle.cfa_program.specs.Lines.{valid_line}
-use Rattle.cfa_program.specs.Stages.{RunsPromises, IsWorkOf, IsAsked, OnlyRefused, Prepared, Performed, TextPut, PutsLast, PutsStop, status_of_stop, Called, not_prepared, ended, stopped_at_work}
+use Rattle.cfa_program.specs.Stages.{RunsPromises, IsAsked, OnlyRefused, Prepared, Performed, TextPut, PutsLast, PutsStop, status_of_stop, Called, not_prepared, ended, stopped_at_work}
 use Rattle.cfa_program.specs.Steps.{StopsRun}
 use Rattle.cfa_program.proofs.Faults.{some_weaker, each_some, some_injective, fault_along, fault_before, calm_so, follows_none}
 
@@ -129,8 +128,8 @@ sink_status Check stop site site' out mid out' n p no_run puts = memory_status s
 does_refused : (words : List (List ℕ)) (moment : ℕ) (told : Option Library) (lib : Library) (line : List ℕ) (w : World) → told ≡ Some lib → RefusesCall words moment told line → Does words moment lib.texts w (refused_with line)
 does_refused words moment told lib _ w is (of_words none) = calls.words_refused none
 does_refused words moment told lib _ w is (of_moment asks late) = calls.moment_refused asks late
-does_refused words moment told lib _ w is (of_policy {request = r} {line = l} asks in_time refuses) =
-    calls.policy_refused asks in_time (subst (λ (o : Option Library). IfSome o (λ l2. RefusesPolicy l2.texts r l)) is refuses)
+does_refused words moment told lib _ w is (of_request {request = r} {line = l} asks in_time refuses) =
+    calls.request_refused asks in_time (subst (λ (o : Option Library). IfSome o (λ l2. RefusesRequest l2.texts r l)) is refuses)
 
 refused_done : (line : List ℕ) (site site' : Shown Told) (out out' : Shown (List ℕ)) (n : ℕ) → Untouched site site' → n ≡ 1 → Follows (adds_bytes line) out out' → IsDone (refused_with line) site site' out out' n
 refused_done line site site' out out' n un is put = record {
@@ -146,8 +145,8 @@ refused_put line out out' n is put = record {
   status_is = is;
 }
 
-taken_at : (told : Option Library) (lib : Library) (request : Request) (work : Work) → told ≡ Some lib → IfSome told (λ l. TakesPolicy l.texts request work) → TakesPolicy lib.texts request work
-taken_at told lib request work is h = subst (λ (o : Option Library). IfSome o (λ l. TakesPolicy l.texts request work)) is h
+taken_at : (told : Option Library) (lib : Library) (request : Request) (work : Work) → told ≡ Some lib → IfSome told (λ l. TakesRequest l.texts request work) → TakesRequest lib.texts request work
+taken_at told lib request work is h = subst (λ (o : Option Library). IfSome o (λ l. TakesRequest l.texts request work)) is h
 
 no_run : (words : List (List ℕ)) (moment : ℕ) (told : Option Library) (work : Work) → IsAsked words moment told work → AsksNoRun words → ¬ RunsPromises work
 no_run words moment told work a idle runs = idle (a.request, a.asked_is, a.is_work.runs runs)
@@ -236,14 +235,14 @@ module _ (words : List (List ℕ)) (moment : ℕ) (inputs inputs' : Shown Librar
   taken_refused : TakenIsNotRefused → (work : Work) → IsAsked words moment inputs.told work → (lib : Library) → inputs.told ≡ Some lib → AsksRefused words lib.texts → ⊥
   taken_refused never work a lib told r =
       let same : r.0 ≡ a.request = one_request (r.1) a.asked_is in
-      never lib.texts a.request work r.2.0 (taken_at inputs.told lib a.request work told a.is_work.taken) (subst (λ (q : Request). RefusesPolicy lib.texts q r.2.0) same r.2.1)
+      never lib.texts a.request work r.2.0 (taken_at inputs.told lib a.request work told a.is_work.taken) (subst (λ (q : Request). RefusesRequest lib.texts q r.2.0) same r.2.1)
 
-  pub policy_refused : TakenIsNotRefused → CalledHere → IfSome inputs.told (λ lib. AsksRefused words lib.texts → IsNotDone status × Untouched site site')
-  policy_refused never (not_prepared {failure = Refused line} p un (inl (is, put))) = each_some inputs.told _ (λ lib told r. (inl (inl is), un))
-  policy_refused never (not_prepared {failure = Refused line} p un (inr (is, short))) = each_some inputs.told _ (λ lib told r. (inl (inr (inl is)), un))
-  policy_refused never (not_prepared {failure = Stopped stop} p un puts) = each_some inputs.told _ (λ lib told r. (not_done (stop_is stop out out' status puts), un))
-  policy_refused never (ended {work = work} by p performed is) = each_some inputs.told _ (λ lib told r. absurd (taken_refused never work p.work lib told r))
-  policy_refused never (stopped_at_work {work = work} stop mid p performed puts) = each_some inputs.told _ (λ lib told r. absurd (taken_refused never work p.work lib told r))
+  pub request_refused : TakenIsNotRefused → CalledHere → IfSome inputs.told (λ lib. AsksRefused words lib.texts → IsNotDone status × Untouched site site')
+  request_refused never (not_prepared {failure = Refused line} p un (inl (is, put))) = each_some inputs.told _ (λ lib told r. (inl (inl is), un))
+  request_refused never (not_prepared {failure = Refused line} p un (inr (is, short))) = each_some inputs.told _ (λ lib told r. (inl (inr (inl is)), un))
+  request_refused never (not_prepared {failure = Stopped stop} p un puts) = each_some inputs.told _ (λ lib told r. (not_done (stop_is stop out out' status puts), un))
+  request_refused never (ended {work = work} by p performed is) = each_some inputs.told _ (λ lib told r. absurd (taken_refused never work p.work lib told r))
+  request_refused never (stopped_at_work {work = work} stop mid p performed puts) = each_some inputs.told _ (λ lib told r. absurd (taken_refused never work p.work lib told r))
 
   pub failed : CalledHere → status ≡ 2 → AsksRun words
   failed (not_prepared {failure = Refused line} p un (inl (is, put))) two = absurd (omega (arith, is, two))

@@ -1,5 +1,5 @@
 -- What holds unless a call on the site failed.
-use Rattle.std.proofs.Common.{◌≡◌, ℕ, ◌+◌, ◌-◌, ◌^◌, ◌≤◌, min, List, [], ◌∷◌, ◌++◌, Some, None, Option, option_map, refl, sym, ap, subst, ◌∙◌, arith, ◌⊎◌, inl, inr, append-nil, append_assoc, IfSome}
+use Rattle.std.proofs.Common.{◌≡◌, ℕ, List, [], ◌∷◌, ◌++◌, Some, None, Option, option_map, refl, sym, ap, subst, ◌∙◌, arith, inl, inr, append-nil, append_assoc, IfSome}
 use Rattle.cfa_base.specs.Causes.{Rose}
 use Rattle.cfa_base.specs.Shown.{Shown, followed, Follows}
 use Rattle.cfa_outside.specs.declared.worlds.World.{World}

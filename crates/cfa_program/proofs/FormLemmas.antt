@@ -1,11 +1,10 @@
 -- A text is of the first form with one list of promises, or refused with one line, and never both.
-use Rattle.std.proofs.Common.{◌≡◌, ◌<◌, ◌≤◌, ℕ, ◌+◌, ◌-◌, List, [], ◌∷◌, ◌++◌, length, take, drop, get_or, map, codes, refl, sym, ap, subst, ◌∙◌, arith, ◌⊎◌, inl, inr, append_assoc}
+use Rattle.std.proofs.Common.{◌≡◌, ◌<◌, ◌≤◌, ℕ, ◌+◌, ◌-◌, List, [], ◌∷◌, ◌++◌, length, take, drop, get_or, map, refl, sym, ap, ◌∙◌, arith, ◌⊎◌, inl, inr, append_assoc}
 use Rattle.std.proofs.lemmas.Bool.{cases_order}
 use Rattle.std.proofs.lemmas.List.{append_cancel_right}
 use Rattle.std.proofs.Math.Seq.{take-add}
 use Rattle.cfa_parser.specs.declared.first.FirstPromise.{FirstPromise}
 use Rattle.cfa_parser.specs.declared.first.FirstErr.TheVariants.{OtherForm}
-use Rattle.cfa_parser.specs.FirstForm as form
 use Rattle.cfa_parser.specs.FirstForm.{promise_line, body_lines, close, ending, head_lines, whole_lines, tail_of, IsForm, Begins, FirstBad, Refuses, Numbered, paths_of}
 
 -- ---- lines of promises

@@ -1,3 +1,4 @@
+pub mod AuditLemmas
 pub mod CallLemmas
 pub mod Faults
 pub mod FormLemmas

@@ -1,5 +1,5 @@
 -- What is read of a policy.
-use Rattle.std.proofs.Common.{◌≡◌, ◌≤◌, ℕ, List, Some, Option, refl, sym, ap, subst, ◌∙◌, length, IfSome}
+use Rattle.std.proofs.Common.{◌≡◌, ◌≤◌, ℕ, List, Some, Option, sym, ap, ◌∙◌, length, IfSome}
 use Rattle.cfa_outside.specs.Inputs.{Library}
 use Rattle.cfa_parser.specs.declared.first.FirstPromise.{FirstPromise}
 use Rattle.cfa_parser.specs.declared.first.FirstErr.TheVariants.{OtherForm}

@@ -1,20 +1,19 @@
 -- What is known when a call has been read.
-use Rattle.std.proofs.Common.{◌≡◌, ◌≢◌, ◌<◌, ◌≤◌, ℕ, List, Some, None, Option, Result, Ok, Err, IfSome, refl, sym, subst, ◌∙◌, arith}
+use Rattle.std.proofs.Common.{◌≡◌, ◌<◌, ◌≤◌, ℕ, List, Some, None, Option, Result, Ok, Err, refl, sym, subst, ◌∙◌, arith}
 use Rattle.cfa_base.specs.declared.limits.TheConstants.{LAST_MOMENT}
 use Rattle.cfa_base.specs.Shown.{Shown}
 use Rattle.cfa_words.specs.declared.words.Request.{Request}
 use Rattle.cfa_words.specs.Words.{asked}
 use Rattle.cfa_outside.specs.Inputs.{Library}
 use Rattle.cfa_output.specs.declared.ends.Object.TheVariants.{Inputs, Sink}
-use Rattle.cfa_output.specs.declared.ends.Stop.{Stop}
 use Rattle.cfa_output.specs.declared.ends.Stop.TheVariants.{Outside, Memory, Pattern}
 use Rattle.cfa_output.specs.declared.ends.Failure.{Failure}
 use Rattle.cfa_output.specs.declared.ends.Failure.TheVariants.{Refused, Stopped}
 use Rattle.cfa_output.specs.Lines.{words_line, moment_line}
 use Rattle.cfa_sources.specs.Readings.{FailsNext}
 use Rattle.cfa_program.specs.declared.work.Work.{Work}
-use Rattle.cfa_program.specs.Ends.{RefusesCall, of_words, of_moment, of_policy, IsNextOf, AsksNext}
-use Rattle.cfa_program.specs.Stages.{IsRefusalWith, PolicyPrepared, Prepared}
+use Rattle.cfa_program.specs.Ends.{RefusesCall, of_words, of_moment, of_request, IsNextOf, AsksNext}
+use Rattle.cfa_program.specs.Stages.{IsRefusalWith, RequestPrepared, Prepared}
 use Rattle.cfa_program.proofs.Faults.{some_weaker}
 
 abbrev is_none : Option Request → Type 0
@@ -76,7 +75,7 @@ module _ (words : List (List ℕ)) (moment : ℕ) (inputs : Shown Library) (pats
     never_late : LAST_MOMENT < moment → ⊥
     never_late late = omega (arith, late, in_time)
 
-    pub prepared : (result : Result Work Failure) → PolicyPrepared request inputs inputs' pats pats' result → Prepared words moment inputs inputs' pats pats' result
+    pub prepared : (result : Result Work Failure) → RequestPrepared request inputs inputs' pats pats' result → Prepared words moment inputs inputs' pats pats' result
     prepared (Ok work) p = record {
       work = record { request = request; asked_is = asks; in_time = in_time; is_work = p.work };
       refused = tt;
@@ -87,7 +86,7 @@ module _ (words : List (List ℕ)) (moment : ℕ) (inputs : Shown Library) (pats
     }
     prepared (Err (Refused line)) p = record {
       work = tt;
-      refused = of_policy asks in_time p.refused;
+      refused = of_request asks in_time p.refused;
       words_refused = λ none. absurd (none_or_some none asks);
       moment_refused = λ _ late. absurd (never_late late);
       inputs_are = p.inputs_are;

@@ -1,24 +1,22 @@
 -- A run that has come to some promise.
-use Rattle.std.proofs.Common.{◌≡◌, ◌≢◌, ℕ, ◌+◌, ◌<◌, ◌≤◌, List, [], ◌∷◌, ◌++◌, length, get_or, drop, Some, None, Option, option_map, refl, sym, ap, subst, ◌∙◌, arith, ◌⊎◌, inl, inr, IfSome}
+use Rattle.std.proofs.Common.{◌≡◌, ℕ, ◌+◌, ◌<◌, ◌≤◌, List, [], ◌∷◌, length, get_or, drop, Some, Option, option_map, refl, sym, ap, subst, ◌∙◌, arith, inl, inr, IfSome}
 use Rattle.std.proofs.lemmas.List.{at_drop_more, at_drop_all}
 use Rattle.cfa_base.specs.declared.places.PromiseId.{PromiseId}
-use Rattle.cfa_base.specs.Shown.{Shown, followed, Follows, Untouched, HasFailed}
+use Rattle.cfa_base.specs.Shown.{Shown, followed, Follows}
 use Rattle.cfa_outside.specs.declared.worlds.World.{World}
 use Rattle.cfa_outside.specs.declared.sites.Change.{Change}
-use Rattle.cfa_outside.specs.declared.sites.Entry.TheVariants.{Did}
 use Rattle.cfa_outside.specs.Sites.{Told, adds}
 use Rattle.cfa_outside.specs.Sinks.{adds_bytes}
 use Rattle.cfa_output.specs.Puts.{puts_nothing, puts_both}
 use Rattle.cfa_acts.specs.declared.acts.Decision.{Decision}
 use Rattle.cfa_acts.specs.declared.acts.Decision.TheVariants as decided
 use Rattle.cfa_acts.specs.declared.acts.Decision.TheVariants.{Kept, Needs, Fail}
-use Rattle.cfa_acts.specs.declared.acts.Reason.{Reason}
 use Rattle.cfa_acts.specs.declared.acts.Reason.TheVariants.{Fault}
 use Rattle.cfa_parser.specs.declared.first.FirstPromise.{FirstPromise}
 use Rattle.cfa_program.specs.declared.running.Tally.{Tally}
 use Rattle.cfa_program.specs.declared.running.Outcome.{Outcome}
 use Rattle.cfa_program.specs.declared.running.Outcome.TheVariants as outcome
-use Rattle.cfa_program.specs.Done.{HasFault, log_of, text_of}
+use Rattle.cfa_program.specs.Done.{log_of, text_of}
 use Rattle.cfa_program.specs.Runs.{Counts, Run, none_yet, nothing_run, plus, one_by, needs, id_at, entries_by, line_by, first_then, run_of}
 use Rattle.cfa_program.specs.Steps.{UnlessFault, Changed, DoesNeeded, Actuated, line_of, TakesPromise, RunsAll, counts_of, counted, outcome_by}
 use Rattle.cfa_program.proofs.Faults.{some_weaker, each_some, unless_then, unless_weaker, follows_none, follows_both}

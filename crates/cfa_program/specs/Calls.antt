@@ -1,6 +1,6 @@
 -- What a call of the program does, by its words and moment, the texts of its inputs and the site's world. The words are
--- refused first, then the moment, then the policy; else the work that the words ask for is done.
-use Rattle.std.specs.Prelude.{ℕ, ◌≡◌, ◌<◌, ◌≤◌, nat_lt, if◌then◌else◌, List, [], ◌∷◌, ◌++◌, length, Option, Some, None, ⊤}
+-- refused first, then the moment, then the policy or journal that the words name; else the work that they ask for is done.
+use Rattle.std.specs.Prelude.{ℕ, ◌≡◌, ◌<◌, ◌≤◌, nat_lt, if◌then◌else◌, List, [], ◌∷◌, ◌++◌, length, Some, None}
 use Rattle.cfa_base.specs.declared.limits.TheConstants.{LAST_MOMENT, MOST_SOURCE_BYTES}
 use Rattle.cfa_words.specs.declared.words.Request.{Request}
 use Rattle.cfa_words.specs.declared.words.Request.TheVariants as request
@@ -18,11 +18,12 @@ use Rattle.cfa_program.specs.declared.ends.End.{End}
 use Rattle.cfa_program.specs.declared.ends.End.TheVariants.{Ended, PromiseFailed}
 use Rattle.cfa_program.specs.declared.work.Work.{Work}
 use Rattle.cfa_program.specs.declared.work.Work.TheVariants.{Run, Show, Check}
+use Rattle.cfa_program.specs.Audits.{AuditsAs, RefusesJournal}
 use Rattle.cfa_program.specs.Done.{Done, puts, refused_with, ends_with}
 use Rattle.cfa_program.specs.Lines.{form_line, valid_line}
 use Rattle.cfa_program.specs.Runs as runs
 
--- ---- the policy
+-- ---- the policy or the journal
 
 -- the source of a policy isn't of the form that is run so far, or it is too long; the line tells its first line at fault
 pub record RefusesForm (texts : Texts) (policy line : List ℕ) : Type 0 where
@@ -46,24 +47,26 @@ pub record ReadsAsText (texts : Texts) (policy text : List ℕ) : Type 0 where
   pub reads : ReadsFile texts 0 policy tree
   pub text_is : text ≡ printed tree
 
--- a request's policy is refused with this line; a run looks at no option yet, nor does a check at a class
-abbrev pub RefusesPolicy : Texts → Request → (line : List ℕ) → Type 0
-RefusesPolicy texts (request.Run policy options) line = RefusesForm texts policy line
-RefusesPolicy texts (request.Show policy) line = RefusesFile texts 0 policy line
-RefusesPolicy texts (request.Check policy classes) line = Refuses texts policy line
+-- the policy or journal of a request is refused with this line; a run looks at no option yet, nor does a check at a class
+abbrev pub RefusesRequest : Texts → Request → (line : List ℕ) → Type 0
+RefusesRequest texts (request.Run policy options) line = RefusesForm texts policy line
+RefusesRequest texts (request.Show policy) line = RefusesFile texts 0 policy line
+RefusesRequest texts (request.Check policy classes) line = Refuses texts policy line
+RefusesRequest texts (request.Audit journal) line = RefusesJournal texts journal line
 
--- a request's policy is taken, and this is the work that is to be done
-abbrev pub TakesPolicy : Texts → Request → Work → Type 0
-TakesPolicy texts (request.Run policy options) (Run promises) = ReadsForm texts policy promises.items
-TakesPolicy texts (request.Show policy) (Show text) = ReadsAsText texts policy text
-TakesPolicy texts (request.Check policy classes) Check = IsValid texts policy
-TakesPolicy texts _ _ = ⊥
+-- the policy or journal of a request is taken, and this is the work that is to be done
+abbrev pub TakesRequest : Texts → Request → Work → Type 0
+TakesRequest texts (request.Run policy options) (Run promises) = ReadsForm texts policy promises.items
+TakesRequest texts (request.Show policy) (Show text) = ReadsAsText texts policy text
+TakesRequest texts (request.Check policy classes) Check = IsValid texts policy
+TakesRequest texts (request.Audit journal) (Show text) = AuditsAs texts journal text
+TakesRequest texts _ _ = ⊥
 
--- a policy that is taken isn't refused
+-- what is taken isn't refused
 abbrev pub TakenIsNotRefused : Type 0
 TakenIsNotRefused =
     (texts : Texts) (request : Request) (work : Work) (line : List ℕ) →
-    TakesPolicy texts request work → RefusesPolicy texts request line → ⊥
+    TakesRequest texts request work → RefusesRequest texts request line → ⊥
 
 -- ---- the work
 
@@ -93,10 +96,10 @@ pub data Does (words : List (List ℕ)) (moment : ℕ) (texts : Texts) (world : 
   words_refused : asked words ≡ None → Does words moment texts world (refused_with words_line)
   moment_refused : {request : Request} → asked words ≡ Some request → LAST_MOMENT < moment →
       Does words moment texts world (refused_with moment_line)
-  policy_refused : {request : Request} {line : List ℕ} → asked words ≡ Some request → moment ≤ LAST_MOMENT →
-      RefusesPolicy texts request line → Does words moment texts world (refused_with line)
+  request_refused : {request : Request} {line : List ℕ} → asked words ≡ Some request → moment ≤ LAST_MOMENT →
+      RefusesRequest texts request line → Does words moment texts world (refused_with line)
   work_done : {request : Request} (work : Work) → asked words ≡ Some request → moment ≤ LAST_MOMENT →
-      TakesPolicy texts request work → Does words moment texts world (done_by work world)
+      TakesRequest texts request work → Does words moment texts world (done_by work world)
 
 -- what a call does is one thing alone
 abbrev pub DoesOneThing : Type 0

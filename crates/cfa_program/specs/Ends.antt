@@ -4,7 +4,7 @@ use Rattle.cfa_base.specs.declared.limits.TheConstants.{LAST_MOMENT}
 use Rattle.cfa_base.specs.Shown.{Shown, Follows, Untouched, HasFailed, IsLeft}
 use Rattle.cfa_base.specs.Patterns.{refuses}
 use Rattle.cfa_words.specs.declared.words.Request.{Request}
-use Rattle.cfa_words.specs.declared.words.Request.TheVariants.{Run, Show, Check}
+use Rattle.cfa_words.specs.declared.words.Request.TheVariants.{Run, Show, Check, Audit}
 use Rattle.cfa_words.specs.Words.{asked}
 use Rattle.cfa_outside.specs.Inputs.{Library}
 use Rattle.cfa_outside.specs.Sinks.{adds_bytes}
@@ -13,8 +13,7 @@ use Rattle.cfa_output.specs.Lines.{words_line, moment_line, outside_line}
 use Rattle.cfa_sources.specs.Sources.{Texts, IsNamed, IsNextFile}
 use Rattle.cfa_sources.specs.Checks.{RefusesSize}
 use Rattle.cfa_sources.specs.Readings.{FailsNext}
-use Rattle.cfa_program.specs.Calls.{RefusesPolicy}
-use Rattle.cfa_program.specs.Done.{HasFault}
+use Rattle.cfa_program.specs.Calls.{RefusesRequest}
 
 -- ---- statuses
 
@@ -40,6 +39,7 @@ abbrev pub IsRun : Request → Type 0
 IsRun (Run policy options) = ⊤
 IsRun (Show policy) = ⊥
 IsRun (Check policy classes) = ⊥
+IsRun (Audit journal) = ⊥
 
 abbrev pub AsksRun : (words : List (List ℕ)) → Type 0
 AsksRun words = Asks IsRun words
@@ -48,9 +48,9 @@ AsksRun words = Asks IsRun words
 abbrev pub AsksNoRun : (words : List (List ℕ)) → Type 0
 AsksNoRun words = ¬ AsksRun words
 
--- the words ask for something that a policy of these texts is refused for
+-- the words ask for something of which the policy or the journal is refused, by these texts
 abbrev pub AsksRefused : (words : List (List ℕ)) → Texts → Type 0
-AsksRefused words texts = Asks (λ request. (line : List ℕ) × RefusesPolicy texts request line) words
+AsksRefused words texts = Asks (λ request. (line : List ℕ) × RefusesRequest texts request line) words
 
 -- the status is that of a refusal or of a pattern that is too big
 abbrev pub IsNotDone : (status : ℕ) → Type 0
@@ -63,8 +63,8 @@ pub data RefusesCall (words : List (List ℕ)) (moment : ℕ) (told : Option Lib
   of_words : asked words ≡ None → RefusesCall words moment told words_line
   of_moment : {request : Request} → asked words ≡ Some request → LAST_MOMENT < moment →
       RefusesCall words moment told moment_line
-  of_policy : {request : Request} {line : List ℕ} → asked words ≡ Some request → moment ≤ LAST_MOMENT →
-      IfSome told (λ library. RefusesPolicy library.texts request line) → RefusesCall words moment told line
+  of_request : {request : Request} {line : List ℕ} → asked words ≡ Some request → moment ≤ LAST_MOMENT →
+      IfSome told (λ library. RefusesRequest library.texts request line) → RefusesCall words moment told line
 
 -- the line of a refusal was put
 abbrev pub PutsRefusal :
@@ -80,11 +80,12 @@ pub record IsUnread (line : List ℕ) (inputs inputs' : Shown Library) (out out'
 
 -- ---- what is read
 
--- a run and a show read their policy's file, a check reads the inputs too that it names
+-- a run and a show read their policy's file, a check reads the inputs too that it names, an audit reads its journal
 abbrev pub IsNextOf : Request → Texts → (name : List ℕ) → Type 0
 IsNextOf (Run policy options) texts name = IsNamed policy texts name
 IsNextOf (Show policy) texts name = IsNamed policy texts name
 IsNextOf (Check policy classes) texts name = IsNextFile policy texts name
+IsNextOf (Audit journal) texts name = IsNamed journal texts name
 
 -- the name is the next that is read for what the words ask for
 abbrev pub AsksNext : (words : List (List ℕ)) → Texts → (name : List ℕ) → Type 0
@@ -106,6 +107,7 @@ abbrev pub BuildsOf : Request → (told : Option Library) → (text : List ℕ) 
 BuildsOf (Run policy options) told text = ⊥
 BuildsOf (Show policy) told text = ⊥
 BuildsOf (Check policy classes) told text = IfSome told (λ library. RefusesSize library.texts policy text)
+BuildsOf (Audit journal) told text = ⊥
 
 -- the text is built for what the words ask for
 abbrev pub AsksBuilt : (words : List (List ℕ)) → (told : Option Library) → (text : List ℕ) → Type 0

@@ -11,23 +11,26 @@ use Rattle.cfa_outside.specs.declared.worlds.World.{World}
 use Rattle.cfa_outside.specs.Inputs.{Library}
 use Rattle.cfa_outside.specs.Sites.{Told}
 use Rattle.cfa_outside.specs.Sinks.{adds_bytes}
-use Rattle.cfa_output.specs.declared.ends.Object.TheVariants.{Inputs, Sink}
+use Rattle.cfa_output.specs.declared.ends.Object.TheVariants.{Sink}
 use Rattle.cfa_output.specs.declared.ends.Stop.{Stop}
 use Rattle.cfa_output.specs.declared.ends.Stop.TheVariants.{Outside, Memory, Pattern}
 use Rattle.cfa_output.specs.declared.ends.Failure.{Failure}
 use Rattle.cfa_output.specs.declared.ends.Failure.TheVariants.{Refused, Stopped}
 use Rattle.cfa_output.specs.Ends.{IfRefused}
-use Rattle.cfa_output.specs.Lines.{words_line, moment_line, stop_line}
+use Rattle.cfa_output.specs.Lines.{words_line, moment_line, stop_line, journal_bad_line, journal_long_line}
 use Rattle.cfa_output.specs.Puts.{PutsShort}
 use Rattle.cfa_parser.specs.declared.first.FirstPromise.{FirstPromise}
 use Rattle.cfa_sources.specs.Sources.{IsNamed}
-use Rattle.cfa_sources.specs.Readings.{ReadUpTo, stop_of, text_too_big}
+use Rattle.cfa_journal.specs.declared.journals.JournalErr.{JournalErr}
+use Rattle.cfa_journal.specs.declared.journals.JournalErr.TheVariants.{BadRecord, TooLong, NoMemory}
+use Rattle.cfa_sources.specs.Readings.{ReadUpTo, stop_of, stopped_by, text_too_big}
 use Rattle.cfa_program.specs.declared.ends.End.{End}
 use Rattle.cfa_program.specs.declared.ends.End.TheVariants.{Ended}
 use Rattle.cfa_program.specs.declared.work.Work.{Work}
 use Rattle.cfa_program.specs.declared.work.Work.TheVariants.{Run, Show, Check}
 use Rattle.cfa_program.specs.Done.{Done, IsDone, HasFault, status_of}
-use Rattle.cfa_program.specs.Calls.{ReadsForm, RefusesForm, RefusesPolicy, TakesPolicy, done_by}
+use Rattle.cfa_program.specs.Audits.{bytes_of, AuditsAs, RefusesJournal}
+use Rattle.cfa_program.specs.Calls.{ReadsForm, RefusesForm, RefusesRequest, TakesRequest, done_by}
 use Rattle.cfa_program.specs.Ends.{IsRun, IsNextOf, AsksNext, BuildsOf, AsksBuilt, RefusesCall}
 use Rattle.cfa_program.specs.Lines.{valid_line}
 use Rattle.cfa_program.specs.Steps.{UnlessFault, StopsRun}
@@ -50,7 +53,7 @@ HasFew Check = ⊤
 -- the work is what a request asks for
 pub record IsWorkOf (request : Request) (told : Option Library) (work : Work) : Type 0 where
   pub runs : RunsPromises work → IsRun request
-  pub taken : IfSome told (λ library. TakesPolicy library.texts request work)
+  pub taken : IfSome told (λ library. TakesRequest library.texts request work)
   pub few : HasFew work
 
 -- the policy of this name was read in the form that is run so far
@@ -63,11 +66,36 @@ pub record PromisesRead (policy : List ℕ) (inputs inputs' : Shown Library) (re
   pub inputs_are : ReadUpTo (IsNamed policy) (stop_of result) inputs inputs'
   pub no_pattern : text_too_big (stop_of result) ≡ None
 
--- the policy of a request was read
-pub record PolicyPrepared (request : Request) (inputs inputs' : Shown Library) (pats pats' : Shown (List (List ℕ))) (result : Result Work Failure) : Type 0 where
+-- the bytes of this name were read
+pub record BytesRead (name : List ℕ) (inputs inputs' : Shown Library) (result : Result (List ℕ) Stop) : Type 0 where
+  pub bytes : IfOk result (λ bytes. IfSome inputs.told (λ library. bytes_of library.texts name ≡ Some bytes))
+  pub inputs_are : ReadUpTo (IsNamed name) (stopped_by result) inputs inputs'
+  pub no_pattern : text_too_big (stopped_by result) ≡ None
+
+-- a line is told, unless memory ended
+abbrev pub Tells : (line : List ℕ) → Result (List ℕ) Stop → Type 0
+Tells line (Ok told) = told ≡ line
+Tells line (Err stop) = stop ≡ Memory
+
+-- why a journal is refused was told
+abbrev pub JournalTells : (name : List ℕ) → JournalErr → Result (List ℕ) Stop → Type 0
+JournalTells name (BadRecord line) result = Tells (journal_bad_line name line) result
+JournalTells name TooLong result = Tells (journal_long_line name) result
+JournalTells name NoMemory result = result ≡ Err Memory
+
+-- the journal of this name was read to the text of its audit
+pub record JournalAudited (name : List ℕ) (inputs inputs' : Shown Library) (result : Result (List ℕ) Failure) : Type 0 where
+  pub text : IfOk result (λ text. IfSome inputs.told (λ library. AuditsAs library.texts name text))
+  pub refused : IfErr result (λ failure. IfRefused failure (λ line.
+      IfSome inputs.told (λ library. RefusesJournal library.texts name line)))
+  pub inputs_are : ReadUpTo (IsNamed name) (stop_of result) inputs inputs'
+  pub no_pattern : text_too_big (stop_of result) ≡ None
+
+-- the policy or journal of a request was read
+pub record RequestPrepared (request : Request) (inputs inputs' : Shown Library) (pats pats' : Shown (List (List ℕ))) (result : Result Work Failure) : Type 0 where
   pub work : IfOk result (IsWorkOf request inputs.told)
   pub refused : IfErr result (λ failure. IfRefused failure (λ line.
-      IfSome inputs.told (λ library. RefusesPolicy library.texts request line)))
+      IfSome inputs.told (λ library. RefusesRequest library.texts request line)))
   pub inputs_are : ReadUpTo (IsNextOf request) (stop_of result) inputs inputs'
   pub patterns_are : SizeRefusal (BuildsOf request inputs.told) (text_too_big (stop_of result)) pats pats'
 

@@ -1,12 +1,14 @@
 // Laws over the definitions of a call.
 ghost use Rattle.cfa_program.specs.Calls.{DoesOneThing, TakenIsNotRefused};
 
+use cfa_journal::one_journal;
 use cfa_sources::{a_file_has_one_answer, a_policy_has_one_answer};
 
-/// A policy that is taken isn't refused.
-pub fn taken_policies_are_not_refused()
+/// A policy or a journal that is taken isn't refused.
+pub fn taken_requests_are_not_refused()
     ensures { TakenIsNotRefused }
 {
+    one_journal();
     a_file_has_one_answer();
     a_policy_has_one_answer();
 }
@@ -15,6 +17,7 @@ pub fn taken_policies_are_not_refused()
 pub fn a_call_does_one_thing()
     ensures { DoesOneThing }
 {
+    one_journal();
     a_file_has_one_answer();
     a_policy_has_one_answer();
 }

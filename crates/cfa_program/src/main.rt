@@ -1,7 +1,8 @@
-//! The agent: runs, shows and checks policies by the words of its command line.
+//! The agent: runs, shows and checks policies, and audits journals, by the words of its command line.
 #![tactic(auto)]
 
 mod agent;
+mod auditing;
 mod ends;
 mod laws;
 mod lines;

@@ -1,9 +1,11 @@
-// The first phase of a call: its words, its moment and its policy are read. Neither the site nor the sink is touched.
+// The first phase of a call: its words and its moment are read, and the policy or journal that the words name. Neither the
+// site nor the sink is touched.
 ghost use Rattle.std.specs.Prelude.{◌≡◌, IfOk, IfErr};
 ghost use Rattle.cfa_words.specs.declared.words.Request.TheVariants as request;
 ghost use Rattle.cfa_output.specs.Lines.{line_of};
-ghost use Rattle.cfa_program.specs.Stages.{PromisesRead, PolicyPrepared, IsRefusalWith, Prepared};
+ghost use Rattle.cfa_program.specs.Stages.{PromisesRead, RequestPrepared, IsRefusalWith, Prepared};
 
+use crate::auditing::audit_journal;
 use crate::lines;
 use crate::work::Work;
 use cfa_base::{LAST_MOMENT, Name, NoMemory, Patterns};
@@ -34,13 +36,13 @@ fn read_promises<I: Inputs>(
 }
 
 // The work of a request.
-fn prepare_policy<I: Inputs, P: Patterns>(
+fn prepare_request<I: Inputs, P: Patterns>(
     alloc: Global,
     request: &Request,
     inputs: &mut I,
     pats: &mut P,
 ) -> Result<Work, Failure>
-    ensures { PolicyPrepared request.now (I.shown inputs.old) (I.shown inputs.new)
+    ensures { RequestPrepared request.now (I.shown inputs.old) (I.shown inputs.new)
         (P.shown pats.old) (P.shown pats.new) result }
 {
     match request {
@@ -53,6 +55,7 @@ fn prepare_policy<I: Inputs, P: Patterns>(
             read_policy(alloc, policy, inputs, pats)?;
             Ok(Work::Check)
         }
+        Request::Audit(journal) => Ok(Work::Show(audit_journal(alloc, journal, inputs)?)),
     }
 }
 
@@ -83,5 +86,5 @@ pub fn prepare<I: Inputs, P: Patterns>(
     if moment > LAST_MOMENT {
         return Err(refusal(alloc, &Item::MomentRefused));
     }
-    prepare_policy(alloc, &request, inputs, pats)
+    prepare_request(alloc, &request, inputs, pats)
 }

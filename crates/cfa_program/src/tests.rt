@@ -1,4 +1,5 @@
 // Calls of the top call over objects in memory: worlds, logs, lines and statuses.
+mod audits;
 mod blocks;
 mod bodies;
 mod frames;
@@ -302,7 +303,7 @@ const WITH_A_FAILING_SINK: [Case<'static>; 8] = [
         ..PLAIN
     },
     Case {
-        words: "audit j",
+        words: "start j",
         room: 0,
         lines: "",
         status: 4,

@@ -1,9 +1,25 @@
 // Journals and records.
-use cfa_base::{Bytes, Key, Name, PromiseId};
-use cfa_journal::{JournalErr, MOST_JOURNAL_BYTES, Record, read, write};
+use cfa_base::{Bytes, Key, Name, NoMemory, PromiseId};
+use cfa_journal::{JournalErr, MOST_JOURNAL_BYTES, Record, audit, read, write};
+use std::alloc::Global;
 use std::test::Fail;
 
 const ZEROS: &str = "0000000000000000000000000000000000000000000000000000000000000000";
+
+// A text with 64 zeros for each `Z`.
+fn journal_of(alloc: Global, text: &str) -> Result<Bytes, NoMemory> {
+    let mut bytes = Bytes::from_slice(alloc, &[])?;
+    for part in text.split_inclusive('Z') {
+        match part.strip_suffix("Z") {
+            Some(front) => {
+                bytes.append(front.as_bytes())?;
+                bytes.append(ZEROS.as_bytes())?;
+            }
+            None => bytes.append(part.as_bytes())?,
+        }
+    }
+    Ok(bytes)
+}
 
 // The texts of journals, with `Z` for 64 zeros: the number of records and of torn bytes, or of the first bad line.
 #[test]
@@ -39,16 +55,7 @@ fn journals(rt: HostRuntime) -> Result<(), Fail> {
         ("run 5\nstop 6\nrun 7", Err(2)),
     ];
     for (text, answer) in rows {
-        let mut bytes = Bytes::from_slice(alloc, &[])?;
-        for part in text.split_inclusive('Z') {
-            match part.strip_suffix("Z") {
-                Some(front) => {
-                    bytes.append(front.as_bytes())?;
-                    bytes.append(ZEROS.as_bytes())?;
-                }
-                None => bytes.append(part.as_bytes())?,
-            }
-        }
+        let bytes = journal_of(alloc, text)?;
         match read(alloc, &bytes) {
             Ok(journal) => {
                 let found = (journal.records.as_slice().len(), journal.torn);
@@ -57,6 +64,38 @@ fn journals(rt: HostRuntime) -> Result<(), Fail> {
             Err(JournalErr::BadRecord(line)) => assert!(rt; answer == Err(line), "{text}"),
             Err(_) => assert!(rt; false, "{text}"),
         }
+    }
+    Ok(())
+}
+
+// Of each run of the journal its moment, and what was repaired, failed and left open.
+fn runs_of(alloc: Global, text: &str) -> Result<String, Fail> {
+    let journal = read(alloc, &journal_of(alloc, text)?)?;
+    let mut told = String::new(alloc);
+    for run in audit(alloc, &journal)?.as_slice() {
+        let (repaired, failed, opened) = (run.repaired, run.failed, run.opened);
+        let line = format!(in alloc; "{}:{repaired},{failed},{opened};", run.moment)?;
+        told.push_str(line.as_str())?;
+    }
+    Ok(told)
+}
+
+#[test]
+fn journals_are_audited(rt: HostRuntime) -> Result<(), Fail> {
+    let rows = [
+        ("", ""),
+        ("run 5\nrun 6\nrun", "5:0,0,0;6:0,0,0;"),
+        (
+            "run 5\nopen 1 main:1@4 Z\ndone 1 repaired 1\nopen 2 main:2@5 Z\nrun",
+            "5:1,0,1;",
+        ),
+        (
+            "run 7\nopen 1 a:1@1 Z\nrun 8\nfail 1 a:1@1 Z F13\nopen 2 a:1@1 Z\ndone 2 failed F1\n",
+            "7:0,0,1;8:0,2,0;",
+        ),
+    ];
+    for (text, told) in rows {
+        assert!(rt; runs_of(rt.alloc(), text)?.as_str() == told, "{text}");
     }
     Ok(())
 }

@@ -12,7 +12,7 @@ struct Line {
     asks: &'static str,
 }
 
-static LINES: [Line; 44] = [
+static LINES: [Line; 47] = [
     Line {
         words: "run a.cf",
         asks: "run a.cf",
@@ -154,6 +154,18 @@ static LINES: [Line; 44] = [
         asks: "refused",
     },
     Line {
+        words: "audit journal",
+        asks: "audit journal",
+    },
+    Line {
+        words: "audit journal -K",
+        asks: "refused",
+    },
+    Line {
+        words: "audit",
+        asks: "refused",
+    },
+    Line {
         words: "show a.cf -K",
         asks: "refused",
     },
@@ -225,6 +237,10 @@ fn shown(alloc: Global, request: &Option<Request>) -> Result<String, Fail> {
         Some(Request::Show(policy)) => {
             text.push_str("show ")?;
             text.push_str(policy.as_str())?;
+        }
+        Some(Request::Audit(journal)) => {
+            text.push_str("audit ")?;
+            text.push_str(journal.as_str())?;
         }
     }
     Ok(text)

@@ -2,7 +2,7 @@
 use Rattle.std.proofs.Common.{◌≡◌, ◌∷◌, [], Bool, Option, Some, None, true, false, refl, codes, List}
 use Rattle.cfa_words.specs.Words.{Text, asked}
 use Rattle.cfa_words.specs.declared.words.Request.{Request}
-use Rattle.cfa_words.specs.declared.words.Request.TheVariants.{Run, Check, Show}
+use Rattle.cfa_words.specs.declared.words.Request.TheVariants.{Run, Check, Show, Audit}
 
 abbrev a_cf : Text
 a_cf = codes "a.cf"
@@ -92,6 +92,15 @@ strict_check = refl
 
 lock_show : asked (codes "show" ∷ a_cf ∷ codes "-K" ∷ []) ≡ refused
 lock_show = refl
+
+audit : asked (codes "audit" ∷ codes "journal" ∷ []) ≡ Some (Audit (codes "journal"))
+audit = refl
+
+strict_audit : asked (codes "audit" ∷ codes "--strict" ∷ codes "journal" ∷ []) ≡ refused
+strict_audit = refl
+
+defined_audit : asked (codes "audit" ∷ codes "journal" ∷ codes "-Da" ∷ []) ≡ refused
+defined_audit = refl
 
 other_command : asked (codes "start" ∷ a_cf ∷ []) ≡ refused
 other_command = refl

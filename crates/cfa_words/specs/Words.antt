@@ -6,7 +6,7 @@ use Rattle.std.specs.Str.{bytes_eq}
 use Rattle.cfa_base.specs.Lexing.{is_word}
 use Rattle.cfa_words.specs.declared.words.Options.{Options}
 use Rattle.cfa_words.specs.declared.words.Request.{Request}
-use Rattle.cfa_words.specs.declared.words.Request.TheVariants.{Run, Check, Show}
+use Rattle.cfa_words.specs.declared.words.Request.TheVariants.{Run, Check, Show, Audit}
 
 abbrev pub Text : Type 0
 Text = List ℕ
@@ -158,7 +158,7 @@ class_names (Some text) = class_list text
 abbrev pub options_of : Given → List Text → Options
 options_of g names = record { classes = names; locks = not g.no_lock; strict = g.strict }
 
--- `run` takes each flag and option, `check` the classes, `show` nothing
+-- `run` takes each flag and option, `check` the classes, `show` and `audit` nothing
 abbrev pub run_asked : Text → Given → Option Request
 run_asked policy g = option_map (λ names. Run policy (options_of g names)) (class_names g.classes)
 
@@ -169,15 +169,19 @@ check_asked policy g =
 abbrev pub show_asked : Text → Given → Option Request
 show_asked policy g = if g.no_lock || (g.strict || is_some g.classes) then None else Some (Show policy)
 
+abbrev pub audit_asked : Text → Given → Option Request
+audit_asked journal g = if g.no_lock || (g.strict || is_some g.classes) then None else Some (Audit journal)
+
 abbrev pub asked_of : Text → Text → Given → Option Request
-asked_of command policy g =
-    if bytes_eq command (codes "run") then run_asked policy g
-    else (if bytes_eq command (codes "check") then check_asked policy g
-    else (if bytes_eq command (codes "show") then show_asked policy g else None))
+asked_of command argument g =
+    if bytes_eq command (codes "run") then run_asked argument g
+    else (if bytes_eq command (codes "check") then check_asked argument g
+    else (if bytes_eq command (codes "show") then show_asked argument g
+    else (if bytes_eq command (codes "audit") then audit_asked argument g else None)))
 
 -- a command has one argument, and no command takes a third word
 abbrev pub words_asked : List Text → Given → Option Request
-words_asked (command ∷ policy ∷ []) g = asked_of command policy g
+words_asked (command ∷ argument ∷ []) g = asked_of command argument g
 words_asked _ g = None
 
 -- what the words ask for, or `None` where they are refused

@@ -4,7 +4,7 @@ ghost use Rattle.std.specs.List.{list_all, slice_split};
 ghost use Rattle.std.specs.Str.{is_utf8};
 ghost use Rattle.clap.specs.Words.{app_of, first_value, found_of, one_text};
 ghost use Rattle.clap.specs.Values.{bool_text};
-ghost use Rattle.cfa_words.specs.Words.{asked, asked_of, class_list, class_names, given, is_class as class_test, words_asked, check_asked, run_asked, show_asked};
+ghost use Rattle.cfa_words.specs.Words.{asked, asked_of, class_list, class_names, given, is_class as class_test, words_asked, check_asked, run_asked, show_asked, audit_asked};
 ghost use Rattle.cfa_words.specs.Lines.{given_of, lines_given, text_in};
 ghost use Rattle.cfa_words.specs.Parser.{command_line as command_line_app};
 
@@ -24,7 +24,7 @@ pub struct Options {
     pub strict: bool,
 }
 
-/// What a command line asks for, with the policy's file as it was named.
+/// What a command line asks for, with the policy's or the journal's file as it was named.
 #[derive(Debug, Drop)]
 pub enum Request {
     /// `run POLICY`: reads, checks, analyses, then runs.
@@ -33,6 +33,8 @@ pub enum Request {
     Check(Name, Names),
     /// `show POLICY`: reads the one file, and prints its canonical text.
     Show(Name),
+    /// `audit JOURNAL`: reads a journal, and prints what it tells of its runs.
+    Audit(Name),
 }
 
 // What a command line gives, before its command is looked at.
@@ -143,10 +145,11 @@ fn request_of(alloc: Global, line: &Line) -> Result<Option<Request>, NoMemory>
     ensures { IfOk result (λ r. r ≡ words_asked (given_of line.now).words (given_of line.now)) }
 {
     match (line.command, line.argument, line.extra) {
-        (Some(command), Some(policy), None) => match command {
-            "run" => run(alloc, policy, line),
-            "check" => check(alloc, policy, line),
-            "show" => show(alloc, policy, line),
+        (Some(command), Some(argument), None) => match command {
+            "run" => run(alloc, argument, line),
+            "check" => check(alloc, argument, line),
+            "show" => show(alloc, argument, line),
+            "audit" => audit(alloc, argument, line),
             _ => Ok(None),
         },
         _ => Ok(None),
@@ -186,6 +189,15 @@ fn show(alloc: Global, policy: &str, line: &Line) -> Result<Option<Request>, NoM
         return Ok(None);
     }
     Ok(Some(Request::Show(Name::from_text(alloc, policy)?)))
+}
+
+fn audit(alloc: Global, journal: &str, line: &Line) -> Result<Option<Request>, NoMemory>
+    ensures { IfOk result (λ r. r ≡ audit_asked journal.now (given_of line.now)) }
+{
+    if line.without_locks || line.strict || line.classes.is_some() {
+        return Ok(None);
+    }
+    Ok(Some(Request::Audit(Name::from_text(alloc, journal)?)))
 }
 
 // The classes between the commas, or `None` where one of them is no class.

@@ -1,5 +1,5 @@
 -- Rows in order: one more row, and that bytes are rows in one way.
-use Rattle.std.proofs.Common.{◌≡◌, ℕ, ◌-◌, List, [], ◌∷◌, ◌++◌, length, Option, Some, None, refl, sym, ap, ◌∙◌, arith, append_assoc}
+use Rattle.std.proofs.Common.{◌≡◌, ℕ, suc, ◌-◌, List, [], ◌∷◌, ◌++◌, length, Option, Some, None, refl, sym, ap, ◌∙◌, arith, append_assoc}
 use Rattle.std.specs.Prelude.{slice_get}
 use Rattle.cfa_rows.specs.Cuts.{Lacks}
 use Rattle.cfa_rows.specs.lemmas.Cuts.{one_cut, no_cut}
@@ -62,3 +62,20 @@ never_bad form follows tells last (row ∷ rows) (row' ∷ before) rest line beh
     let order'' : InOrder follows (Some row) before = rw same order'.1 in
     let none' : Reads form (follows (last_after (Some row) before)) line None = rw same none in
     never_bad form follows tells (Some row) rows before rest line behind order.1 torn order'' a_line none' cut.1
+
+-- the first bad line stands behind one number of rows
+pub one_bad : {R : Type 0} (form : R → List ℕ) (follows : Option R → R → Type 0) → TellsRows form follows → (last : Option R) (before other : List R) (line rest line' rest' : List ℕ) → InOrder follows last before → InOrder follows last other → Lacks 10 line → Lacks 10 line' → Reads form (follows (last_after last before)) line None → Reads form (follows (last_after last other)) line' None → written form before ++ (line ++ 10 ∷ rest) ≡ written form other ++ (line' ++ 10 ∷ rest') → length before ≡ length other
+one_bad form follows tells last [] [] line rest line' rest' order order' a_line a_line' none none' e = refl
+one_bad form follows tells last [] (row ∷ other) line rest line' rest' order order' a_line a_line' none none' e =
+    let cut = one_cut 10 line rest (form row) (written form other ++ (line' ++ 10 ∷ rest')) a_line (tells.lines last row order'.0) (e ∙ first_line form row other (line' ++ 10 ∷ rest')) in
+    absurd (none row order'.0 (sym cut.0))
+one_bad form follows tells last (row ∷ before) [] line rest line' rest' order order' a_line a_line' none none' e =
+    let cut = one_cut 10 (form row) (written form before ++ (line ++ 10 ∷ rest)) line' rest' (tells.lines last row order.0) a_line' (sym (first_line form row before (line ++ 10 ∷ rest)) ∙ e) in
+    absurd (none' row order.0 cut.0)
+one_bad form follows tells last (row ∷ before) (row' ∷ other) line rest line' rest' order order' a_line a_line' none none' e =
+    let cut = one_cut 10 (form row) (written form before ++ (line ++ 10 ∷ rest)) (form row') (written form other ++ (line' ++ 10 ∷ rest')) (tells.lines last row order.0) (tells.lines last row' order'.0) (sym (first_line form row before (line ++ 10 ∷ rest)) ∙ e ∙ first_line form row' other (line' ++ 10 ∷ rest')) in
+    let same : row ≡ row' = tells.rows last row row' order.0 order'.0 cut.0 in
+    let order'' : InOrder follows (Some row) other = rw same order'.1 in
+    let none'' : Reads form (follows (last_after (Some row) other)) line' None = rw same none' in
+    let more : length before ≡ length other = one_bad form follows tells (Some row) before other line rest line' rest' order.1 order'' a_line a_line' none none'' cut.1 in
+    ap suc more

@@ -25,8 +25,8 @@ returns-clause-words_refused g c = calls.words_refused c.args.words.now c.args.m
 pub returns-clause-moment_refused : goal.returns-clause-moment_refused
 returns-clause-moment_refused g c = calls.moment_refused c.args.words.now c.args.moment (g.I.Inputs.shown c.args.inputs.now) (g.I.Inputs.shown c.call.new.inputs) (g.S.Site.shown c.args.site.now) (g.S.Site.shown c.call.new.site) (g.O.Sink.shown c.args.out.now) (g.O.Sink.shown c.call.new.out) (g.P.Patterns.shown c.args.pats.now) (g.P.Patterns.shown c.call.new.pats) c.call.result c.call.ensures
 
-pub returns-clause-policy_refused : goal.returns-clause-policy_refused
-returns-clause-policy_refused g c = calls.policy_refused c.args.words.now c.args.moment (g.I.Inputs.shown c.args.inputs.now) (g.I.Inputs.shown c.call.new.inputs) (g.S.Site.shown c.args.site.now) (g.S.Site.shown c.call.new.site) (g.O.Sink.shown c.args.out.now) (g.O.Sink.shown c.call.new.out) (g.P.Patterns.shown c.args.pats.now) (g.P.Patterns.shown c.call.new.pats) c.call.result c.taken_policies_are_not_refused.ensures c.call.ensures
+pub returns-clause-request_refused : goal.returns-clause-request_refused
+returns-clause-request_refused g c = calls.request_refused c.args.words.now c.args.moment (g.I.Inputs.shown c.args.inputs.now) (g.I.Inputs.shown c.call.new.inputs) (g.S.Site.shown c.args.site.now) (g.S.Site.shown c.call.new.site) (g.O.Sink.shown c.args.out.now) (g.O.Sink.shown c.call.new.out) (g.P.Patterns.shown c.args.pats.now) (g.P.Patterns.shown c.call.new.pats) c.call.result c.taken_requests_are_not_refused.ensures c.call.ensures
 
 pub returns-clause-failed : goal.returns-clause-failed
 returns-clause-failed g c = calls.failed c.args.words.now c.args.moment (g.I.Inputs.shown c.args.inputs.now) (g.I.Inputs.shown c.call.new.inputs) (g.S.Site.shown c.args.site.now) (g.S.Site.shown c.call.new.site) (g.O.Sink.shown c.args.out.now) (g.O.Sink.shown c.call.new.out) (g.P.Patterns.shown c.args.pats.now) (g.P.Patterns.shown c.call.new.pats) c.call.result c.call.ensures

@@ -1,4 +1,4 @@
-use Rattle.std.proofs.Common.{refl, arith, ap, subst, ◌∙◌, ◌≡◌, ◌+◌, ℕ, List, codes}
+use Rattle.std.proofs.Common.{arith, ap, subst, ◌∙◌, ◌≡◌, ◌+◌, ℕ, List, codes}
 use Rattle.cfa_base.specs.Shown.{Shown, Follows}
 use Rattle.cfa_outside.specs.Sinks.{adds_bytes}
 use Rattle.cfa_program.specs.declared.running.Outcome.{Outcome}

@@ -1,0 +1,115 @@
+// Audits of journals: what a journal tells of each of its runs.
+ghost use Rattle.std.specs.Prelude.{◌≡◌, ◌<◌, ◌^◌, ◌-◌, IfOk, option_copied};
+ghost use Rattle.cfa_journal.specs.Audits.{audited, counted, is_done, runs_of, up_to_run};
+
+use crate::{Journal, Record};
+use cfa_base::NoMemory;
+use std::alloc::Global;
+use std::marker::Model;
+
+/// A run of a journal: the moment at which it began, and how many of its records tell what.
+#[derive(Clone, Copy, Debug, PartialEq, Eq)]
+pub struct AuditedRun {
+    /// Seconds since 1970.
+    pub moment: u64,
+    /// Instances that were repaired.
+    pub repaired: u64,
+    /// Instances that failed, before any change or behind one.
+    pub failed: u64,
+    /// Instances whose first change may have been made, and whose end isn't told.
+    pub opened: u64,
+}
+
+/// The runs of a journal, in order.
+#[derive(Debug, Drop)]
+pub struct AuditedRuns {
+    items: Vec<AuditedRun>,
+}
+
+impl Model for AuditedRuns {
+    ghost use Rattle.std.specs.Prelude.{List};
+    ghost use Rattle.cfa_journal.specs.declared.audits.AuditedRun.{AuditedRun};
+
+    ghost Value = { List AuditedRun };
+
+    ghost view = { λ r. r.items.items };
+}
+
+impl AuditedRuns {
+    /// The runs of a `Vec`, without taking memory.
+    pub fn from_vec(items: Vec<AuditedRun>) -> AuditedRuns
+        ensures { result ≡ items.items }
+    {
+        AuditedRuns { items }
+    }
+
+    /// The runs, without taking memory.
+    pub fn as_slice(&self) -> &[AuditedRun]
+        ensures { result.now ≡ self.now }
+    {
+        self.items.as_slice()
+    }
+}
+
+// Whether a record is the `done` of this number.
+fn is_done(number: u32, item: Option<&Record>) -> bool
+    ensures { result ≡ is_done number (option_copied item.entry) }
+{
+    match item {
+        Some(Record::Repaired(n, _) | Record::Failed(n, _)) => number == *n,
+        _ => false,
+    }
+}
+
+// Counts one record more of a run, by the one behind it.
+fn count(run: &mut AuditedRun, item: &Record, next: Option<&Record>)
+    requires repaired { run.old.repaired < 2 ^ 64 - 1 }
+    requires failed { run.old.failed < 2 ^ 64 - 1 }
+    requires opened { run.old.opened < 2 ^ 64 - 1 }
+    ensures { run.new ≡ counted run.old item.now (option_copied next.entry) }
+{
+    match item {
+        Record::Run(_) => {}
+        Record::Open(number, _, _) => {
+            if !is_done(*number, next) {
+                run.opened += 1;
+            }
+        }
+        Record::Repaired(_, _) => run.repaired += 1,
+        Record::Failed(_, _) | Record::Fail(_, _, _, _) => run.failed += 1,
+    }
+}
+
+// The run of a moment, with the records behind its `run` and those of all later runs.
+fn audited_run(moment: u64, behind: &[Record]) -> AuditedRun
+    ensures { result ≡ audited moment (up_to_run behind.now) }
+{
+    let mut run = AuditedRun {
+        moment,
+        repaired: 0,
+        failed: 0,
+        opened: 0,
+    };
+    for i in 0..behind.len() {
+        let item = &behind[i];
+        if let Record::Run(_) = item {
+            return run;
+        }
+        count(&mut run, item, behind.get(i + 1));
+    }
+    run
+}
+
+/// What a journal tells of each of its runs. Each record is looked at twice at most.
+pub fn audit(alloc: Global, journal: &Journal) -> Result<AuditedRuns, NoMemory>
+    ensures { IfOk result (λ runs. runs ≡ runs_of journal.now.records) }
+{
+    let records = journal.records.as_slice();
+    let mut runs = Vec::new(alloc);
+    for i in 0..records.len() {
+        if let Record::Run(moment) = &records[i] {
+            runs.push(audited_run(*moment, &records[i + 1..]))?;
+        }
+    }
+    Ok(AuditedRuns::from_vec(runs))
+}
