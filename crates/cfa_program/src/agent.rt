@@ -42,15 +42,15 @@ fn call<I: Inputs, S: Site, O: Sink, P: Patterns>(
 }
 
 /// Does what the words say, and answers the status of the process: 0 where the work came to its end, 1 where the words, the
-/// moment, the policy or the journal are refused, 2 where a run ended with a failed promise, 4 where the inputs or the sink failed, 5
-/// where memory ended, 6 where a pattern was refused for its size.
+/// moment, the policy or the journal are refused, 2 where a run ended with a failed promise, 4 where the inputs or the sink
+/// failed, 5 where memory ended, 6 where a pattern was refused for its size.
 ///
 /// The words come without the program's name, as `cfa_words` reads them; `run POLICY`, `show POLICY`, `check POLICY`
 /// and `audit JOURNAL` are built so far. POLICY and JOURNAL name a text of the inputs, and so do the inputs that a checked
 /// policy lists. `moment` is the time in seconds since 1970-01-01T00:00:00Z; one after the year 9998 is refused.
 ///
-/// The words, the moment and the policy or the journal are read before anything is done on the site or put. Each line is put as soon as it
-/// stands. After a put that failed nothing more is put; after a failed reading the last line is `stopped: outside`, after
+/// The words, the moment and the policy or the journal are read before anything is done on the site or put. Each line is
+/// put as soon as it stands. After a put that failed nothing more is put; after a failed reading the last line is `stopped: outside`, after
 /// want of memory it is `stopped: memory`, and after a pattern that was refused for its size it is `stopped: pattern`.
 /// Where that line can't be put the status is 4.
 pub fn agent_main<I: Inputs, S: Site, O: Sink, P: Patterns>(
@@ -77,8 +77,8 @@ pub fn agent_main<I: Inputs, S: Site, O: Sink, P: Patterns>(
     ensures range { IsEnd result ⊎ IsStop result }
 
     // Status 1 comes exactly for refused words, a refused moment and a refused policy or journal, unless a pattern is too
-    // big. Then the line of the refusal was put and nothing was done on the site, nor anything read where the words or the moment are
-    // refused.
+    // big. Then the line of the refusal was put and nothing was done on the site, nor anything read where the words or the
+    // moment are refused.
     ensures refused { result ≡ 1 →
         PutsRefusal words.now moment (I.shown inputs.old).told (O.shown out.old) (O.shown out.new) }
     ensures refused_untouched { result ≡ 1 → Untouched (S.shown site.old) (S.shown site.new) }
@@ -97,8 +97,9 @@ pub fn agent_main<I: Inputs, S: Site, O: Sink, P: Patterns>(
     // Status 2 comes only for a run.
     ensures failed { result ≡ 2 → AsksRun words.now }
 
-    // Status 4 comes only where a put failed, or the reading of a file of the policy or of the journal did, before anything was done on the
-    // site or put but the line that tells the stop; and no reading fails but that of the file that is read next.
+    // Status 4 comes only where a put failed, or the reading of a file of the policy or of the journal did, before anything
+    // was done on the site or put but the line that tells the stop; and no reading fails but that of the file that is read
+    // next.
     ensures outside { result ≡ 4 → HasFault (O.shown out.old) (O.shown out.new)
         ⊎ StopsReading words.now (I.shown inputs.old) (I.shown inputs.new)
         (S.shown site.old) (S.shown site.new) (O.shown out.old) (O.shown out.new) }
