@@ -80,7 +80,6 @@ a_body kind name attributes = body (named kind) (named name) (named (codes "x") 
 abbrev created : AttributeTree
 created = says (codes "create") (quoted (codes "true"))
 
-
 abbrev empty : World
 empty = record { nodes = finite.empty; services = finite.empty; locks = finite.empty; journal = [] }
 

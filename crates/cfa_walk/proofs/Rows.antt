@@ -135,10 +135,10 @@ listed_by teller policy = listed_in (history_of (run (setting policy) teller))
 abbrev step_by_step : PolicyTree
 step_by_step =
     a_bundle (codes "agent") (codes "main") (section (codes "files") (
-        under (class (codes "c3")) (codes "/a4") (created ∷ classes_of (codes "both") (codes "c4") ∷ [])
-        ∷ under (class (codes "c2")) (codes "/a3") (created ∷ classes_of (codes "both") (codes "c3") ∷ [])
-        ∷ under (class (codes "c1")) (codes "/a2") (created ∷ classes_of (codes "both") (codes "c2") ∷ [])
-        ∷ under (class (codes "any")) (codes "/a1") (created ∷ classes_of (codes "both") (codes "c1") ∷ []) ∷ []) ∷ [])
+    under (class (codes "c3")) (codes "/a4") (created ∷ classes_of (codes "both") (codes "c4") ∷ [])
+    ∷ under (class (codes "c2")) (codes "/a3") (created ∷ classes_of (codes "both") (codes "c3") ∷ [])
+    ∷ under (class (codes "c1")) (codes "/a2") (created ∷ classes_of (codes "both") (codes "c2") ∷ [])
+    ∷ under (class (codes "any")) (codes "/a1") (created ∷ classes_of (codes "both") (codes "c1") ∷ []) ∷ []) ∷ [])
     ∷ outcome_bodies
 
 three_of_four : told_by (all_end Repaired) step_by_step ≡
@@ -153,10 +153,10 @@ three_of_four = refl
 abbrev ready_by_a_call : PolicyTree
 ready_by_a_call =
     a_bundle (codes "agent") (codes "main") (
-        section (codes "files") (under (class (codes "ready")) (codes "/f") (created ∷ []) ∷ [])
-        ∷ section (codes "methods") (promise (codes "m") (says (codes "usebundle") (word (codes "sub") here) ∷ []) ∷ []) ∷ [])
+    section (codes "files") (under (class (codes "ready")) (codes "/f") (created ∷ []) ∷ [])
+    ∷ section (codes "methods") (promise (codes "m") (says (codes "usebundle") (word (codes "sub") here) ∷ []) ∷ []) ∷ [])
     ∷ a_bundle (codes "agent") (codes "sub") (section (codes "files") (
-        promise (codes "/x") (created ∷ classes_of (codes "both") (codes "ready") ∷ []) ∷ []) ∷ [])
+    promise (codes "/x") (created ∷ classes_of (codes "both") (codes "ready") ∷ []) ∷ []) ∷ [])
     ∷ outcome_bodies
 
 in_the_next_pass : told_by (all_end Repaired) ready_by_a_call ≡
@@ -187,14 +187,14 @@ counted = refl
 abbrev joined_to_itself : PolicyTree
 joined_to_itself =
     a_bundle (codes "common") (codes "g") (
-        section (codes "classes") (promise (codes "set here") (says (codes "expression") (quoted (codes "any")) ∷ []) ∷ [])
-        ∷ section (codes "vars") (promise (codes "v") (says (codes "string") (quoted (codes "w")) ∷ []) ∷ []) ∷ [])
+    section (codes "classes") (promise (codes "set here") (says (codes "expression") (quoted (codes "any")) ∷ []) ∷ [])
+    ∷ section (codes "vars") (promise (codes "v") (says (codes "string") (quoted (codes "w")) ∷ []) ∷ []) ∷ [])
     ∷ a_bundle (codes "agent") (codes "main") (
-        section (codes "vars") (
-            promise (codes "x") (says (codes "string") (quoted []) ∷ [])
-            ∷ promise (codes "l") (says (codes "slist") (items (codes "a" ∷ codes "b" ∷ [])) ∷ [])
-            ∷ promise (codes "y") (says (codes "string") (quoted (codes "$(x)$(l)")) ∷ []) ∷ [])
-        ∷ section (codes "reports") (under (class (codes "set_here")) (codes "$(y)$(g.v)") [] ∷ []) ∷ []) ∷ []
+    section (codes "vars") (
+    promise (codes "x") (says (codes "string") (quoted []) ∷ [])
+    ∷ promise (codes "l") (says (codes "slist") (items (codes "a" ∷ codes "b" ∷ [])) ∷ [])
+    ∷ promise (codes "y") (says (codes "string") (quoted (codes "$(x)$(l)")) ∷ []) ∷ [])
+    ∷ section (codes "reports") (under (class (codes "set_here")) (codes "$(y)$(g.v)") [] ∷ []) ∷ []) ∷ []
 
 the_last_stays : told_by (all_end Repaired) joined_to_itself ≡ (codes "main 4;report bw;k=;r=;f=;e=1", Kept ∷ []) ∷ []
 unfolding run common_passes passes calls_of reach visit told resolution combined own_reads made heard bodies_of made_instance file_acts service_act outcome_classes key_text mode_text datum_given data_set raises_of setting_choices shared_names shared_in expanded scalar look key_of pieces reference_at list_reference_of are_too_many list_given answer_of function_named path_of body_of bundle_of common_bundles_of minutes_of sequence_of escaped escape_of digits is_literal is_boolean promise_type bundle_type files_attribute outcome_attribute methods_attribute services_attribute vars_attribute classes_attribute delete_attribute copy_from_attribute perms_attribute classes_body_attribute action_attribute expression_of
@@ -205,9 +205,9 @@ the_last_stays = refl
 abbrev after_a_repair : PolicyTree
 after_a_repair =
     a_bundle (codes "agent") (codes "main") (section (codes "files") (
-        promise (codes "/a") (created ∷ classes_of (codes "if_repaired") (codes "c") ∷ [])
-        ∷ under (class (codes "c")) (codes "/b") (created ∷ [])
-        ∷ under (negated (class (codes "c"))) (codes "/d") (created ∷ []) ∷ []) ∷ [])
+    promise (codes "/a") (created ∷ classes_of (codes "if_repaired") (codes "c") ∷ [])
+    ∷ under (class (codes "c")) (codes "/b") (created ∷ [])
+    ∷ under (negated (class (codes "c"))) (codes "/d") (created ∷ []) ∷ []) ∷ [])
     ∷ outcome_bodies
 
 sure_and_unsure : listed_by open_walk after_a_repair ≡

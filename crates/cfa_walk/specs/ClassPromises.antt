@@ -122,7 +122,7 @@ module _ (status : List ℕ → Status) (scopes : InScope) (promise : PromiseTre
   abbrev pub expressed : Chosen → Said
   expressed choice =
       expressed_by choice (value_of (codes "expression") promise.attributes) (value_of (codes "not") promise.attributes)
-          (value_of (codes "and") promise.attributes) (value_of (codes "or") promise.attributes)
+      (value_of (codes "and") promise.attributes) (value_of (codes "or") promise.attributes)
 
   abbrev pub named_said : Expanded → Said → Option (List ℕ × Said)
   named_said (Done name) said = Some (canonified name, said)

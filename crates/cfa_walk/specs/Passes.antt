@@ -70,7 +70,7 @@ abbrev pub raise_each : Instance → List Outcome → Status → List (List ℕ)
 raise_each instance outcomes status [] h = h
 raise_each instance outcomes status (class ∷ classes) h =
     raise_each instance outcomes status classes
-        (Raised everywhere class (raised_to status (in_every_list instance outcomes class)) (Some instance.source) ∷ h)
+    (Raised everywhere class (raised_to status (in_every_list instance outcomes class)) (Some instance.source) ∷ h)
 
 -- the classes of each outcome's list, one after the other
 abbrev pub raise_lists : Instance → List Outcome → List Outcome → Status → History → History
@@ -168,13 +168,13 @@ module _ (s : Setting) (teller : Teller) where
   abbrev pub vars_reached : Home → Numbered → Status → Option (List Chosen) → History → Course
   vars_reached home p guard choices h =
       reached home p guard true (count_choices choices)
-          (λ k. goes (set_each home.path p.promise.promiser (data_set (scopes_in s h home) p.promise choices) k)) h
+      (λ k. goes (set_each home.path p.promise.promiser (data_set (scopes_in s h home) p.promise choices) k)) h
 
   abbrev pub classes_reached : Where → Home → Numbered → Status → Option (List Chosen) → History → Course
   classes_reached place home p guard choices h =
       reached home p guard false (count_choices choices)
-          (λ k. goes (raise_all h place home.path guard (first_maybe_of_guard p.promise.guard (status_in s h home.path))
-              (raises_of (status_in s h home.path) (scopes_in s h home) p.promise choices) k)) h
+      (λ k. goes (raise_all h place home.path guard (first_maybe_of_guard p.promise.guard (status_in s h home.path))
+      (raises_of (status_in s h home.path) (scopes_in s h home) p.promise choices) k)) h
 
   abbrev pub instances_reached : Calls → Home → (activation : Status) → Numbered → Status → Resolved → History → Course
   instances_reached activate home activation p guard resolved h =
@@ -188,7 +188,7 @@ module _ (s : Setting) (teller : Teller) where
       classes_reached place home p guard (setting_choices (scopes_in s h home) promises.Classes p.promise) h
   kept_by activate place home activation p type guard h =
       instances_reached activate home activation p guard
-          (resolution (reached_at s.policy p.id (scopes_in s h home) home.path (type, p.promise))) h
+      (resolution (reached_at s.policy p.id (scopes_in s h home) home.path (type, p.promise))) h
 
   abbrev pub sets_variable : PromiseType → Bool
   sets_variable promises.Vars = true
@@ -233,7 +233,7 @@ module _ (s : Setting) (teller : Teller) where
   activation activate path status given None h = goes h
   activation activate path status given (Some block) h =
       passes activate (within path) (record { path = path; bundle = name_of block }) status (numbered_in block) 3
-          (bind path (params_of block) given (Begun path given ∷ h))
+      (bind path (params_of block) given (Begun path given ∷ h))
 
   abbrev pub called_by : Calls → (path : List ℕ) → Work → Status → History → Course
   called_by activate path (Acts acts) status h = goes h
@@ -255,7 +255,7 @@ module _ (s : Setting) (teller : Teller) where
   commons_from [] h = goes h
   commons_from (block ∷ more) h =
       then_on (types_from all_calls everywhere (record { path = name_of block; bundle = name_of block }) Yes (numbered_in block) common_types h)
-          (commons_from more)
+      (commons_from more)
 
   unfoldable pub common_passes : ℕ → History → Course
   common_passes zero h = goes h

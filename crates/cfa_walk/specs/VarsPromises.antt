@@ -48,7 +48,7 @@ unfoldable pub setting_choices : InScope → PromiseType → PromiseTree → Opt
 setting_choices scopes type promise =
     let reads = own_reads type promise in
     choices_unless (first_lacking scopes reads)
-        (has_too_many scopes reads || list_any (has_long_list scopes type) promise.attributes) (choices_among scopes reads)
+    (has_too_many scopes reads || list_any (has_long_list scopes type) promise.attributes) (choices_among scopes reads)
 
 -- one where it has none
 abbrev pub count_choices : Option (List Chosen) → ℕ
@@ -87,7 +87,7 @@ given_by scopes choice None None None = gives_nothing
 abbrev pub given_in : InScope → PromiseTree → Chosen → Given
 given_in scopes promise choice =
     given_by scopes choice (value_of (codes "string") promise.attributes) (value_of (codes "int") promise.attributes)
-        (value_of (codes "slist") promise.attributes)
+    (value_of (codes "slist") promise.attributes)
 
 abbrev pub is_too_long : Given → Bool
 is_too_long (gives datum) = false
