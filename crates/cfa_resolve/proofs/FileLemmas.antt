@@ -1,9 +1,7 @@
 -- Promisers that are written as directories, and the lengths of the texts that promises give.
-use Rattle.std.proofs.Common.{◌≡◌, ◌∙◌, ◌-◌, ◌≤◌, ℕ, Bool, true, false, List, [], ◌++◌, length, take, drop, codes, Option, Some, None, if◌then◌else◌, ap, sym, refl, lit≤, arith}
-use Rattle.std.specs.Prelude.{nat_le, Result, Ok, Err}
+use Rattle.std.proofs.Common.{◌≡◌, ◌∙◌, ◌-◌, ◌≤◌, ℕ, true, false, List, ◌++◌, length, take, drop, codes, if◌then◌else◌, ap, sym, lit≤, arith}
 use Rattle.std.specs.Str.{bytes_eq}
-use Rattle.std.proofs.lemmas.Bool.{false_from_ne_true, cases_Bool}
-use Rattle.std.proofs.lemmas.Bool.Decides.{nat_tests}
+use Rattle.std.proofs.lemmas.Bool.{false_from_ne_true}
 use Rattle.std.proofs.lemmas.Slice.Eq.{bytes_eq-Decides}
 use Rattle.std.proofs.lemmas.List.{take-append-drop}
 use Rattle.cfa_tree.specs.Tree.{ValueTree}

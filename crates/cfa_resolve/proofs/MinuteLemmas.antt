@@ -8,7 +8,7 @@ use Rattle.std.proofs.lemmas.Bool.Decides.{nat_tests}
 use Rattle.cfa_tree.specs.Tree.{ValueTree, NamedTree, BlockTree, bundle, body, PolicyTree}
 use Rattle.cfa_kinds.specs.declared.kinds.BodyType.TheVariants as bodies
 use Rattle.cfa_kinds.specs.declared.kinds.Form.TheVariants.{Minutes}
-use Rattle.cfa_kinds.specs.Forms.{has_form, has_no_leading_zero, minutes_written}
+use Rattle.cfa_kinds.specs.Forms.{has_form, has_no_leading_zero}
 use Rattle.cfa_values.specs.Attributes.{value_of}
 use Rattle.cfa_values.specs.Values.{known_named}
 use Rattle.cfa_schema.specs.Served.{body_of, minutes_named, minutes_in, or_one, minutes_of}

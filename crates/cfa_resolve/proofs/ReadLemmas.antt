@@ -1,5 +1,5 @@
 -- What values read, by what stands between their brackets; and what texts alone give.
-use Rattle.std.proofs.Common.{◌≡◌, ◌∙◌, ℕ, Bool, true, false, ◌||◌, List, [], ◌∷◌, ◌++◌, ap, sym, refl, map, length, Option, Some, None, is_none, if◌then◌else◌}
+use Rattle.std.proofs.Common.{◌≡◌, ◌∙◌, ℕ, Bool, true, false, ◌||◌, List, [], ◌∷◌, ◌++◌, ap, sym, refl, map, Option, Some, None, is_none, if◌then◌else◌}
 use Rattle.std.specs.List.{filter_map, flat_map, list_any}
 use Rattle.std.specs.Option.{option_or}
 use Rattle.std.proofs.lemmas.List.Folds.{find-append}
@@ -10,7 +10,6 @@ use Rattle.cfa_tree.specs.declared.values.Value.{Value, List as Listed, Call as 
 use Rattle.cfa_tree.specs.Plain.{plain_value}
 use Rattle.cfa_tree.specs.Tree.{value_trees}
 use Rattle.cfa_tree.specs.lemmas.Rows.{plain_value-List, plain_value-Call}
-use Rattle.cfa_vars.specs.declared.choosing.Choices.{Choices}
 use Rattle.cfa_vars.specs.declared.choosing.Choices.TheVariants.{Found, Unresolved, TooMany}
 use Rattle.cfa_vars.specs.References.{names_in}
 use Rattle.cfa_vars.specs.Scopes.{InScope, look}
@@ -18,7 +17,6 @@ use Rattle.cfa_vars.specs.Expansion.{Chosen, expanded}
 use Rattle.cfa_vars.specs.Choices.{first_unset, lists_among, all_choices, are_too_many, told_of, choices_of}
 use Rattle.cfa_resolve.specs.declared.reads.Read.{Read}
 use Rattle.cfa_resolve.specs.declared.reads.Read.TheVariants.{Text as a_text, List as a_list}
-use Rattle.cfa_resolve.specs.declared.combining.Combined.{Combined}
 use Rattle.cfa_resolve.specs.declared.combining.Combined.TheVariants.{Lacks as lacks, TooMany as too_many}
 use Rattle.cfa_resolve.specs.OwnTexts.{reads_in, reads_among, arguments_of, scalar_names, lacking_in, first_lacking, is_long_list, has_too_many, is_past_limit, has_too_long, found_or_too_long, combined_by, combined}
 use Rattle.cfa_resolve.specs.ReadTexts.{text_read, has_text_too_long}

@@ -1,5 +1,5 @@
 -- The visits that a promise counts.
-use Rattle.std.proofs.Common.{◌≡◌, List, ℕ, refl}
+use Rattle.std.proofs.Common.{◌≡◌, refl}
 use Rattle.cfa_resolve.specs.declared.combining.Combined.{Combined}
 use Rattle.cfa_resolve.specs.declared.combining.Combined.TheVariants.{Lacks as lacks, TooMany as too_many, TooLong as too_long, Found as found}
 use Rattle.cfa_resolve.specs.Instances.{Reached}

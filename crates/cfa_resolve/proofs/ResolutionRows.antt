@@ -1,20 +1,18 @@
 -- Worked rows of what promises resolve to.
-use Rattle.std.proofs.Common.{◌≡◌, ℕ, List, [], ◌∷◌, ◌++◌, true, false, Some, None, codes, refl}
-use Rattle.std.specs.Prelude.{map, Option}
+use Rattle.std.proofs.Common.{◌≡◌, ℕ, List, [], ◌∷◌, true, Some, None, codes, refl}
+use Rattle.std.specs.Prelude.{map}
 use Rattle.cfa_base.specs.declared.places.Place.{Place}
 use Rattle.cfa_base.specs.declared.places.PromiseId.{PromiseId}
-use Rattle.cfa_tree.specs.Tree.{ValueTree, text, word, reference, list_reference, list, call, value_trees, AttributeTree, PromiseTree, NamedTree, BlockTree, bundle, body, PolicyTree}
+use Rattle.cfa_tree.specs.Tree.{ValueTree, text, word, list_reference, list, call, value_trees, AttributeTree, NamedTree, BlockTree, body, PolicyTree}
 use Rattle.cfa_kinds.specs.declared.kinds.PromiseType.{PromiseType}
 use Rattle.cfa_kinds.specs.declared.kinds.PromiseType.TheVariants as promises
 use Rattle.cfa_vars.specs.declared.scoping.Datum.TheVariants.{Text as text_of, List as list_of}
-use Rattle.cfa_vars.specs.Scopes.{Table, InScope}
-use Rattle.cfa_acts.specs.declared.acts.Act.{Act}
-use Rattle.cfa_acts.specs.declared.acts.Act.TheVariants.{Create, MakeDir, Delete, Content, Copy, Perms, Start, Stop, Restart, Bust}
+use Rattle.cfa_vars.specs.Scopes.{Table}
+use Rattle.cfa_acts.specs.declared.acts.Act.TheVariants.{Create, MakeDir, Delete, Content, Copy, Perms, Bust}
 use Rattle.cfa_acts.specs.declared.acts.Reason.TheVariants as reasons
 use Rattle.cfa_resolve.specs.declared.instances.Instance.{Instance}
-use Rattle.cfa_resolve.specs.declared.instances.Resolved.{Resolved}
 use Rattle.cfa_resolve.specs.declared.instances.Work.{Work}
-use Rattle.cfa_resolve.specs.declared.instances.Work.TheVariants.{Acts, Call, Report}
+use Rattle.cfa_resolve.specs.declared.instances.Work.TheVariants.{Acts, Report}
 use Rattle.cfa_resolve.specs.Instances.{Reached}
 use Rattle.cfa_resolve.specs.Resolution.{resolution}
 use Rattle.std.specs.Fmt.{digits}

@@ -3,7 +3,7 @@
 --
 -- Where something that a body says is unresolved, nothing comes of the combination. Failing that, a list of more than 4,096
 -- items is too many, and failing that, a text of more than 65,536 bytes too long.
-use Rattle.std.specs.Prelude.{ℕ, ◌+◌, Bool, true, false, ◌||◌, List, [], ◌∷◌, codes, length, map, nat_lt, Option, Some, None, option_and_then, option_map, if◌then◌else◌}
+use Rattle.std.specs.Prelude.{ℕ, ◌+◌, Bool, true, false, List, [], ◌∷◌, codes, length, map, nat_lt, Option, Some, None, option_and_then, if◌then◌else◌}
 use Rattle.std.specs.List.{filter_map, flat_map, list_any}
 use Rattle.std.specs.Str.{bytes_eq}
 use Rattle.cfa_base.specs.declared.limits.TheConstants.{MOST_COMBINATIONS}

@@ -1,11 +1,11 @@
 -- What a promise asks for in one combination. A files promise gives acts in this order: delete, create, copy, content, edit,
 -- perms. A promiser that ends in `/.` names the directory before the `/.`, which isn't copied to, given a content or edited.
 -- A value that turns out to be none of its kind gives an act that fails for it, in the place of the act.
-use Rattle.std.specs.Prelude.{ℕ, ◌-◌, Bool, true, false, not, ◌||◌, ◌&&◌, ◌==◌, List, [], ◌∷◌, ◌++◌, codes, length, take, drop, filter, map, Option, Some, None, option_map, if◌then◌else◌}
+use Rattle.std.specs.Prelude.{ℕ, ◌-◌, Bool, true, false, not, ◌||◌, ◌==◌, List, [], ◌∷◌, ◌++◌, codes, length, take, drop, filter, map, Option, Some, None, option_map, if◌then◌else◌}
 use Rattle.std.specs.List.{list_any}
 use Rattle.std.specs.Str.{bytes_eq}
 use Rattle.std.specs.Str.Parse.{digits_value}
-use Rattle.cfa_tree.specs.Tree.{ValueTree, PromiseTree}
+use Rattle.cfa_tree.specs.Tree.{PromiseTree}
 use Rattle.cfa_kinds.specs.declared.kinds.Form.TheVariants.{Boolean, Digest, Mode}
 use Rattle.cfa_kinds.specs.Forms.{has_form}
 use Rattle.cfa_values.specs.Attributes.{value_of}

@@ -15,7 +15,6 @@ use Rattle.cfa_values.specs.Attributes.{value_of}
 use Rattle.cfa_schema.specs.Served.{minutes_of}
 use Rattle.cfa_vars.specs.declared.expanding.Expanded.{Expanded}
 use Rattle.cfa_vars.specs.declared.expanding.Expanded.TheVariants.{Done, Unresolved, TooLong}
-use Rattle.cfa_vars.specs.declared.scoping.Datum.{Datum}
 use Rattle.cfa_vars.specs.Scopes.{InScope}
 use Rattle.cfa_vars.specs.Expansion.{Chosen, expanded}
 use Rattle.cfa_acts.specs.declared.acts.Reason.{Reason}

@@ -5,7 +5,7 @@
 -- The combinations of a promise run over the list variables that its texts refer to. A promise that reads a name that refers to
 -- nothing, or to no list where a list is read, has none. Failing that, it has too many where they are more than 4,096, or
 -- where a list that it reads has more items; failing that, a text that is over 65,536 bytes in one of them is too long.
-use Rattle.std.specs.Prelude.{ℕ, Bool, true, false, ◌||◌, List, [], ◌∷◌, ◌++◌, codes, length, nat_lt, Option, Some, None, is_some, if◌then◌else◌}
+use Rattle.std.specs.Prelude.{ℕ, Bool, true, false, ◌||◌, List, [], ◌∷◌, ◌++◌, codes, length, nat_lt, Option, Some, None}
 use Rattle.std.specs.List.{flat_map, list_any}
 use Rattle.std.specs.Option.{option_or}
 use Rattle.cfa_base.specs.declared.limits.TheConstants.{MOST_COMBINATIONS}

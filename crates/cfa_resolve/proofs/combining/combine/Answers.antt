@@ -2,7 +2,6 @@ use Rattle.std.proofs.Common.{◌≡◌, ◌∙◌, ap, sym, subst, IfOk}
 use Rattle.std.specs.List.{list_any}
 use Rattle.cfa_vars.specs.Scopes.{in_scope}
 use Rattle.cfa_vars.specs.Choices.{choices_of}
-use Rattle.cfa_vars.specs.declared.choosing.Choices.TheVariants.{Found, Unresolved, TooMany}
 use Rattle.cfa_resolve.specs.declared.combining.Combined.{Combined}
 use Rattle.cfa_resolve.specs.declared.combining.Combined.TheVariants.{Lacks as lacks}
 use Rattle.cfa_resolve.specs.OwnTexts.{first_lacking, is_long_list, found_or_too_long}

@@ -1,4 +1,4 @@
-use Rattle.std.proofs.Common.{◌≡◌, ◌∙◌, ap, sym, map, arith}
+use Rattle.std.proofs.Common.{◌∙◌, ap, sym, map, arith}
 use Rattle.cfa_resolve.specs.Bodies.{first_unresolved}
 use Rattle.cfa_resolve.proofs.BodyLemmas.{first_here, first_later}
 use Rattle.cfa_resolve.proofs.hearing.first_unresolved.Goals as goal

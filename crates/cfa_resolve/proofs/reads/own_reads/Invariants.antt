@@ -1,4 +1,4 @@
-use Rattle.std.proofs.Common.{◌≡◌, ◌++◌, ◌∷◌, drop, map}
+use Rattle.std.proofs.Common.{◌≡◌, ◌++◌, drop, map}
 use Rattle.std.specs.List.{flat_map}
 use Rattle.cfa_tree.specs.Plain.{plain_attribute, plain_promise}
 use Rattle.cfa_resolve.specs.OwnTexts.{own_reads, reads_of_attribute}
