@@ -2,6 +2,7 @@
 ghost use Rattle.std.specs.Prelude.{◌≡◌, ◌≢◌, ◌+◌, ◌≤◌, ◌<◌, ◌^◌, ◌-◌, [], ◌∷◌, IfOk, IfSome, IsTrue, length};
 ghost use Rattle.cfa_outside.specs.Sites.{fits};
 ghost use Rattle.cfa_acts.specs.Acts.{decision};
+ghost use Rattle.cfa_acts.specs.Decided.{Decides};
 ghost use Rattle.cfa_output.specs.Lines as output;
 ghost use Rattle.cfa_program.specs.Runs.{needs};
 ghost use Rattle.cfa_program.specs.Steps.{LinePut, line_of, counted, all_of, Changed, Actuated, PromiseTaken, PromisesRun};
@@ -33,12 +34,19 @@ fn change_site<S: Site>(alloc: Global, change: &Change, site: &mut S) -> Result<
     }
 }
 
+// Decides what the creation of a file needs.
+fn decide_create<S: Site>(alloc: Global, path: Path, site: &mut S) -> Result<Decision, NoMemory>
+    ensures { Decides (Act.Create path) (S.shown site.old) (S.shown site.new) result }
+{
+    decide(alloc, &Act::Create(path), site)
+}
+
 // Creates a file where it is missing.
 fn create<S: Site>(alloc: Global, path: Path, site: &mut S) -> Result<Outcome, NoMemory>
     ensures { IfOk result
         (Actuated (decision (Act.Create path)) (S.shown site.old) (S.shown site.new)) }
 {
-    match decide(alloc, &Act::Create(path), site)? {
+    match decide_create(alloc, path, site)? {
         Decision::Kept => Ok(Outcome::Kept),
         Decision::Fail(reason) => Ok(Outcome::Failed(reason)),
         Decision::Fault(_) => Ok(Outcome::Failed(Reason::Fault)),
