@@ -167,7 +167,8 @@ fn a_journal_has_16_mebibytes_at_most(rt: HostRuntime) -> Result<(), Fail> {
         lines: "torn 16777216\n",
         ..AUDITED
     };
-    let bytes = vec![in rt.alloc(); b'r'; 16_777_217]?;
-    compare_audit(&rt, rt.alloc(), &over, bytes.as_slice())?;
-    compare_audit(&rt, rt.alloc(), &full, &bytes[..16_777_216])
+    let longer = vec![in rt.alloc(); b'r'; 16_777_217]?;
+    compare_audit(&rt, rt.alloc(), &over, longer.as_slice())?;
+    let longest = vec![in rt.alloc(); b'r'; 16_777_216]?;
+    compare_audit(&rt, rt.alloc(), &full, longest.as_slice())
 }
