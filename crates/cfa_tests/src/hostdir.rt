@@ -68,24 +68,24 @@ fn compare<S: Site>(rt: &impl Abort, alloc: Global, site: &mut S, table: &str) -
     Ok(())
 }
 
-const ACTS: &str = "create /etc/motd => put /etc/motd 0
+const ACTS: &str = "create /etc/motd => put /etc/motd ''
 create /etc/motd => kept
 mkdir /etc => kept
 create /etc => F3
-content /etc/motd hello => put /etc/motd 5
+content /etc/motd hello => put /etc/motd 'hello'
 content /etc/motd hello => kept
 create /etc/motd/x => F3
-copy /etc/motd /a/b/c => put /a/b/c 5
+copy /etc/motd /a/b/c => put /a/b/c 'hello'
 copy /etc/motd /a/b/c => kept
 perms /a/b/c 644 ann www => set /a/b/c 420 ann www
-content /a/b/c bye => put /a/b/c 3
+content /a/b/c bye => put /a/b/c 'bye'
 perms /a/b/c 644 ann www => kept
 perms /a/b 700 root root => kept
 rmdir /a/b => F3
 delete /a/b/c => remove /a/b/c
 rmdir /a/b => remove /a/b
 delete /a => F3
-content /a/b/c x => put /a/b/c 1
+content /a/b/c x => put /a/b/c 'x'
 perms /a/b/c 644 * * => set /a/b/c 420 root root
 mkdir /e/f => dir /e/f
 perms /n 644 * * => F2
