@@ -74,7 +74,7 @@ module _ (calls : List Call) where
 -- ---- the callers are bundles
 
 module _ {X : Type 0} (P : X → Type 0) where
-  both : (xs ys : List X) → AllByRecursion P xs → AllByRecursion P ys → AllByRecursion P (xs ++ ys)
+  pub both : (xs ys : List X) → AllByRecursion P xs → AllByRecursion P ys → AllByRecursion P (xs ++ ys)
   both [] ys h g = g
   both (x ∷ xs) ys h g = (h.0, both xs ys h.1 g)
 

@@ -1,6 +1,6 @@
 -- The list of the ids of promises has just the ids that are found.
-use Rattle.std.proofs.Common.{◌≡◌, ◌∙◌, ℕ, zero, suc, ◌+◌, ◌-◌, ◌<◌, ◌≤◌, Bool, true, false, List, [], ◌∷◌, ◌++◌, length, drop, get_or, map, All, Option, Some, None, refl, ap, sym, subst, arith, append_assoc, append-nil}
-use Rattle.std.specs.Prelude.{◌==◌, ◌||◌, if◌then◌else◌, option_map, option_and_then, slice_get, nat_lt, IsTrue}
+use Rattle.std.proofs.Common.{◌≡◌, ◌∙◌, ℕ, zero, suc, ◌+◌, ◌-◌, ◌<◌, ◌≤◌, Bool, true, false, List, [], ◌∷◌, ◌++◌, length, drop, get_or, map, All, Option, Some, None, refl, ap, sym, subst, arith, append_assoc}
+use Rattle.std.specs.Prelude.{◌==◌, ◌||◌, if◌then◌else◌, option_map, option_and_then, slice_get, nat_lt}
 use Rattle.std.specs.List.{Contains, flat_map, filter_map, list_any}
 use Rattle.std.specs.Str.{bytes_eq}
 use Rattle.std.proofs.lemmas.Slice.Eq.{bytes_eq-Decides}
@@ -10,8 +10,6 @@ use Rattle.std.proofs.lemmas.List.Elements.{All-append, All-cons, All-contains, 
 use Rattle.cfa_base.specs.declared.places.Place.{Place}
 use Rattle.cfa_base.specs.declared.places.PromiseId.{PromiseId}
 use Rattle.cfa_tree.specs.declared.blocks.Block.{Block}
-use Rattle.cfa_tree.specs.declared.blocks.Block.TheVariants.{Bundle}
-use Rattle.cfa_tree.specs.declared.blocks.Bundle.{Bundle as BundleBlock}
 use Rattle.cfa_tree.specs.declared.promises.Promise.{Promise}
 use Rattle.cfa_tree.specs.declared.sections.Section.{Section}
 use Rattle.cfa_tree.specs.Plain.{plain_block, plain_promise, plain_section}
@@ -24,14 +22,13 @@ use Rattle.cfa_values.specs.Definitions.{is_one_of}
 use Rattle.cfa_values.specs.declared.refusals.Code.TheVariants.{Duplicate}
 use Rattle.cfa_values.specs.Scope.{in_bundle}
 use Rattle.cfa_values.specs.Values.{Setting, repeated, repeated_after}
-use Rattle.cfa_values.specs.Attributes.{value_of}
-use Rattle.cfa_schema.specs.Checked.{promises_of, worded_promises_of, given_in_bundle, on_line, word_on_line, promise_of, worded_promise_of, typed, typed_promise_of, ids_from, ids_in_block, promise_ids_of}
+use Rattle.cfa_schema.specs.Checked.{promises_of, worded_promises_of, given_in_bundle, on_line, word_on_line, promise_of, worded_promise_of, typed, ids_from, ids_in_block, promise_ids_of}
 use Rattle.cfa_schema.specs.Collected.{promise_count, HasFew}
-use Rattle.cfa_schema.specs.Valid.{Valid, bundle_name, bundle_by, section_by, section_refusals, block_refusals, other_type, refusals}
+use Rattle.cfa_schema.specs.Valid.{Valid, bundle_name, bundle_by, section_by, section_refusals, block_refusals, other_type}
 use Rattle.cfa_schema.specs.Defined.{definitions_of}
 use Rattle.cfa_schema.specs.Laws.{ListedIdsAreFound, FoundIdsAreListed}
 use Rattle.cfa_schema.proofs.CollectedLemmas.{second, second_is, seconds_in}
-use Rattle.cfa_schema.proofs.FactLemmas.{left_empty, right_empty, each_empty, block_passes, names_pass}
+use Rattle.cfa_schema.proofs.FactLemmas.{left_empty, right_empty, block_passes, names_pass}
 
 abbrev id_at : List ℕ → ℕ → ℕ → PromiseId
 id_at name number line = record { bundle = name; number = number; line = line }
@@ -110,7 +107,7 @@ few_here most blocks i d b within few is =
 
 -- ---- an id that is found is in the list
 
-first_here : {X : Type 0} (x : X) (xs : List X) → Contains (x ∷ xs) x
+pub first_here : {X : Type 0} (x : X) (xs : List X) → Contains (x ∷ xs) x
 first_here x xs = All-head (Contains (x ∷ xs)) x xs (All-contains_itself (x ∷ xs))
 
 id_listed : (name : List ℕ) (first : ℕ) (ps : List PromiseTree) (n : ℕ) (p : PromiseTree) → slice_get ps n ≡ Some p → Contains (ids_from name first ps) (id_at name (first + n) p.place.line)

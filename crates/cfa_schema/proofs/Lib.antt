@@ -10,3 +10,6 @@ pub mod PolicyLemmas
 pub mod PromiseLemmas
 pub mod VerdictLemmas
 pub mod SizeLemmas
+pub mod RestLemmas
+pub mod SoundLemmas
+pub mod WordLemmas

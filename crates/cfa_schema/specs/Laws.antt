@@ -1,10 +1,13 @@
 -- A policy that isn't valid has one first refusal, and a valid one has none. Each body and bundle that a valid policy names is
 -- there, of the type that is asked for, with as many parameters as it is given, and no chain of its calls goes on for long. The
--- list of the ids of its promises has those that are found.
-use Rattle.std.specs.Prelude.{◌≡◌, ◌≤◌, ◌∷◌, length, ℕ, List, [], Option, Some, map, IsTrue}
-use Rattle.std.specs.List.{Contains, filter_map}
+-- list of the ids of its promises has those that are found. In a policy that was read from its files the names are words, and
+-- the lines are counted from 1.
+use Rattle.std.specs.Prelude.{◌≡◌, ◌+◌, ◌≤◌, ◌∷◌, length, ℕ, List, [], All, Option, Some, map, IsTrue}
+use Rattle.std.specs.List.{Contains, filter_map, flat_map}
+use Rattle.cfa_base.specs.declared.limits.TheConstants.{MOST_SOURCE_BYTES}
 use Rattle.cfa_base.specs.declared.places.Place.{Place}
-use Rattle.cfa_tree.specs.Tree.{ValueTree, text, word, call, ValueTrees, AttributeTree, PromiseTree, SectionTree, NamedTree, bundle, body, PolicyTree}
+use Rattle.cfa_base.specs.Lexing.{is_word}
+use Rattle.cfa_tree.specs.Tree.{ValueTree, text, word, call, ValueTrees, AttributeTree, PromiseTree, SectionTree, NamedTree, BlockTree, bundle, body, PolicyTree}
 use Rattle.cfa_kinds.specs.declared.kinds.BundleType.{BundleType}
 use Rattle.cfa_kinds.specs.declared.kinds.BundleType.TheVariants as bundles
 use Rattle.cfa_kinds.specs.declared.kinds.PromiseType.{PromiseType}
@@ -18,8 +21,11 @@ use Rattle.cfa_values.specs.Definitions.{BundleHead, BodyHead, bundle_named, bod
 use Rattle.cfa_values.specs.Values.{Setting, is_known, name_in, value_count}
 use Rattle.cfa_values.specs.Attributes.{attribute_refusals}
 use Rattle.cfa_base.specs.declared.places.PromiseId.{PromiseId}
-use Rattle.cfa_schema.specs.Checked.{promise_of, typed_promise_of, promise_ids_of}
+use Rattle.cfa_schema.specs.Checked.{promises_of, promise_of, typed_promise_of, promise_ids_of}
+use Rattle.cfa_schema.specs.Control.{sequence_of}
 use Rattle.cfa_schema.specs.Defined.{definitions_of}
+use Rattle.cfa_schema.specs.Served.{bundle_of, common_bundles_of}
+use Rattle.cfa_schema.specs.Sourced.{IsSourced}
 use Rattle.cfa_schema.specs.Valid.{Valid, FirstRefusal, bundle_name, calls_of}
 use Rattle.cfa_calls.specs.Cycles.{Call}
 
@@ -106,3 +112,89 @@ ListedIdsAreFound =
 abbrev pub FoundIdsAreListed : Type 0
 FoundIdsAreListed =
     (policy : PolicyTree) (id : PromiseId) (p : PromiseTree) → promise_of policy id ≡ Some p → Contains (promise_ids_of policy) id
+
+-- ---- names and lines
+
+abbrev pub IsWord : List ℕ → Type 0
+IsWord name = IsTrue (is_word name)
+
+-- a word holds no newline
+abbrev pub WordsLackNewlines : Type 0
+WordsLackNewlines = (name : List ℕ) → IsWord name → Contains name 10 → ⊥
+
+-- the name of each bundle of a policy that was read is a word
+abbrev pub NamesAreWords : Type 0
+NamesAreWords =
+    (policy : PolicyTree) (type_name name : NamedTree) (params : List NamedTree) (sections : List SectionTree) (place : Place) →
+    IsSourced policy → Contains policy (bundle type_name name params sections place) → IsWord name.name
+
+-- the parameters of such a bundle are words
+abbrev pub ParamsAreWords : Type 0
+ParamsAreWords =
+    (policy : PolicyTree) (type_name name : NamedTree) (params : List NamedTree) (sections : List SectionTree) (place : Place) →
+    IsSourced policy → Contains policy (bundle type_name name params sections place) → All (λ param. IsWord param.name) params
+
+-- each of its promises stands on a line, which is counted from 1
+abbrev pub LinesAreCounts : Type 0
+LinesAreCounts =
+    (policy : PolicyTree) (type_name name : NamedTree) (params : List NamedTree) (sections : List SectionTree) (place : Place)
+    (section : SectionTree) (p : PromiseTree) →
+    IsSourced policy → Contains policy (bundle type_name name params sections place) →
+    Contains sections section → Contains section.promises p → 1 ≤ p.place.line
+
+-- a line is numbered by no more than the bytes of the longest file, and one
+abbrev pub LinesAreFew : Type 0
+LinesAreFew =
+    (policy : PolicyTree) (type_name name : NamedTree) (params : List NamedTree) (sections : List SectionTree) (place : Place)
+    (section : SectionTree) (p : PromiseTree) →
+    IsSourced policy → Contains policy (bundle type_name name params sections place) →
+    Contains sections section → Contains section.promises p → p.place.line ≤ MOST_SOURCE_BYTES + 1
+
+-- a bundle has no more promises than the longest file has bytes
+abbrev pub PromisesAreFew : Type 0
+PromisesAreFew =
+    (policy : PolicyTree) (type_name name : NamedTree) (params : List NamedTree) (sections : List SectionTree) (place : Place) →
+    IsSourced policy → Contains policy (bundle type_name name params sections place) →
+    length (flat_map promises_of sections) ≤ MOST_SOURCE_BYTES
+
+-- ---- what is served
+
+-- a bundle that is found stands in the policy
+abbrev pub NamedBundleStands : Type 0
+NamedBundleStands =
+    (policy : PolicyTree) (name : List ℕ) (block : BlockTree) → bundle_of policy name ≡ Some block → Contains policy block
+
+-- each common bundle stands in it
+abbrev pub CommonBundlesStand : Type 0
+CommonBundlesStand = (policy : PolicyTree) → All (Contains policy) (common_bundles_of policy)
+
+-- a bundle of a policy that was read is found by a word alone
+abbrev pub NamedBundleIsWord : Type 0
+NamedBundleIsWord =
+    (policy : PolicyTree) (name : List ℕ) (block : BlockTree) → IsSourced policy → bundle_of policy name ≡ Some block → IsWord name
+
+abbrev pub HasWordName : BlockTree → Type 0
+HasWordName (bundle type_name name params sections place) = IsWord name.name
+HasWordName (body type_name name params attributes place) = IsWord name.name
+
+-- the common bundles have words as their names
+abbrev pub CommonNamesAreWords : Type 0
+CommonNamesAreWords = (policy : PolicyTree) → IsSourced policy → All HasWordName (common_bundles_of policy)
+
+-- the sequence of a valid policy that was read has words alone
+abbrev pub SequenceNamesAreWords : Type 0
+SequenceNamesAreWords = (policy : PolicyTree) → Valid policy → IsSourced policy → All IsWord (sequence_of policy)
+
+-- ---- ids
+
+-- the bundle is a word, and the number and the line are counted from 1, up to what the longest file may have
+pub record IsCounted (id : PromiseId) : Type 0 where
+  pub bundle : IsWord id.bundle
+  pub number : 1 ≤ id.number
+  pub number_fits : id.number ≤ MOST_SOURCE_BYTES
+  pub line : 1 ≤ id.line
+  pub line_fits : id.line ≤ MOST_SOURCE_BYTES + 1
+
+-- the ids of the promises of a policy that was read are such
+abbrev pub IdsAreCounted : Type 0
+IdsAreCounted = (policy : PolicyTree) → IsSourced policy → All IsCounted (promise_ids_of policy)

@@ -1,5 +1,5 @@
 // Laws of the schema.
-ghost use Rattle.cfa_schema.specs.Laws.{RefusalIsOne, NeverBoth, NothingIsRefused, NamedBodyIsThere, EditBundleIsThere, AgentBundleIsThere, ChainsAreShort, ListedIdsAreFound, FoundIdsAreListed};
+ghost use Rattle.cfa_schema.specs.Laws.{RefusalIsOne, NeverBoth, NothingIsRefused, NamedBodyIsThere, EditBundleIsThere, AgentBundleIsThere, ChainsAreShort, ListedIdsAreFound, FoundIdsAreListed, WordsLackNewlines, NamesAreWords, ParamsAreWords, LinesAreCounts, LinesAreFew, PromisesAreFew, NamedBundleStands, CommonBundlesStand, NamedBundleIsWord, CommonNamesAreWords, SequenceNamesAreWords, IdsAreCounted};
 
 /// A policy has one first refusal, and a valid policy has none: what `check` may answer of a policy is one answer.
 pub fn one_refusal()
@@ -25,4 +25,35 @@ pub fn chains_are_short()
 pub fn ids_are_found()
     ensures found { ListedIdsAreFound }
     ensures listed { FoundIdsAreListed }
+{}
+
+/// In a policy that was read from its files the name of each bundle is a word, and so are its parameters. A word holds no
+/// newline.
+pub fn names_are_words()
+    ensures one_line { WordsLackNewlines }
+    ensures names { NamesAreWords }
+    ensures params { ParamsAreWords }
+{}
+
+/// In a policy that was read from its files each promise stands on a line that is counted from 1, and neither a line nor the
+/// number of a bundle's promises is past what a file of its size may have.
+pub fn lines_are_counts()
+    ensures counts { LinesAreCounts }
+    ensures few { LinesAreFew }
+    ensures promises { PromisesAreFew }
+    ensures ids { IdsAreCounted }
+{}
+
+/// The bundles that are found by their names, and the common bundles, stand in the policy.
+pub fn served_bundles_stand()
+    ensures named { NamedBundleStands }
+    ensures common { CommonBundlesStand }
+{}
+
+/// In a policy that was read from its files a bundle is found by a word alone, and the common bundles have words as their names.
+/// So have those of the sequence, where the policy is valid.
+pub fn served_names_are_words()
+    ensures named { NamedBundleIsWord }
+    ensures common { CommonNamesAreWords }
+    ensures sequence { SequenceNamesAreWords }
 {}

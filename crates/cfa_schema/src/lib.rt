@@ -20,5 +20,8 @@ pub use cfa_values::{Code, Refusal};
 pub use checked::Checked;
 pub use errors::SchemaErr;
 pub use inputs::input_names;
-pub use laws::{chains_are_short, ids_are_found, named_blocks_are_there, one_refusal};
+pub use laws::{
+    chains_are_short, ids_are_found, lines_are_counts, named_blocks_are_there, names_are_words,
+    one_refusal, served_bundles_stand, served_names_are_words,
+};
 pub use verdicts::check;
