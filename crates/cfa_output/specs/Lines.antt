@@ -3,9 +3,9 @@
 use Rattle.std.specs.Prelude.{ℕ, List, ◌++◌, Option, Some, None, codes}
 use Rattle.std.specs.Fmt.{decimal}
 use Rattle.cfa_base.specs.declared.places.PromiseId.{PromiseId}
-use Rattle.cfa_output.specs.declared.ends.Object.TheVariants.{Inputs, Sink}
+use Rattle.cfa_output.specs.declared.ends.Object.TheVariants.{Inputs, Site, Sink}
 use Rattle.cfa_output.specs.declared.ends.Stop.{Stop}
-use Rattle.cfa_output.specs.declared.ends.Stop.TheVariants.{Outside, Memory, Pattern}
+use Rattle.cfa_output.specs.declared.ends.Stop.TheVariants.{Outside, Memory, Visits, Pattern}
 use Rattle.cfa_output.specs.declared.items.End.{End}
 use Rattle.cfa_output.specs.declared.items.End.TheVariants.{Yes, Locks, Failed as SomeFailed, Conflict as HasConflict, Limit}
 use Rattle.cfa_output.specs.declared.items.Halt.{Halt}
@@ -97,8 +97,10 @@ halt_line ByPattern = pattern_line
 -- none where it can't be put
 abbrev pub stop_line : Stop → Option (List ℕ)
 stop_line (Outside Inputs) = Some outside_line
+stop_line (Outside Site) = Some outside_line
 stop_line (Outside Sink) = None
 stop_line Memory = Some memory_line
+stop_line Visits = Some visits_line
 stop_line (Pattern _) = Some pattern_line
 
 -- ---- every line

@@ -12,6 +12,8 @@ use thiserror::Error;
 pub enum Object {
     /// A file of the policy couldn't be read.
     Inputs,
+    /// A lock couldn't be looked at or set, or a record of the journal couldn't be written.
+    Site,
     /// A put failed.
     Sink,
 }
@@ -25,6 +27,9 @@ pub enum Stop {
     /// No memory was left.
     #[error("out of memory")]
     Memory,
+    /// More visits are needed than a run may make.
+    #[error("too many visits")]
+    Visits,
     /// A pattern of this text was refused for its size.
     #[error("a pattern is too big")]
     Pattern(Name),
@@ -36,9 +41,10 @@ impl Stop {
         ensures { option_copied result ≡ stop_line self.now }
     {
         match self {
-            Stop::Outside(Object::Inputs) => Some(Halt::Outside.line()),
+            Stop::Outside(Object::Inputs | Object::Site) => Some(Halt::Outside.line()),
             Stop::Outside(Object::Sink) => None,
             Stop::Memory => Some(Halt::Memory.line()),
+            Stop::Visits => Some(Halt::Visits.line()),
             Stop::Pattern(_) => Some(Halt::Pattern.line()),
         }
     }

@@ -8,9 +8,9 @@ use Rattle.cfa_outside.specs.declared.worlds.World.{World}
 use Rattle.cfa_outside.specs.Inputs.{Library}
 use Rattle.cfa_outside.specs.Sinks.{adds_bytes}
 use Rattle.cfa_outside.specs.Sites.{Told}
-use Rattle.cfa_output.specs.declared.ends.Object.TheVariants.{Inputs, Sink}
+use Rattle.cfa_output.specs.declared.ends.Object.TheVariants.{Inputs, Site, Sink}
 use Rattle.cfa_output.specs.declared.ends.Stop.{Stop}
-use Rattle.cfa_output.specs.declared.ends.Stop.TheVariants.{Outside, Memory, Pattern}
+use Rattle.cfa_output.specs.declared.ends.Stop.TheVariants.{Outside, Memory, Visits, Pattern}
 use Rattle.cfa_output.specs.declared.ends.Failure.{Failure}
 use Rattle.cfa_output.specs.declared.ends.Failure.TheVariants.{Refused, Stopped}
 use Rattle.cfa_output.specs.Lines.{words_line, moment_line, memory_line, pattern_line, stop_line}
@@ -58,9 +58,13 @@ not_one PromiseFailed n e f = omega (arith, e, f)
 stop_is : (stop : Stop) (out out' : Shown (List ℕ)) (n : ℕ) → PutsStop (stop_line stop) (status_of_stop stop) out out' n → IsStop n
 stop_is (Outside Inputs) out out' n (inl h) = inl h.0
 stop_is (Outside Inputs) out out' n (inr h) = inl h.0
+stop_is (Outside Site) out out' n (inl h) = inl h.0
+stop_is (Outside Site) out out' n (inr h) = inl h.0
 stop_is (Outside Sink) out out' n h = inl h.0
 stop_is Memory out out' n (inl h) = inr (inl h.0)
 stop_is Memory out out' n (inr h) = inl h.0
+stop_is Visits out out' n (inl h) = inr (inr h.0)
+stop_is Visits out out' n (inr h) = inl h.0
 stop_is (Pattern text) out out' n (inl h) = inr (inr h.0)
 stop_is (Pattern text) out out' n (inr h) = inl h.0
 
@@ -207,6 +211,7 @@ module _ (words : List (List ℕ)) (moment : ℕ) (inputs inputs' : Shown Librar
 
   unread_stop : (line : List ℕ) (stop : Stop) → OnlyRefused line (Err (Stopped stop)) → PutsStop (stop_line stop) (status_of_stop stop) out out' status → Untouched inputs inputs' → IsUnread line inputs inputs' out out' status
   unread_stop line (Outside object) idle puts un = absurd idle
+  unread_stop line Visits idle puts un = absurd idle
   unread_stop line (Pattern text) idle puts un = absurd idle
   unread_stop line Memory told (inl (is, put)) un = record { is_refusal = inr (inr is); put = λ one. absurd (omega (arith, is, one)); unread = un }
   unread_stop line Memory told (inr (is, short)) un = record { is_refusal = inr (inl is); put = λ one. absurd (omega (arith, is, one)); unread = un }
@@ -254,17 +259,21 @@ module _ (words : List (List ℕ)) (moment : ℕ) (inputs inputs' : Shown Librar
   stopped_reading : (stop : Stop) → Prepared words moment inputs inputs' pats pats' (Err (Stopped stop)) → Untouched site site' → PutsStop (stop_line stop) (status_of_stop stop) out out' status → status ≡ 4 → HasFault out out' ⊎ StopsReading words inputs inputs' site site' out out'
   stopped_reading (Outside Inputs) p un (inl (is, put)) four = inr (record { failed = p.inputs_are; untouched = un; put = put })
   stopped_reading (Outside Inputs) p un (inr (is, short)) four = inl short.failed.rose
+  stopped_reading (Outside Site) p un puts four = absurd p.inputs_are
   stopped_reading (Outside Sink) p un puts four = absurd p.inputs_are
   stopped_reading Memory p un (inl (is, put)) four = absurd (omega (arith, is, four))
   stopped_reading Memory p un (inr (is, short)) four = inl short.failed.rose
+  stopped_reading Visits p un puts four = absurd p.inputs_are
   stopped_reading (Pattern text) p un (inl (is, put)) four = absurd (omega (arith, is, four))
   stopped_reading (Pattern text) p un (inr (is, short)) four = inl short.failed.rose
 
   stopped_working : (stop : Stop) (mid : Shown (List ℕ)) → StopsRun out mid stop → PutsStop (stop_line stop) (status_of_stop stop) mid out' status → status ≡ 4 → HasFault out out'
   stopped_working (Outside Inputs) mid idle puts four = absurd idle
+  stopped_working (Outside Site) mid idle puts four = absurd idle
   stopped_working (Outside Sink) mid fault puts four = fault_before out mid out' fault (ap (λ (s : Shown (List ℕ)). s.faults) puts.1)
   stopped_working Memory mid same (inl (is, put)) four = absurd (omega (arith, is, four))
   stopped_working Memory mid same (inr (is, short)) four = fault_along out mid out' same short.failed.rose
+  stopped_working Visits mid idle puts four = absurd idle
   stopped_working (Pattern text) mid idle puts four = absurd idle
 
   pub outside : CalledHere → status ≡ 4 → HasFault out out' ⊎ StopsReading words inputs inputs' site site' out out'
@@ -276,8 +285,10 @@ module _ (words : List (List ℕ)) (moment : ℕ) (inputs inputs' : Shown Librar
 
   read_by : (stop : Stop) → Prepared words moment inputs inputs' pats pats' (Err (Stopped stop)) → ReadsInTurn words inputs inputs'
   read_by (Outside Inputs) p = inr (inr p.inputs_are)
+  read_by (Outside Site) p = absurd p.inputs_are
   read_by (Outside Sink) p = absurd p.inputs_are
   read_by Memory p = inr (inl p.inputs_are)
+  read_by Visits p = absurd p.inputs_are
   read_by (Pattern text) p = inl p.inputs_are
 
   pub names : CalledHere → ReadsInTurn words inputs inputs'
@@ -289,9 +300,13 @@ module _ (words : List (List ℕ)) (moment : ℕ) (inputs inputs' : Shown Librar
   memory_put : (stop : Stop) → PutsStop (stop_line stop) (status_of_stop stop) out out' status → status ≡ 5 → Follows (adds_bytes memory_line) out out'
   memory_put (Outside Inputs) (inl (is, put)) five = absurd (omega (arith, is, five))
   memory_put (Outside Inputs) (inr (is, short)) five = absurd (omega (arith, is, five))
+  memory_put (Outside Site) (inl (is, put)) five = absurd (omega (arith, is, five))
+  memory_put (Outside Site) (inr (is, short)) five = absurd (omega (arith, is, five))
   memory_put (Outside Sink) (is, un) five = absurd (omega (arith, is, five))
   memory_put Memory (inl (is, put)) five = put
   memory_put Memory (inr (is, short)) five = absurd (omega (arith, is, five))
+  memory_put Visits (inl (is, put)) five = absurd (omega (arith, is, five))
+  memory_put Visits (inr (is, short)) five = absurd (omega (arith, is, five))
   memory_put (Pattern text) (inl (is, put)) five = absurd (omega (arith, is, five))
   memory_put (Pattern text) (inr (is, short)) five = absurd (omega (arith, is, five))
 
@@ -307,17 +322,21 @@ module _ (words : List (List ℕ)) (moment : ℕ) (inputs inputs' : Shown Librar
   pattern_put : (stop : Stop) → Prepared words moment inputs inputs' pats pats' (Err (Stopped stop)) → PutsStop (stop_line stop) (status_of_stop stop) out out' status → status ≡ 6 → RefusesText words inputs.told pats pats' × Follows (adds_bytes pattern_line) out out'
   pattern_put (Outside Inputs) p (inl (is, put)) six = absurd (omega (arith, is, six))
   pattern_put (Outside Inputs) p (inr (is, short)) six = absurd (omega (arith, is, six))
+  pattern_put (Outside Site) p puts six = absurd p.inputs_are
   pattern_put (Outside Sink) p (is, un) six = absurd (omega (arith, is, six))
   pattern_put Memory p (inl (is, put)) six = absurd (omega (arith, is, six))
   pattern_put Memory p (inr (is, short)) six = absurd (omega (arith, is, six))
+  pattern_put Visits p puts six = absurd p.inputs_are
   pattern_put (Pattern text) p (inl (is, put)) six = (record { text = text; builds = p.patterns_are.0; refused = p.patterns_are.1 }, put)
   pattern_put (Pattern text) p (inr (is, short)) six = absurd (omega (arith, is, six))
 
   not_six : (stop : Stop) (mid : Shown (List ℕ)) → StopsRun out mid stop → PutsStop (stop_line stop) (status_of_stop stop) mid out' status → status ≡ 6 → ⊥
   not_six (Outside Inputs) mid idle puts six = idle
+  not_six (Outside Site) mid idle puts six = idle
   not_six (Outside Sink) mid fault (is, un) six = omega (arith, is, six)
   not_six Memory mid same (inl (is, put)) six = omega (arith, is, six)
   not_six Memory mid same (inr (is, short)) six = omega (arith, is, six)
+  not_six Visits mid idle puts six = idle
   not_six (Pattern text) mid idle puts six = idle
 
   pub pattern : CalledHere → status ≡ 6 → RefusesText words inputs.told pats pats' × Follows (adds_bytes pattern_line) out out'
@@ -330,6 +349,7 @@ module _ (words : List (List ℕ)) (moment : ℕ) (inputs inputs' : Shown Librar
   kept_by : (stop : Stop) → Prepared words moment inputs inputs' pats pats' (Err (Stopped stop)) → PutsStop (stop_line stop) (status_of_stop stop) out out' status → status ≢ 6 → Untouched pats pats' ⊎ ((status ≡ 4) × HasFault out out' × RefusesText words inputs.told pats pats')
   kept_by (Outside object) p puts idle = inl p.patterns_are
   kept_by Memory p puts idle = inl p.patterns_are
+  kept_by Visits p puts idle = inl p.patterns_are
   kept_by (Pattern text) p (inl (is, put)) idle = absurd (idle is)
   kept_by (Pattern text) p (inr (is, short)) idle = inr (is, short.failed.rose, record { text = text; builds = p.patterns_are.0; refused = p.patterns_are.1 })
 

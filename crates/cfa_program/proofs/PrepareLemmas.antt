@@ -5,8 +5,8 @@ use Rattle.cfa_base.specs.Shown.{Shown}
 use Rattle.cfa_words.specs.declared.words.Request.{Request}
 use Rattle.cfa_words.specs.Words.{asked}
 use Rattle.cfa_outside.specs.Inputs.{Library}
-use Rattle.cfa_output.specs.declared.ends.Object.TheVariants.{Inputs, Sink}
-use Rattle.cfa_output.specs.declared.ends.Stop.TheVariants.{Outside, Memory, Pattern}
+use Rattle.cfa_output.specs.declared.ends.Object.TheVariants.{Inputs, Site, Sink}
+use Rattle.cfa_output.specs.declared.ends.Stop.TheVariants.{Outside, Memory, Visits, Pattern}
 use Rattle.cfa_output.specs.declared.ends.Failure.{Failure}
 use Rattle.cfa_output.specs.declared.ends.Failure.TheVariants.{Refused, Stopped}
 use Rattle.cfa_output.specs.Lines.{words_line, moment_line}
@@ -42,6 +42,7 @@ module _ (words : List (List ℕ)) (moment : ℕ) (inputs : Shown Library) (pats
     patterns_are = refl;
   }
   words_refused (Stopped (Outside object)) none same = absurd same
+  words_refused (Stopped Visits) none same = absurd same
   words_refused (Stopped (Pattern text)) none same = absurd same
 
   pub moment_refused : (failure : Failure) (request : Request) → asked words ≡ Some request → LAST_MOMENT < moment → IsRefusalWith moment_line failure → Prepared words moment inputs inputs pats pats (Err failure)
@@ -62,6 +63,7 @@ module _ (words : List (List ℕ)) (moment : ℕ) (inputs : Shown Library) (pats
     patterns_are = refl;
   }
   moment_refused (Stopped (Outside object)) request some late same = absurd same
+  moment_refused (Stopped Visits) request some late same = absurd same
   moment_refused (Stopped (Pattern text)) request some late same = absurd same
 
   module _ (request : Request) (asks : asked words ≡ Some request) (in_time : moment ≤ LAST_MOMENT) (inputs' : Shown Library) (pats' : Shown (List (List ℕ))) where
@@ -100,6 +102,7 @@ module _ (words : List (List ℕ)) (moment : ℕ) (inputs : Shown Library) (pats
       inputs_are = next_asked p.inputs_are;
       patterns_are = p.patterns_are;
     }
+    prepared (Err (Stopped (Outside Site))) p = absurd p.inputs_are
     prepared (Err (Stopped (Outside Sink))) p = absurd p.inputs_are
     prepared (Err (Stopped Memory)) p = record {
       work = tt;
@@ -109,6 +112,7 @@ module _ (words : List (List ℕ)) (moment : ℕ) (inputs : Shown Library) (pats
       inputs_are = p.inputs_are;
       patterns_are = p.patterns_are;
     }
+    prepared (Err (Stopped Visits)) p = absurd p.inputs_are
     prepared (Err (Stopped (Pattern text))) p = record {
       work = tt;
       refused = tt;

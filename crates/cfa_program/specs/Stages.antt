@@ -13,7 +13,7 @@ use Rattle.cfa_outside.specs.Sites.{Told}
 use Rattle.cfa_outside.specs.Sinks.{adds_bytes}
 use Rattle.cfa_output.specs.declared.ends.Object.TheVariants.{Sink}
 use Rattle.cfa_output.specs.declared.ends.Stop.{Stop}
-use Rattle.cfa_output.specs.declared.ends.Stop.TheVariants.{Outside, Memory, Pattern}
+use Rattle.cfa_output.specs.declared.ends.Stop.TheVariants.{Outside, Memory, Visits, Pattern}
 use Rattle.cfa_output.specs.declared.ends.Failure.{Failure}
 use Rattle.cfa_output.specs.declared.ends.Failure.TheVariants.{Refused, Stopped}
 use Rattle.cfa_output.specs.Ends.{IfRefused}
@@ -111,6 +111,7 @@ abbrev pub IsRefusalWith : (line : List ℕ) → Failure → Type 0
 IsRefusalWith line (Refused told) = told ≡ line
 IsRefusalWith line (Stopped (Outside object)) = ⊥
 IsRefusalWith line (Stopped Memory) = ⊤
+IsRefusalWith line (Stopped Visits) = ⊥
 IsRefusalWith line (Stopped (Pattern text)) = ⊥
 
 abbrev pub OnlyRefused : (line : List ℕ) → Result Work Failure → Type 0
@@ -156,6 +157,7 @@ PutsLast line status out out' result =
 abbrev pub status_of_stop : Stop → ℕ
 status_of_stop (Outside object) = 4
 status_of_stop Memory = 5
+status_of_stop Visits = 6
 status_of_stop (Pattern text) = 6
 
 -- the line of a stop is put, where it has one

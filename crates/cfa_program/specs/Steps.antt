@@ -13,9 +13,9 @@ use Rattle.cfa_acts.specs.declared.acts.Decision.TheVariants.{Kept, Needs, Fail}
 use Rattle.cfa_acts.specs.declared.acts.Reason.TheVariants.{Fault}
 use Rattle.cfa_acts.specs.Reasons.{code_of, word_of}
 use Rattle.cfa_parser.specs.declared.first.FirstPromise.{FirstPromise}
-use Rattle.cfa_output.specs.declared.ends.Object.TheVariants.{Inputs, Sink}
+use Rattle.cfa_output.specs.declared.ends.Object.TheVariants.{Inputs, Site, Sink}
 use Rattle.cfa_output.specs.declared.ends.Stop.{Stop}
-use Rattle.cfa_output.specs.declared.ends.Stop.TheVariants.{Outside, Memory, Pattern}
+use Rattle.cfa_output.specs.declared.ends.Stop.TheVariants.{Outside, Memory, Visits, Pattern}
 use Rattle.cfa_output.specs.Lines.{repaired_line, failed_line}
 use Rattle.cfa_program.specs.declared.running.Outcome.{Outcome}
 use Rattle.cfa_program.specs.declared.running.Outcome.TheVariants as outcome
@@ -30,8 +30,10 @@ UnlessFault Holds site site' = HasFault site site' ⊎ ((site'.faults ≡ site.f
 -- a run is stopped by want of memory, or by its sink, whose count of faults then rose
 abbrev pub StopsRun : (out out' : Shown (List ℕ)) → Stop → Type 0
 StopsRun out out' (Outside Inputs) = ⊥
+StopsRun out out' (Outside Site) = ⊥
 StopsRun out out' (Outside Sink) = HasFault out out'
 StopsRun out out' Memory = out'.faults ≡ out.faults
+StopsRun out out' Visits = ⊥
 StopsRun out out' (Pattern text) = ⊥
 
 -- a line was put, or the putting was stopped

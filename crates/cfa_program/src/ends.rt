@@ -35,7 +35,7 @@ pub fn stop_status(stop: &Stop) -> u8
     match stop {
         Stop::Outside(_) => 4,
         Stop::Memory => 5,
-        Stop::Pattern(_) => 6,
+        Stop::Visits | Stop::Pattern(_) => 6,
     }
 }
 

@@ -10,8 +10,8 @@ use Rattle.cfa_outside.specs.Inputs.{Library}
 use Rattle.cfa_tree.specs.Tree.{PolicyTree}
 use Rattle.cfa_tree.specs.declared.blocks.Policy.{Policy}
 use Rattle.cfa_tree.specs.Plain.{plain_policy}
-use Rattle.cfa_output.specs.declared.ends.Object.TheVariants.{Inputs, Sink}
-use Rattle.cfa_output.specs.declared.ends.Stop.TheVariants.{Outside, Memory, Pattern}
+use Rattle.cfa_output.specs.declared.ends.Object.TheVariants.{Inputs, Site, Sink}
+use Rattle.cfa_output.specs.declared.ends.Stop.TheVariants.{Outside, Memory, Visits, Pattern}
 use Rattle.cfa_output.specs.declared.ends.Failure.{Failure}
 use Rattle.cfa_output.specs.declared.ends.Failure.TheVariants.{Refused, Stopped}
 use Rattle.cfa_schema.specs.declared.checked.Checked.{Checked}
@@ -71,8 +71,10 @@ main_failed policy start after pats (Stopped (Outside Inputs)) here = record {
   };
   patterns_are = refl;
 }
+main_failed policy start after pats (Stopped (Outside Site)) here = absurd here.inputs_are
 main_failed policy start after pats (Stopped (Outside Sink)) here = absurd here.inputs_are
 main_failed policy start after pats (Stopped Memory) here = record { valid = tt; checked = tt; refused = tt; inputs_are = here.inputs_are; patterns_are = refl }
+main_failed policy start after pats (Stopped Visits) here = absurd here.inputs_are
 main_failed policy start after pats (Stopped (Pattern text)) here = absurd (some_or_none text here.no_pattern)
 
 -- memory ended
@@ -103,8 +105,10 @@ failed_behind policy start after pats main names (Stopped (Outside Inputs)) same
   };
   patterns_are = refl;
 }
+failed_behind policy start after pats main names (Stopped (Outside Site)) same read here = absurd here.inputs_are
 failed_behind policy start after pats main names (Stopped (Outside Sink)) same read here = absurd here.inputs_are
 failed_behind policy start after pats main names (Stopped Memory) same read here = record { valid = tt; checked = tt; refused = tt; inputs_are = here.inputs_are; patterns_are = refl }
+failed_behind policy start after pats main names (Stopped Visits) same read here = absurd here.inputs_are
 failed_behind policy start after pats main names (Stopped (Pattern text)) same read here = absurd (some_or_none text here.no_pattern)
 
 -- what was read of the main file, at the start
@@ -152,6 +156,7 @@ checked_at policy start pats pats' main names seen trees (Err (Refused line)) sa
 }
 checked_at policy start pats pats' main names seen trees (Err (Stopped (Outside object))) same also read all here = absurd here.no_object
 checked_at policy start pats pats' main names seen trees (Err (Stopped Memory)) same also read all here = record { valid = tt; checked = tt; refused = tt; inputs_are = left start start refl; patterns_are = here.patterns_are }
+checked_at policy start pats pats' main names seen trees (Err (Stopped Visits)) same also read all here = absurd here.no_object
 checked_at policy start pats pats' main names seen trees (Err (Stopped (Pattern text))) same also read all here = record {
   valid = tt;
   checked = tt;

@@ -9,8 +9,8 @@ use Rattle.cfa_outside.specs.Inputs.{Library}
 use Rattle.cfa_tree.specs.Tree.{PolicyTree}
 use Rattle.cfa_tree.specs.declared.blocks.Policy.{Policy}
 use Rattle.cfa_tree.specs.Plain.{plain_policy}
-use Rattle.cfa_output.specs.declared.ends.Object.TheVariants.{Inputs, Sink}
-use Rattle.cfa_output.specs.declared.ends.Stop.TheVariants.{Outside, Memory, Pattern}
+use Rattle.cfa_output.specs.declared.ends.Object.TheVariants.{Inputs, Site, Sink}
+use Rattle.cfa_output.specs.declared.ends.Stop.TheVariants.{Outside, Memory, Visits, Pattern}
 use Rattle.cfa_output.specs.declared.ends.Failure.{Failure}
 use Rattle.cfa_output.specs.declared.ends.Failure.TheVariants.{Refused, Stopped}
 use Rattle.cfa_schema.specs.Sourced.{IsRead, AreRead, no_file, a_file}
@@ -132,8 +132,10 @@ failed_at start after main names i name trees (Stopped (Outside Inputs)) lt at b
   };
   no_pattern = refl;
 }
+failed_at start after main names i name trees (Stopped (Outside Site)) lt at before here = absurd here.inputs_are
 failed_at start after main names i name trees (Stopped (Outside Sink)) lt at before here = absurd here.inputs_are
 failed_at start after main names i name trees (Stopped Memory) lt at before here = record { parts = tt; refused = tt; inputs_are = here.inputs_are; no_pattern = refl }
+failed_at start after main names i name trees (Stopped Visits) lt at before here = absurd here.inputs_are
 failed_at start after main names i name trees (Stopped (Pattern text)) lt at before here = record { parts = tt; refused = tt; inputs_are = here.inputs_are; no_pattern = here.no_pattern }
 
 -- the reading of an input failed, or it is refused

@@ -14,7 +14,7 @@ use Rattle.cfa_tree.specs.declared.blocks.Policy.{Policy}
 use Rattle.cfa_tree.specs.Tree.{PolicyTree}
 use Rattle.cfa_tree.specs.Plain.{plain_policy}
 use Rattle.cfa_outside.specs.Inputs.{Library}
-use Rattle.cfa_output.specs.declared.ends.Stop.TheVariants.{Outside, Memory, Pattern}
+use Rattle.cfa_output.specs.declared.ends.Stop.TheVariants.{Outside, Memory, Visits, Pattern}
 use Rattle.cfa_output.specs.declared.ends.Failure.{Failure}
 use Rattle.cfa_output.specs.declared.ends.Failure.TheVariants.{Refused, Stopped}
 use Rattle.cfa_schema.specs.Sourced.{IsRead}
@@ -118,6 +118,7 @@ file_read file name source seen before after (Err (Stopped Memory)) same found r
   inputs_are = left before after found.inputs_are;
   no_pattern = refl;
 }
+file_read file name source seen before after (Err (Stopped Visits)) same found read = absurd read.stopped
 file_read file name source seen before after (Err (Stopped (Pattern text))) same found read = absurd read.stopped
 
 -- what holds of a failure holds of a result that hands it on

@@ -5,9 +5,9 @@ use Rattle.cfa_base.specs.Patterns.{SizeRefusal}
 use Rattle.cfa_tree.specs.declared.blocks.Policy.{Policy}
 use Rattle.cfa_tree.specs.Plain.{plain_policy}
 use Rattle.cfa_outside.specs.Inputs.{Library, fails}
-use Rattle.cfa_output.specs.declared.ends.Object.TheVariants.{Inputs, Sink}
+use Rattle.cfa_output.specs.declared.ends.Object.TheVariants.{Inputs, Site, Sink}
 use Rattle.cfa_output.specs.declared.ends.Stop.{Stop}
-use Rattle.cfa_output.specs.declared.ends.Stop.TheVariants.{Outside, Memory, Pattern}
+use Rattle.cfa_output.specs.declared.ends.Stop.TheVariants.{Outside, Memory, Visits, Pattern}
 use Rattle.cfa_output.specs.declared.ends.Failure.{Failure}
 use Rattle.cfa_output.specs.declared.ends.Failure.TheVariants.{Refused, Stopped}
 use Rattle.cfa_output.specs.Ends.{IfRefused}
@@ -35,6 +35,7 @@ abbrev pub text_too_big : Option Stop → Option (List ℕ)
 text_too_big None = None
 text_too_big (Some (Outside object)) = None
 text_too_big (Some Memory) = None
+text_too_big (Some Visits) = None
 text_too_big (Some (Pattern text)) = Some text
 
 -- ---- the inputs afterwards
@@ -52,8 +53,10 @@ abbrev pub ReadUpTo :
     (IsNext : Texts → List ℕ → Type 0) → Option Stop → (before after : Shown Library) → Type 0
 ReadUpTo IsNext None before after = Untouched before after
 ReadUpTo IsNext (Some (Outside Inputs)) before after = FailsNext IsNext before after
+ReadUpTo IsNext (Some (Outside Site)) before after = ⊥
 ReadUpTo IsNext (Some (Outside Sink)) before after = ⊥
 ReadUpTo IsNext (Some Memory) before after = IsLeft before after
+ReadUpTo IsNext (Some Visits) before after = ⊥
 ReadUpTo IsNext (Some (Pattern text)) before after = Untouched before after
 
 -- ---- what is read

@@ -18,7 +18,7 @@ use Rattle.cfa_tree.specs.Tree.{PolicyTree}
 use Rattle.cfa_tree.specs.Plain.{plain_policy}
 use Rattle.cfa_outside.specs.Inputs.{Library}
 use Rattle.cfa_output.specs.declared.ends.Stop.{Stop}
-use Rattle.cfa_output.specs.declared.ends.Stop.TheVariants.{Outside, Memory, Pattern}
+use Rattle.cfa_output.specs.declared.ends.Stop.TheVariants.{Outside, Memory, Visits, Pattern}
 use Rattle.cfa_output.specs.declared.ends.Failure.{Failure}
 use Rattle.cfa_output.specs.Ends.{IfRefused}
 use Rattle.cfa_output.specs.Lines.{source_long_line}
@@ -36,6 +36,7 @@ abbrev pub OnlyMemory : Option Stop → Type 0
 OnlyMemory None = ⊤
 OnlyMemory (Some (Outside object)) = ⊥
 OnlyMemory (Some Memory) = ⊤
+OnlyMemory (Some Visits) = ⊥
 OnlyMemory (Some (Pattern text)) = ⊥
 
 -- no object of the outside stopped the step
@@ -43,6 +44,7 @@ abbrev pub NoObject : Option Stop → Type 0
 NoObject None = ⊤
 NoObject (Some (Outside object)) = ⊥
 NoObject (Some Memory) = ⊤
+NoObject (Some Visits) = ⊥
 NoObject (Some (Pattern text)) = ⊤
 
 -- ---- lines
