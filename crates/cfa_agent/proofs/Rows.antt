@@ -1,5 +1,5 @@
 -- Worked rows of runs: what they write, put and count.
-use Rattle.std.proofs.Common.{◌≡◌, ℕ, List, [], ◌∷◌, Some, None, codes, refl}
+use Rattle.std.proofs.Common.{◌≡◌, ℕ, List, [], ◌∷◌, Some, None, codes, refl, ap}
 use Rattle.std.specs.Prelude.{map}
 use Rattle.std.specs.Fmt.{digits}
 use Rattle.cfa_base.specs.declared.places.Place.{Place}
@@ -18,15 +18,15 @@ use Rattle.cfa_outside.specs.Paths.{path_of}
 use Rattle.cfa_values.specs.Scope.{is_literal}
 use Rattle.cfa_schema.specs.Control.{sequence_of}
 use Rattle.cfa_schema.specs.Served.{body_of, bundle_of, common_bundles_of, minutes_of}
-use Rattle.cfa_resolve.specs.OwnTexts.{own_reads, combined}
-use Rattle.cfa_resolve.specs.Bodies.{datum_given, bodies_of, heard}
+use Rattle.cfa_defines.specs.OwnTexts.{own_reads, combined}
+use Rattle.cfa_bodies.specs.Bodies.{datum_given, bodies_of, heard}
 use Rattle.cfa_resolve.specs.FileActs.{file_acts, service_act, outcome_classes}
 use Rattle.cfa_resolve.specs.KeyTexts.{mode_text, key_text}
 use Rattle.cfa_resolve.specs.Instances.{made_instance}
 use Rattle.cfa_resolve.specs.Resolution.{resolution, made}
 use Rattle.cfa_walk.specs.Views.{Setting, shared_names, shared_in}
-use Rattle.cfa_walk.specs.VarsPromises.{setting_choices, data_set}
-use Rattle.cfa_walk.specs.ClassPromises.{raises_of}
+use Rattle.cfa_defines.specs.VarsPromises.{setting_choices, data_set}
+use Rattle.cfa_defines.specs.ClassPromises.{raises_of}
 use Rattle.cfa_walk.specs.Passes.{run, common_passes, passes, calls_of, reach, visit, told}
 use Rattle.std.specs.Prelude.{◌++◌, false}
 use Rattle.std.specs.FinMap as finite
@@ -40,6 +40,7 @@ use Rattle.cfa_output.specs.Lines.{id_text, failed_line, report_line}
 use Rattle.cfa_acts.specs.Acts.{decision, post, needed}
 use Rattle.cfa_locks.specs.Locks.{key_of as lock_key}
 use Rattle.cfa_agent.specs.Actuations.{Mark, done_on, entries_of}
+use Rattle.cfa_agent.specs.Marks.{closed_in, marks_of}
 use Rattle.cfa_agent.specs.Runs.{Start, run_of, log_of, lines_of, tally_of}
 
 -- ---- policies
@@ -144,3 +145,12 @@ a_fault_is_told : lines_of (setting one_file) (started (marked 0 (Refused calls.
     codes "failed main:1@4 F11 Fault\n" ∷ []
 unfolding decision post needed run_of log_of lines_of tally_of done_on entries_of record_text id_text failed_line report_line run common_passes passes calls_of reach visit told resolution combined own_reads made heard bodies_of made_instance file_acts service_act outcome_classes key_text mode_text datum_given data_set raises_of setting_choices shared_names shared_in expanded scalar look key_of pieces reference_at list_reference_of are_too_many list_given answer_of function_named path_of body_of bundle_of common_bundles_of minutes_of sequence_of escaped escape_of digits is_literal is_boolean promise_type bundle_type files_attribute outcome_attribute methods_attribute services_attribute vars_attribute classes_attribute delete_attribute copy_from_attribute perms_attribute classes_body_attribute action_attribute expression_of
 a_fault_is_told = refl
+
+-- the marks of these logs are those that made them
+the_look_is_marked : marks_of (log_of (setting one_file) (started (marked 0 (Refused calls.Look)))) ≡ marked 0 (Refused calls.Look)
+unfolding closed_in
+the_look_is_marked = ap marks_of a_failed_look
+
+the_change_is_marked : marks_of (log_of (setting one_file) (started (marked 0 (Refused calls.Change)))) ≡ marked 0 (Refused calls.Change)
+unfolding closed_in
+the_change_is_marked = ap marks_of a_failed_change

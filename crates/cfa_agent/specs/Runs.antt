@@ -3,8 +3,7 @@
 -- a run is what its instances add one after the other, and the world as it stands is what this log makes of the first.
 --
 -- Its lines tell the instances with acts that were repaired or failed, and the reports; its tally counts how all instances ended.
-use Rattle.std.specs.Prelude.{ℕ, ◌+◌, suc, Bool, true, false, not, ◌&&◌, List, [], ◌∷◌, ◌++◌, length, Option, Some, None}
-use Rattle.std.specs.FinMap as finite
+use Rattle.std.specs.Prelude.{ℕ, ◌+◌, suc, Bool, true, false, List, [], ◌∷◌, ◌++◌, length, Option, Some, None}
 use Rattle.cfa_outside.specs.declared.worlds.World.{World}
 use Rattle.cfa_outside.specs.declared.sites.Change.{Change}
 use Rattle.cfa_outside.specs.declared.sites.Change.TheVariants as changes
@@ -13,7 +12,6 @@ use Rattle.cfa_outside.specs.declared.sites.Entry.TheVariants.{Did, Refused}
 use Rattle.cfa_outside.specs.Sites.{after}
 use Rattle.cfa_acts.specs.declared.acts.Reason.{Reason}
 use Rattle.cfa_acts.specs.Reasons.{code_of, word_of}
-use Rattle.cfa_locks.specs.Locks.{key_of, is_due}
 use Rattle.cfa_output.specs.Lines.{repaired_line, failed_line, report_line, total_line}
 use Rattle.cfa_resolve.specs.declared.instances.Instance.{Instance}
 use Rattle.cfa_resolve.specs.declared.instances.Work.{Work}
@@ -24,6 +22,7 @@ use Rattle.cfa_walk.specs.History.{History, Begun, Set, Raised, Reached, Listed,
 use Rattle.cfa_walk.specs.Tellers.{Teller, worst_in, inner_path}
 use Rattle.cfa_walk.specs.Views.{Setting}
 use Rattle.cfa_walk.specs.Passes.{Course, goes, too_large, run}
+use Rattle.cfa_agent.specs.Locking.{is_skipped, lock_entries}
 use Rattle.cfa_agent.specs.Actuations.{Mark, Done, done_on, outcome_done, entries_of}
 
 -- what a run begins with, and the marks that it meets
@@ -62,10 +61,6 @@ abbrev pub has_record : List Entry → Bool
 has_record [] = false
 has_record (entry ∷ log) = elim (is_record entry) [ true ↦ true | false ↦ has_record log ]
 
-abbrev pub lock_entries : Start → Instance → (has_locks : Bool) → List Entry
-lock_entries s instance false = []
-lock_entries s instance true = Did (changes.PutLock (key_of instance.text) s.moment) ∷ []
-
 module _ (s : Start) where
   -- what an instance of this number does behind a log
   abbrev pub done_behind : List Entry → (number : ℕ) → Instance → Done
@@ -80,7 +75,7 @@ module _ (s : Start) where
   -- a log with what an instance adds
   abbrev pub with_entries : List Entry → (number : ℕ) → Instance → List Entry
   with_entries log number instance =
-      log ++ (work_entries log number instance instance.work ++ lock_entries s instance s.has_locks)
+      log ++ (work_entries log number instance instance.work ++ lock_entries s.moment s.has_locks instance)
 
   -- the entries of a history, in order
   abbrev pub log_in : History → List Entry
@@ -106,13 +101,6 @@ module _ (s : Start) where
 
   -- ---- how instances end
 
-  abbrev pub is_too_early : Instance → Option ℕ → Bool
-  is_too_early instance None = false
-  is_too_early instance (Some last) = not (is_due last s.moment instance.elapsed)
-
-  abbrev pub is_skipped : World → Instance → Bool
-  is_skipped world instance = s.has_locks && is_too_early instance (finite.get world.locks (key_of instance.text))
-
   abbrev pub outcome_by_work : World → History → Instance → Work → Outcome
   outcome_by_work world h instance (Acts acts) = outcome_done (done_next world h instance)
   outcome_by_work world h instance (Call name arguments) = worst_in h (inner_path instance)
@@ -121,7 +109,7 @@ module _ (s : Start) where
   -- by the world as a function of the history gives it
   abbrev pub real_on : (History → World) → Teller
   real_on world_at = record {
-    skips = λ h instance. is_skipped (world_at h) instance;
+    skips = λ h instance. is_skipped s.moment s.has_locks (world_at h) instance;
     tells = λ h instance. outcome_by_work (world_at h) h instance instance.work ∷ [];
   }
 

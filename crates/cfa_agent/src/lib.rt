@@ -1,2 +1,6 @@
 //! The agent: what a run writes in a host's log, puts as lines, and counts.
 #![tactic(auto)]
+
+mod actuating;
+mod locking;
+mod recording;

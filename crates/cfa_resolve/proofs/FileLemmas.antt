@@ -1,5 +1,5 @@
 -- Promisers that are written as directories, and the lengths of the texts that promises give.
-use Rattle.std.proofs.Common.{◌≡◌, ◌∙◌, ◌-◌, ◌≤◌, ℕ, true, false, List, ◌++◌, length, take, drop, codes, if◌then◌else◌, ap, sym, lit≤, arith}
+use Rattle.std.proofs.Common.{◌≡◌, ◌∙◌, ◌-◌, ◌≤◌, ℕ, true, false, List, ◌++◌, length, take, drop, codes, if◌then◌else◌, append_assoc, ap, sym, lit≤, arith}
 use Rattle.std.specs.Str.{bytes_eq}
 use Rattle.std.proofs.lemmas.Bool.{false_from_ne_true}
 use Rattle.std.proofs.lemmas.Slice.Eq.{bytes_eq-Decides}
@@ -11,7 +11,8 @@ use Rattle.cfa_functions.specs.declared.reading.ValueText.{ValueText}
 use Rattle.cfa_functions.specs.declared.reading.ValueText.TheVariants.{Text as whole_text, Unresolved as text_unresolved, TooLong as text_too_long}
 use Rattle.cfa_functions.specs.Calls.{text_given}
 use Rattle.cfa_functions.specs.lemmas.Lengths.{IsWithin, text_is_within}
-use Rattle.cfa_resolve.specs.Bodies.{whole_or_empty}
+use Rattle.cfa_acts.specs.declared.acts.Act.{Act}
+use Rattle.cfa_bodies.specs.Bodies.{whole_or_empty}
 use Rattle.cfa_resolve.specs.FileActs.{is_directory_form, path_part}
 
 same_bytes : (x y : List ℕ) → bytes_eq x y ≡ true → x ≡ y
@@ -36,3 +37,10 @@ whole_short text_too_long h = lit≤ tt
 -- a text that a value gives is within the limit
 pub given_short : (scopes : InScope) (choice : Chosen) (v : ValueTree) → length (whole_or_empty (text_given scopes choice v)) ≤ 65536
 given_short scopes choice v = whole_short (text_given scopes choice v) (text_is_within scopes choice v)
+
+-- ---- acts, one after the other
+
+pub three_parts : (s0 s1 s2 x o1 e o2 p : List Act) → s0 ≡ x → s1 ≡ s0 ++ o1 → o1 ≡ e → s2 ≡ s1 ++ o2 → o2 ≡ p → s2 ≡ x ++ (e ++ p)
+three_parts s0 s1 s2 x o1 e o2 p first second is_e third is_p =
+    third ∙ ap (λ (t : List Act). t ++ o2) second ∙ ap (λ (t : List Act). (t ++ o1) ++ o2) first
+    ∙ append_assoc x o1 o2 ∙ ap (λ (t : List Act). x ++ (t ++ o2)) is_e ∙ ap (λ (t : List Act). x ++ (e ++ t)) is_p

@@ -6,7 +6,9 @@ use Rattle.cfa_base.specs.declared.places.PromiseId.{PromiseId}
 use Rattle.cfa_tree.specs.Tree.{ValueTree, text, word, list_reference, list, call, value_trees, AttributeTree, NamedTree, BlockTree, body, PolicyTree}
 use Rattle.cfa_kinds.specs.declared.kinds.PromiseType.{PromiseType}
 use Rattle.cfa_kinds.specs.declared.kinds.PromiseType.TheVariants as promises
+use Rattle.cfa_classes.specs.declared.levels.Status.TheVariants.{No}
 use Rattle.cfa_vars.specs.declared.scoping.Datum.TheVariants.{Text as text_of, List as list_of}
+use Rattle.cfa_classes.specs.declared.levels.Status.TheVariants.{No}
 use Rattle.cfa_vars.specs.Scopes.{Table}
 use Rattle.cfa_acts.specs.declared.acts.Act.TheVariants.{Create, MakeDir, Delete, Content, Copy, Perms, Bust}
 use Rattle.cfa_acts.specs.declared.acts.Reason.TheVariants as reasons
@@ -27,8 +29,8 @@ use Rattle.cfa_functions.specs.Calls.{list_given}
 use Rattle.cfa_outside.specs.Paths.{path_of}
 use Rattle.cfa_values.specs.Scope.{is_literal}
 use Rattle.cfa_schema.specs.Served.{body_of, minutes_of}
-use Rattle.cfa_resolve.specs.OwnTexts.{own_reads, combined}
-use Rattle.cfa_resolve.specs.Bodies.{datum_given, bodies_of, heard}
+use Rattle.cfa_defines.specs.OwnTexts.{own_reads, combined}
+use Rattle.cfa_bodies.specs.Bodies.{datum_given, bodies_of, heard}
 use Rattle.cfa_resolve.specs.FileActs.{file_acts, service_act, outcome_classes}
 use Rattle.cfa_resolve.specs.KeyTexts.{mode_text, key_text}
 use Rattle.cfa_resolve.specs.Instances.{made_instance}
@@ -82,6 +84,7 @@ reached type promiser attributes = record {
   type = type;
   promise = record { guard = None; promiser = promiser; promisee = None; attributes = attributes; place = here };
   scopes = record { own = own; own_name = codes "main"; shared = [] };
+  statuses = λ class. No;
   path = codes "main";
 }
 

@@ -1,12 +1,15 @@
 -- What a promise asks for in one combination. A files promise gives acts in this order: delete, create, copy, content, edit,
 -- perms. A promiser that ends in `/.` names the directory before the `/.`, which isn't copied to, given a content or edited.
 -- A value that turns out to be none of its kind gives an act that fails for it, in the place of the act.
-use Rattle.std.specs.Prelude.{ℕ, ◌-◌, Bool, true, false, not, ◌||◌, ◌==◌, List, [], ◌∷◌, ◌++◌, codes, length, take, drop, filter, map, Option, Some, None, option_map, if◌then◌else◌}
+--
+-- Where the file is to be emptied before it is edited, its content is the text that the script makes of no lines; where the script
+-- refuses these, the act fails for that. A script that can't be made gives an act that fails for its reason.
+use Rattle.std.specs.Prelude.{ℕ, ◌-◌, Bool, true, false, not, ◌||◌, ◌==◌, nat_le, List, [], ◌∷◌, ◌++◌, codes, length, take, drop, filter, map, Option, Some, None, option_map, Result, Ok, Err, if◌then◌else◌}
 use Rattle.std.specs.List.{list_any}
 use Rattle.std.specs.Str.{bytes_eq}
 use Rattle.std.specs.Str.Parse.{digits_value}
 use Rattle.cfa_tree.specs.Tree.{PromiseTree}
-use Rattle.cfa_kinds.specs.declared.kinds.Form.TheVariants.{Boolean, Digest, Mode}
+use Rattle.cfa_kinds.specs.declared.kinds.Form.TheVariants.{Boolean, Digest, Mode, NoBackup}
 use Rattle.cfa_kinds.specs.Forms.{has_form}
 use Rattle.cfa_values.specs.Attributes.{value_of}
 use Rattle.cfa_vars.specs.Named.{thing_at}
@@ -16,11 +19,18 @@ use Rattle.cfa_functions.specs.Functions.{canonified}
 use Rattle.cfa_functions.specs.Calls.{text_given}
 use Rattle.cfa_outside.specs.Paths.{path_of}
 use Rattle.cfa_acts.specs.declared.acts.Act.{Act}
-use Rattle.cfa_acts.specs.declared.acts.Act.TheVariants.{Create, MakeDir, Delete, Content, Copy, Perms, Start, Stop, Enable, Disable, Restart, Bust}
-use Rattle.cfa_acts.specs.declared.acts.Reason.TheVariants.{BadPath, BadValue}
-use Rattle.cfa_resolve.specs.declared.sayings.Said.{Said}
-use Rattle.cfa_resolve.specs.declared.sayings.Said.TheVariants.{Text as text_said, Items as items_said, Unresolved as unresolved, Over as over}
-use Rattle.cfa_resolve.specs.Bodies.{Sayings, Bodies, said_in, whole_or_empty}
+use Rattle.cfa_acts.specs.declared.acts.Act.TheVariants.{Create, MakeDir, Delete, Content, Copy, Edit, Perms, Start, Stop, Enable, Disable, Restart, Bust}
+use Rattle.cfa_acts.specs.declared.acts.Reason.TheVariants.{BadPath, BadPattern, BadValue, TooLong, TooMany}
+use Rattle.cfa_acts.specs.declared.acts.Reason.TheVariants as reasons
+use Rattle.cfa_base.specs.declared.limits.TheConstants.{MOST_FILE_BYTES}
+use Rattle.cfa_lines.specs.Decks.{text_of as lines_text}
+use Rattle.cfa_edits.specs.declared.edits.EditErr.{EditErr}
+use Rattle.cfa_edits.specs.declared.edits.EditErr.TheVariants.{NoAnchor, FieldCount, NoMemory}
+use Rattle.cfa_edits.specs.Edits.{Lines, edited}
+use Rattle.cfa_scripts.specs.declared.scripting.Scripted.{Scripted}
+use Rattle.cfa_scripts.specs.declared.scripting.Scripted.TheVariants.{Script as a_script, Unresolved as no_script, TooMany as script_many, TooLong as script_long, BadPattern as bad_pattern, BadValue as bad_value}
+use Rattle.cfa_bodies.specs.declared.sayings.Said.{Said}
+use Rattle.cfa_bodies.specs.Bodies.{Sayings, Bodies, said_in, text_in, items_in, whole_or_empty}
 
 -- ---- values of their kinds
 
@@ -33,18 +43,6 @@ truth content =
 -- the mode that 3 or 4 octal digits write
 abbrev pub mode_written : List ℕ → Option ℕ
 mode_written content = if has_form Mode content then Some (digits_value 8 content) else None
-
-abbrev pub text_in : Said → List ℕ
-text_in (text_said content) = content
-text_in (items_said items) = []
-text_in (unresolved name) = []
-text_in (over has_many) = []
-
-abbrev pub items_in : Said → List (List ℕ)
-items_in (text_said content) = []
-items_in (items_said items) = items
-items_in (unresolved name) = []
-items_in (over has_many) = []
 
 -- the text that an attribute of the promise itself gives
 abbrev pub own_text : InScope → Chosen → PromiseTree → List ℕ → Option (List ℕ)
@@ -148,25 +146,74 @@ abbrev pub perms_acts : (path : List ℕ) → Option Sayings → List Act
 perms_acts path None = []
 perms_acts path (Some sayings) = perms_act path sayings ∷ []
 
+-- ---- its edits
+
+-- whether the file is emptied before it is edited; none where a value of its defaults is wrong
+abbrev pub emptied_by : (backup_is_right : Bool) → Option Said → Option Bool
+emptied_by false emptied = None
+emptied_by true emptied = or_false emptied
+
+abbrev pub is_right_backup : Option Said → Bool
+is_right_backup None = true
+is_right_backup (Some said) = has_form NoBackup (text_in said)
+
+abbrev pub is_emptied : Option Sayings → Option Bool
+is_emptied None = Some false
+is_emptied (Some sayings) =
+    emptied_by (is_right_backup (thing_at sayings (codes "edit_backup"))) (thing_at sayings (codes "empty_file_before_editing"))
+
+abbrev pub content_within : (path content : List ℕ) → Act
+content_within path content = if nat_le (length content) MOST_FILE_BYTES then Content path content else Bust TooLong
+
+-- the content that the lines of a script make
+abbrev pub content_made : (path : List ℕ) → Result Lines EditErr → Act
+content_made path (Ok lines) = content_within path (lines_text lines)
+content_made path (Err NoAnchor) = Bust reasons.NoAnchor
+content_made path (Err FieldCount) = Bust reasons.FieldCount
+content_made path (Err NoMemory) = Bust reasons.NoAnchor
+
+abbrev pub script_act : (path : List ℕ) → (is_emptied : Bool) → Scripted → Act
+script_act path false (a_script edits) = Edit path edits
+script_act path true (a_script edits) = content_made path (edited edits [])
+script_act path emptied bad_pattern = Bust BadPattern
+script_act path emptied bad_value = Bust BadValue
+script_act path emptied (no_script name) = Bust BadValue
+script_act path emptied script_many = Bust TooMany
+script_act path emptied script_long = Bust TooLong
+
+abbrev pub edit_act : (path : List ℕ) → (is_directory : Bool) → (is_emptied : Option Bool) → Scripted → Act
+edit_act path is_directory None scripted = Bust BadValue
+edit_act path true (Some emptied) scripted = Bust BadPath
+edit_act path false (Some emptied) scripted = script_act path emptied scripted
+
+abbrev pub edit_acts : (path : List ℕ) → (is_directory : Bool) → Option Sayings → Option Scripted → List Act
+edit_acts path is_directory defaults None = []
+edit_acts path is_directory defaults (Some scripted) = edit_act path is_directory (is_emptied defaults) scripted ∷ []
+
 -- ---- all of them
 
--- the acts at a path; `create` and `content` are the texts of the promise's own attributes
-abbrev pub acts_at : (path : List ℕ) → (is_directory : Bool) → (create content : Option (List ℕ)) → Bodies → List Act
-acts_at path is_directory create content bodies =
+-- what is made of what stands at a path
+abbrev pub placing_acts : (path : List ℕ) → (is_directory : Bool) → (create content : Option (List ℕ)) → Bodies → List Act
+placing_acts path is_directory create content bodies =
     delete_acts path (thing_at bodies (codes "delete"))
     ++ (create_acts path is_directory create
-    ++ (copy_acts path is_directory (thing_at bodies (codes "copy_from"))
-    ++ (content_acts path is_directory content
-    ++ perms_acts path (thing_at bodies (codes "perms")))))
+    ++ (copy_acts path is_directory (thing_at bodies (codes "copy_from")) ++ content_acts path is_directory content))
+
+-- the acts at a path; `create` and `content` are the texts of the promise's own attributes
+abbrev pub acts_at : (path : List ℕ) → (is_directory : Bool) → (create content : Option (List ℕ)) → Bodies → Option Scripted → List Act
+acts_at path is_directory create content bodies scripted =
+    placing_acts path is_directory create content bodies
+    ++ (edit_acts path is_directory (thing_at bodies (codes "edit_defaults")) scripted
+    ++ perms_acts path (thing_at bodies (codes "perms")))
 
 -- a promiser that is no path gives one act that fails for it
-abbrev pub acts_by : Option (List ℕ) → (is_directory : Bool) → (create content : Option (List ℕ)) → Bodies → List Act
-acts_by None is_directory create content bodies = Bust BadPath ∷ []
-acts_by (Some path) is_directory create content bodies = acts_at path is_directory create content bodies
+abbrev pub acts_by : Option (List ℕ) → (is_directory : Bool) → (create content : Option (List ℕ)) → Bodies → Option Scripted → List Act
+acts_by None is_directory create content bodies scripted = Bust BadPath ∷ []
+acts_by (Some path) is_directory create content bodies scripted = acts_at path is_directory create content bodies scripted
 
-unfoldable pub file_acts : (promiser : List ℕ) → (create content : Option (List ℕ)) → Bodies → List Act
-file_acts promiser create content bodies =
-    acts_by (target_of promiser) (is_directory_form promiser) create content bodies
+unfoldable pub file_acts : (promiser : List ℕ) → (create content : Option (List ℕ)) → Bodies → Option Scripted → List Act
+file_acts promiser create content bodies scripted =
+    acts_by (target_of promiser) (is_directory_form promiser) create content bodies scripted
 
 -- ---- services
 

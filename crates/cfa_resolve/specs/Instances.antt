@@ -4,10 +4,12 @@
 --
 -- Where a promise has too many combinations or a text that is too long, it has one instance whose one act fails for that,
 -- without classes and with the minutes of control. Such an instance is named by its promiser as it is written. Where a list
--- or a text of a body is to blame, its own combination alone has such an instance.
+-- or a text of a body is to blame, its own combination alone has such an instance. Where a promise of its edit bundle is, the
+-- instance has this one act, named in the same way, with its own classes and minutes.
 use Rattle.std.specs.Prelude.{ℕ, List, [], ◌∷◌, codes, Option, Some, None}
 use Rattle.cfa_base.specs.declared.places.PromiseId.{PromiseId}
 use Rattle.cfa_tree.specs.Tree.{ValueTree, PromiseTree, PolicyTree}
+use Rattle.cfa_classes.specs.declared.levels.Status.{Status}
 use Rattle.cfa_kinds.specs.declared.kinds.PromiseType.{PromiseType}
 use Rattle.cfa_kinds.specs.declared.kinds.PromiseType.TheVariants as promises
 use Rattle.cfa_kinds.specs.Forms.{minutes_written}
@@ -23,19 +25,21 @@ use Rattle.cfa_acts.specs.declared.acts.Act.TheVariants.{Bust}
 use Rattle.cfa_resolve.specs.declared.instances.Instance.{Instance}
 use Rattle.cfa_resolve.specs.declared.instances.Work.{Work}
 use Rattle.cfa_resolve.specs.declared.instances.Work.TheVariants.{Acts, Call, Report}
-use Rattle.cfa_resolve.specs.OwnTexts.{arguments_of}
-use Rattle.cfa_resolve.specs.declared.sayings.Said.{Said}
-use Rattle.cfa_resolve.specs.Bodies.{Bodies, said_in, data_given, name_given}
-use Rattle.cfa_resolve.specs.FileActs.{file_acts, service_act, own_text, outcome_classes, text_in}
+use Rattle.cfa_defines.specs.OwnTexts.{arguments_of}
+use Rattle.cfa_bodies.specs.declared.sayings.Said.{Said}
+use Rattle.cfa_bodies.specs.Bodies.{Bodies, said_in, text_in, data_given, name_given}
+use Rattle.cfa_scripts.specs.declared.scripting.Scripted.{Scripted}
+use Rattle.cfa_resolve.specs.FileActs.{file_acts, service_act, own_text, outcome_classes}
 use Rattle.cfa_resolve.specs.KeyTexts.{key_text}
 
--- an activation's promise, with what it is resolved in
+-- an activation's promise, with what it is resolved in; the statuses are those of the global classes
 pub record Reached : Type 0 where
   pub policy : PolicyTree
   pub id : PromiseId
   pub type : PromiseType
   pub promise : PromiseTree
   pub scopes : InScope
+  pub statuses : List ℕ → Status
   pub path : List ℕ
 
 -- an instance with its key text; what couldn't be made tells this promiser there
@@ -76,14 +80,14 @@ abbrev pub call_by : Reached → Chosen → Option ValueTree → Work
 call_by r choice None = Call [] []
 call_by r choice (Some value) = Call (name_given value) (data_given r.scopes choice (arguments_of value))
 
-abbrev pub work_by : Reached → Chosen → Bodies → PromiseType → Work
-work_by r choice bodies promises.Files =
-    Acts (file_acts (promiser_in r choice) (text_of r choice (codes "create")) (text_of r choice (codes "content")) bodies)
-work_by r choice bodies promises.Services =
+abbrev pub work_by : Reached → Chosen → Bodies → Option Scripted → PromiseType → Work
+work_by r choice bodies scripted promises.Files =
+    Acts (file_acts (promiser_in r choice) (text_of r choice (codes "create")) (text_of r choice (codes "content")) bodies scripted)
+work_by r choice bodies scripted promises.Services =
     Acts (service_act (promiser_in r choice) (text_of r choice (codes "service_policy")) ∷ [])
-work_by r choice bodies promises.Methods = call_by r choice (value_of (codes "usebundle") r.promise.attributes)
-work_by r choice bodies promises.Reports = Report (promiser_in r choice)
-work_by r choice bodies type = Acts []
+work_by r choice bodies scripted promises.Methods = call_by r choice (value_of (codes "usebundle") r.promise.attributes)
+work_by r choice bodies scripted promises.Reports = Report (promiser_in r choice)
+work_by r choice bodies scripted type = Acts []
 
 -- the minutes that the action body gives; none where they are wrong
 abbrev pub minutes_said : Reached → Option Said → Option ℕ
@@ -91,15 +95,29 @@ minutes_said r None = Some (minutes_of r.policy)
 minutes_said r (Some said) = minutes_written (text_in said)
 
 -- with the classes for each outcome
-abbrev pub classed : Reached → Chosen → Bodies → Work → (minutes : ℕ) → Instance
-classed r choice bodies work minutes =
-    instance_of r (promiser_in r choice) work (outcome_classes bodies (codes "promise_kept"))
+abbrev pub classed : Reached → Bodies → (promiser : List ℕ) → Work → (minutes : ℕ) → Instance
+classed r bodies promiser work minutes =
+    instance_of r promiser work (outcome_classes bodies (codes "promise_kept"))
     (outcome_classes bodies (codes "promise_repaired")) (outcome_classes bodies (codes "repair_failed")) minutes
 
-abbrev pub timed : Reached → Chosen → Bodies → Option ℕ → Instance
-timed r choice bodies None = classed r choice bodies (Acts (Bust reasons.BadValue ∷ [])) 1
-timed r choice bodies (Some minutes) = classed r choice bodies (work_by r choice bodies r.type) minutes
+abbrev pub timed : Reached → Chosen → Bodies → Option Scripted → Option ℕ → Instance
+timed r choice bodies scripted None = classed r bodies (promiser_in r choice) (Acts (Bust reasons.BadValue ∷ [])) 1
+timed r choice bodies scripted (Some minutes) =
+    classed r bodies (promiser_in r choice) (work_by r choice bodies scripted r.type) minutes
 
--- the instance where nothing that a body says keeps it from being made
-unfoldable pub made_instance : Reached → Chosen → Bodies → Instance
-made_instance r choice bodies = timed r choice bodies (minutes_said r (said_in bodies (codes "action") (codes "ifelapsed")))
+abbrev pub minutes_in : Reached → Bodies → Option ℕ
+minutes_in r bodies = minutes_said r (said_in bodies (codes "action") (codes "ifelapsed"))
+
+-- the instance where nothing that its bodies and its edit bundle say keeps it from being made
+unfoldable pub made_instance : Reached → Chosen → Bodies → Option Scripted → Instance
+made_instance r choice bodies scripted = timed r choice bodies scripted (minutes_in r bodies)
+
+-- 1 where they are wrong
+abbrev pub or_one : Option ℕ → ℕ
+or_one None = 1
+or_one (Some minutes) = minutes
+
+-- the instance of what a promise of the edit bundle hands over
+unfoldable pub handed_instance : Reached → Bodies → Reason → Instance
+handed_instance r bodies reason =
+    classed r bodies r.promise.promiser (Acts (Bust reason ∷ [])) (or_one (minutes_in r bodies))

@@ -1,9 +1,9 @@
-pub mod Bodies
 pub mod FileActs
 pub mod Instances
 pub mod KeyTexts
-pub mod OwnTexts
 pub mod Resolution
-pub mod ReadTexts
 pub mod Lengths
 pub mod SeenReached
+pub mod Viewed
+pub mod Refused
+pub mod Laws

@@ -1,6 +1,7 @@
 -- Of the code alone: an activation's promise with what it is resolved in, without where it lies in memory.
 use Rattle.cfa_tree.specs.Plain.{plain_promise}
 use Rattle.cfa_schema.specs.Seen.{tree_of}
+use Rattle.cfa_classes.specs.Raised.{status_in}
 use Rattle.cfa_vars.specs.Scopes.{in_scope}
 use Rattle.cfa_resolve.specs.declared.reached.Reached.{Reached as Held}
 use Rattle.cfa_resolve.specs.Instances.{Reached}
@@ -12,5 +13,6 @@ seen_reached r = record {
   type = r.promise_type;
   promise = plain_promise r.promise.now;
   scopes = in_scope r.scopes;
+  statuses = status_in r.statuses.now;
   path = r.path.now;
 }

@@ -3,9 +3,8 @@ ghost use Rattle.std.specs.Prelude.{◌≡◌, ◌++◌, IfOk, filter, map, not}
 ghost use Rattle.cfa_functions.specs.Functions.{canonified};
 ghost use Rattle.cfa_resolve.specs.FileActs.{is_empty, outcome_classes};
 
-use crate::hearing::Bodies;
-use crate::sayings::Said;
 use cfa_base::{Name, Names, NoMemory};
+use cfa_bodies::{Bodies, Said};
 use cfa_functions::canonify;
 use std::alloc::Global;
 

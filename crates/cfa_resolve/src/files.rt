@@ -4,17 +4,17 @@ ghost use Rattle.std.specs.List.{cons_option};
 ghost use Rattle.cfa_acts.specs.Acts.{IsAct};
 ghost use Rattle.cfa_outside.specs.Paths.{path_of};
 ghost use Rattle.cfa_resolve.specs.Lengths.{IsShort};
-ghost use Rattle.cfa_resolve.specs.FileActs.{delete_by, or_false, delete_acts, create_by, create_acts, is_wrong_digest, source_in, copy_from, copy_act, copy_acts, content_acts, is_directory_form, path_part, acts_at, file_acts};
+ghost use Rattle.cfa_resolve.specs.FileActs.{delete_by, or_false, delete_acts, create_by, create_acts, is_wrong_digest, source_in, copy_from, copy_act, copy_acts, content_acts, is_directory_form, path_part, placing_acts, acts_at, file_acts};
 
-use crate::bodies::push_if;
-use crate::hearing::Bodies;
+use crate::editing::edit_act;
 use crate::permissions::perms_act;
-use crate::sayings::{Said, Sayings};
-use crate::values::{text_in, truth};
+use crate::values::truth;
 use cfa_acts::{Act, Reason};
 use cfa_base::{Bytes, Name, NoMemory};
+use cfa_bodies::{Bodies, Said, Sayings, text_in};
 use cfa_kinds::{Form, has_form};
 use cfa_outside::{Path, PathErr};
+use cfa_scripts::Scripted;
 use std::alloc::Global;
 
 fn delete_by(path: Path, with_directories: Option<bool>) -> Act
@@ -27,7 +27,8 @@ fn delete_by(path: Path, with_directories: Option<bool>) -> Act
     }
 }
 
-fn or_false(said: Option<&Said>) -> Option<bool>
+/// Whether a text that is said says yes, no where none is.
+pub(crate) fn or_false(said: Option<&Said>) -> Option<bool>
     ensures { result ≡ or_false (option_copied said.entry) }
 {
     match said {
@@ -184,7 +185,33 @@ fn add_act(acts: &mut Vec<Act>, act: Option<Act>) -> Result<(), NoMemory>
     ensures value { OnOk result (acts.new.items ≡ acts.old.items ++ cons_option act []) }
     ensures facts { OnOk result (All IsAct acts.new.items) }
 {
-    push_if(acts, act)
+    match act {
+        Some(act) => Ok(acts.push(act)?),
+        None => Ok(()),
+    }
+}
+
+// What is made of what stands at a path.
+fn placing_acts(
+    alloc: Global,
+    path: &Path,
+    is_directory: bool,
+    create: &Option<Name>,
+    content: &Option<Name>,
+    bodies: &Bodies,
+) -> Result<Vec<Act>, NoMemory>
+    requires { IsShort content.now }
+    ensures value { IfOk result (λ acts. acts.items
+        ≡ placing_acts path.now is_directory create.now content.now bodies.now) }
+    ensures facts { IfOk result (λ acts. All IsAct acts.items) }
+{
+    let mut acts = Vec::new(alloc);
+    add_act(&mut acts, delete_act(alloc, path, bodies.get("delete"))?)?;
+    add_act(&mut acts, create_act(alloc, path, is_directory, create)?)?;
+    let copied = copy_act(alloc, path, is_directory, bodies.get("copy_from"))?;
+    add_act(&mut acts, copied)?;
+    add_act(&mut acts, content_act(alloc, path, is_directory, content)?)?;
+    Ok(acts)
 }
 
 // The acts at a path, in the order in which they are made.
@@ -195,18 +222,19 @@ fn acts_at(
     create: &Option<Name>,
     content: &Option<Name>,
     bodies: &Bodies,
+    scripted: Option<Scripted>,
 ) -> Result<Vec<Act>, NoMemory>
     requires { IsShort content.now }
     ensures value { IfOk result (λ acts. acts.items
-        ≡ acts_at path.now is_directory create.now content.now bodies.now) }
+        ≡ acts_at path.now is_directory create.now content.now bodies.now scripted) }
     ensures facts { IfOk result (λ acts. All IsAct acts.items) }
 {
-    let mut acts = Vec::new(alloc);
-    add_act(&mut acts, delete_act(alloc, path, bodies.get("delete"))?)?;
-    add_act(&mut acts, create_act(alloc, path, is_directory, create)?)?;
-    let copied = copy_act(alloc, path, is_directory, bodies.get("copy_from"))?;
-    add_act(&mut acts, copied)?;
-    add_act(&mut acts, content_act(alloc, path, is_directory, content)?)?;
+    let mut acts = placing_acts(alloc, path, is_directory, create, content, bodies)?;
+    let defaults = bodies.get("edit_defaults");
+    add_act(
+        &mut acts,
+        edit_act(alloc, path, is_directory, defaults, scripted)?,
+    )?;
     add_act(&mut acts, perms_act(alloc, path, bodies.get("perms"))?)?;
     Ok(acts)
 }
@@ -230,10 +258,11 @@ pub(crate) fn file_acts(
     create: &Option<Name>,
     content: &Option<Name>,
     bodies: &Bodies,
+    scripted: Option<Scripted>,
 ) -> Result<Vec<Act>, NoMemory>
     requires { IsShort content.now }
-    ensures value { IfOk result
-        (λ acts. acts.items ≡ file_acts promiser.now create.now content.now bodies.now) }
+    ensures value { IfOk result (λ acts. acts.items
+        ≡ file_acts promiser.now create.now content.now bodies.now scripted) }
     ensures facts { IfOk result (λ acts. All IsAct acts.items) }
 {
     let (part, is_directory) = path_part(promiser);
@@ -243,6 +272,14 @@ pub(crate) fn file_acts(
             acts.push(Act::Bust(Reason::BadPath))?;
             Ok(acts)
         }
-        Some(path) => acts_at(alloc, &path, is_directory, create, content, bodies),
+        Some(path) => acts_at(
+            alloc,
+            &path,
+            is_directory,
+            create,
+            content,
+            bodies,
+            scripted,
+        ),
     }
 }

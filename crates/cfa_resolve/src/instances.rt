@@ -7,6 +7,9 @@ use cfa_acts::Act;
 use cfa_base as base;
 use cfa_base::{Name, Names, PromiseId};
 use cfa_classes::Statuses;
+use cfa_kinds::PromiseType;
+use cfa_scripts::{ScriptErr, UnsettledList};
+use cfa_tree::Promise;
 use cfa_vars::{Datum, Scopes};
 use std::marker::Model;
 use thiserror::Error;
@@ -147,55 +150,15 @@ impl Instances {
     }
 }
 
-/// A promise of an edit bundle whose guard may hold or not.
-#[derive(Drop)]
-pub struct Unsettled {
-    pub promise: PromiseId,
-    /// The first class of its guard that may be set or not.
-    pub class: Name,
-    /// That class where it is global, else the global class that it goes back to.
-    pub origin: Name,
-}
-
-/// Promises of edit bundles whose guards may hold or not.
-#[derive(Drop)]
-pub struct UnsettledList {
-    items: Vec<Unsettled>,
-}
-
-impl Model for UnsettledList {
-    ghost use Rattle.std.specs.Prelude.{List};
-    ghost use Rattle.cfa_resolve.specs.declared.instances.Unsettled.{Unsettled};
-
-    ghost Value = { List Unsettled };
-
-    ghost view = { λ u. u.items.items };
-}
-
-impl UnsettledList {
-    /// The promises of a `Vec`, without taking memory.
-    pub fn from_vec(items: Vec<Unsettled>) -> UnsettledList
-        ensures { result ≡ items.items }
-    {
-        UnsettledList { items }
-    }
-
-    /// The promises, without taking memory.
-    pub fn as_slice(&self) -> &[Unsettled]
-        ensures { result.now ≡ self.now }
-    {
-        self.items.as_slice()
-    }
-}
-
 /// What a promise resolves to.
 #[derive(Drop)]
 pub struct Resolved {
     pub instances: Instances,
     /// The names that kept something from being made, once each, in the order in which they are met.
     pub unresolved: Names,
+    /// The promises of its edit bundle whose guards may hold or not, in the order in which they are reached.
     pub unsettled: UnsettledList,
-    /// How many visits the promise counts.
+    /// How many visits the promise counts, those of the promises of its edit bundle included.
     pub visits: u64,
 }
 
@@ -206,6 +169,14 @@ pub struct View<'a> {
     pub scopes: Scopes<'a>,
     pub statuses: &'a Statuses,
     pub path: &'a Name,
+}
+
+/// A promise of a policy, with its id and its type.
+#[derive(Clone, Copy)]
+pub struct FoundPromise<'a> {
+    pub id: &'a PromiseId,
+    pub promise_type: PromiseType,
+    pub promise: &'a Promise,
 }
 
 /// Why a promise was not resolved.
@@ -227,5 +198,19 @@ impl From<base::NoMemory> for ResolveErr {
 
     fn from(_: base::NoMemory) -> Self {
         ResolveErr::NoMemory
+    }
+}
+
+impl From<ScriptErr> for ResolveErr {
+    ghost use Rattle.cfa_resolve.specs.Refused.{error_of};
+
+    ghost from_gives = { λ s e. e ≡ error_of s };
+
+    fn from(error: ScriptErr) -> Self {
+        match error {
+            ScriptErr::TooLarge => ResolveErr::TooLarge,
+            ScriptErr::PatternTooBig(text) => ResolveErr::PatternTooBig(text),
+            ScriptErr::NoMemory => ResolveErr::NoMemory,
+        }
     }
 }

@@ -1,25 +1,24 @@
 //! What a promise resolves to in a view of variables and classes: its instances with their work, and why it did nothing.
 #![tactic(auto)]
 
-mod arguments;
-mod bodies;
 mod classes;
-mod combining;
+mod editing;
 mod fields;
 mod files;
-mod hearing;
 mod instances;
 mod keys;
+mod laws;
 mod making;
 mod permissions;
 mod reached;
-mod reads;
 mod resolving;
-mod sayings;
 mod services;
 mod values;
 
+pub use cfa_scripts::{Unsettled, UnsettledList};
 pub use instances::{
-    Acts, Data, Instance, Instances, ResolveErr, Resolved, Unsettled, UnsettledList, View, Work,
+    Acts, Data, FoundPromise, Instance, Instances, ResolveErr, Resolved, View, Work,
 };
-pub use resolving::{is_acting, resolve};
+pub use laws::{instances_are_few, instances_are_named};
+pub use making::copy_id;
+pub use resolving::{is_acting, resolve, resolve_promise};

@@ -7,30 +7,30 @@ ghost use Rattle.cfa_tree.specs.Plain.{plain_promise, plain_value};
 ghost use Rattle.cfa_values.specs.Attributes.{value_of};
 ghost use Rattle.cfa_resolve.specs.declared.instances.Work.TheVariants.{Acts as of_acts};
 ghost use Rattle.cfa_resolve.specs.FileActs.{file_acts, service_act, outcome_classes};
-ghost use Rattle.cfa_resolve.specs.Instances.{instance_of, bust_instance, promiser_in, text_of, call_by, work_by, minutes_said, classed, made_instance};
+ghost use Rattle.cfa_resolve.specs.Instances.{instance_of, bust_instance, promiser_in, text_of, call_by, work_by, minutes_said, minutes_in, made_instance, handed_instance};
 ghost use Rattle.cfa_resolve.specs.SeenReached.{seen_reached};
 
-use crate::arguments::{data_given, empty_text, name_given};
 use crate::classes::{Outcomes, outcome_classes};
 use crate::files::file_acts;
-use crate::hearing::Bodies;
 use crate::keys::key_text;
 use crate::reached::Reached;
-use crate::reads::arguments_of;
-use crate::sayings::Said;
 use crate::services::service_act;
-use crate::values::{minutes_written, own_text, short_minutes, text_in};
+use crate::values::{minutes_written, own_text, short_minutes};
 use crate::{Acts, Data, Instance, Work};
 use cfa_acts::{Act, Reason};
 use cfa_base::{Name, Names, NoMemory, PromiseId};
+use cfa_bodies::{Bodies, Said, data_given, empty_text, name_given, text_in};
+use cfa_defines::arguments_of;
 use cfa_kinds::PromiseType;
 use cfa_schema::Checked;
+use cfa_scripts::Scripted;
 use cfa_tree::Value;
 use cfa_values::value_named;
 use cfa_vars::{Expanded, expand};
 use std::alloc::Global;
 
-fn copy_id(alloc: Global, id: &PromiseId) -> Result<PromiseId, NoMemory>
+/// A copy of the id of a promise.
+pub fn copy_id(alloc: Global, id: &PromiseId) -> Result<PromiseId, NoMemory>
     ensures { IfOk result (λ copy. copy ≡ id.now) }
 {
     Ok(PromiseId {
@@ -95,14 +95,8 @@ pub(crate) fn bust_instance(
         failed: Names::new(alloc),
     };
     let minutes = control_minutes(reached.checked);
-    instance_of(
-        alloc,
-        reached,
-        &reached.promise.promiser,
-        work,
-        none,
-        minutes,
-    )
+    let promiser = &reached.promise.promiser;
+    instance_of(alloc, reached, promiser, work, none, minutes)
 }
 
 fn promiser_in(
@@ -154,15 +148,23 @@ fn files_work(
     promiser: &Name,
     bodies: &Bodies,
     choice: &[(Name, Name)],
+    scripted: Option<Scripted>,
 ) -> Result<Work, NoMemory>
     ensures { IfOk result (λ w. w ≡ of_acts (file_acts promiser.now
         (text_of (seen_reached reached.now) choice.now (codes "create"))
-        (text_of (seen_reached reached.now) choice.now (codes "content")) bodies.now)) }
+        (text_of (seen_reached reached.now) choice.now (codes "content")) bodies.now scripted)) }
 {
     let (promise, scopes) = (reached.promise, &reached.scopes);
     let create = own_text(alloc, promise, "create", scopes, choice)?;
     let content = own_text(alloc, promise, "content", scopes, choice)?;
-    let acts = file_acts(alloc, promiser.as_str(), &create, &content, bodies)?;
+    let acts = file_acts(
+        alloc,
+        promiser.as_str(),
+        &create,
+        &content,
+        bodies,
+        scripted,
+    )?;
     Ok(Work::Acts(Acts::from_vec(acts)))
 }
 
@@ -193,13 +195,14 @@ fn work_by(
     promiser: &Name,
     bodies: &Bodies,
     choice: &[(Name, Name)],
+    scripted: Option<Scripted>,
 ) -> Result<Work, NoMemory>
     requires { promiser.now ≡ promiser_in (seen_reached reached.now) choice.now }
-    ensures { IfOk result (λ w. w
-        ≡ work_by (seen_reached reached.now) choice.now bodies.now reached.now.promise_type) }
+    ensures { IfOk result (λ w. w ≡ work_by (seen_reached reached.now) choice.now bodies.now
+        scripted reached.now.promise_type) }
 {
     match reached.promise_type {
-        PromiseType::Files => files_work(alloc, reached, promiser, bodies, choice),
+        PromiseType::Files => files_work(alloc, reached, promiser, bodies, choice, scripted),
         PromiseType::Services => services_work(alloc, reached, promiser, choice),
         PromiseType::Methods => call_work(alloc, reached, choice),
         PromiseType::Reports => Ok(Work::Report(promiser.copy(alloc)?)),
@@ -231,27 +234,53 @@ fn outcomes_of(alloc: Global, bodies: &Bodies) -> Result<Outcomes, NoMemory>
     })
 }
 
-/// The instance of a combination, where nothing that a body says keeps it from being made.
+fn minutes_in(reached: &Reached<'_>, bodies: &Bodies) -> Option<u32>
+    ensures { result ≡ minutes_in (seen_reached reached.now) bodies.now }
+{
+    minutes_said(reached, bodies.said("action", "ifelapsed"))
+}
+
+/// The instance of a combination, where nothing that its bodies and its edit bundle say keeps it from being made.
 #[tactic(auto, unfolding(crate::specs::Instances::made_instance))]
 pub(crate) fn made_instance(
     alloc: Global,
     reached: &Reached<'_>,
     bodies: &Bodies,
     choice: &[(Name, Name)],
+    scripted: Option<Scripted>,
 ) -> Result<Instance, NoMemory>
-    ensures { IfOk result
-        (λ i. i ≡ made_instance (seen_reached reached.now) choice.now bodies.now) }
+    ensures { IfOk result (λ i. i
+        ≡ made_instance (seen_reached reached.now) choice.now bodies.now scripted) }
 {
     let promiser = promiser_in(alloc, reached, choice)?;
     let outcomes = outcomes_of(alloc, bodies)?;
-    match minutes_said(reached, bodies.said("action", "ifelapsed")) {
+    match minutes_in(reached, bodies) {
         None => {
             let work = Work::Acts(one_act(alloc, Act::Bust(Reason::BadValue))?);
             instance_of(alloc, reached, &promiser, work, outcomes, 1)
         }
         Some(minutes) => {
-            let work = work_by(alloc, reached, &promiser, bodies, choice)?;
+            let work = work_by(alloc, reached, &promiser, bodies, choice, scripted)?;
             instance_of(alloc, reached, &promiser, work, outcomes, minutes)
         }
     }
+}
+
+/// The instance of what a promise of the edit bundle hands over.
+#[tactic(auto, unfolding(crate::specs::Instances::handed_instance))]
+pub(crate) fn handed_instance(
+    alloc: Global,
+    reached: &Reached<'_>,
+    bodies: &Bodies,
+    reason: Reason,
+) -> Result<Instance, NoMemory>
+    requires { IsOwn reason }
+    ensures { IfOk result
+        (λ i. i ≡ handed_instance (seen_reached reached.now) bodies.now reason) }
+{
+    let work = Work::Acts(one_act(alloc, Act::Bust(reason))?);
+    let outcomes = outcomes_of(alloc, bodies)?;
+    let minutes = minutes_in(reached, bodies).unwrap_or(1);
+    let written = &reached.promise.promiser;
+    instance_of(alloc, reached, written, work, outcomes, minutes)
 }

@@ -4,10 +4,10 @@ ghost use Rattle.std.specs.List.{cons_option, list_any};
 ghost use Rattle.cfa_acts.specs.Acts.{IsAct};
 ghost use Rattle.cfa_resolve.specs.FileActs.{mode_said, is_empty, full_list, names_said, perms_by, perms_act, perms_acts};
 
-use crate::sayings::{Said, Sayings};
-use crate::values::{mode_written, text_in};
+use crate::values::mode_written;
 use cfa_acts::{Act, Reason};
 use cfa_base::{Name, Names, NoMemory};
+use cfa_bodies::{Said, Sayings, text_in};
 use cfa_outside::Path;
 use std::alloc::Global;
 

@@ -1,5 +1,6 @@
 // An activation's promise.
 use cfa_base::{Name, PromiseId};
+use cfa_classes::Statuses;
 use cfa_kinds::PromiseType;
 use cfa_schema::Checked;
 use cfa_tree::Promise;
@@ -13,5 +14,6 @@ pub(crate) struct Reached<'a> {
     pub promise_type: PromiseType,
     pub promise: &'a Promise,
     pub scopes: Scopes<'a>,
+    pub statuses: &'a Statuses,
     pub path: &'a Name,
 }

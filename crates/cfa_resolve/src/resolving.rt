@@ -1,26 +1,35 @@
 // What promises resolve to.
-ghost use Rattle.std.specs.Prelude.{◌≡◌, ◌++◌, ◌∷◌, [], ◌≤◌, ◌<◌, ℕ, List, Some, IfOk, IfSome, IsErrOf, IsTrue, OnOk, ◌↔◌};
+ghost use Rattle.std.specs.Prelude.{◌≡◌, ◌+◌, ◌^◌, ◌++◌, ◌∷◌, [], ◌≤◌, ◌<◌, ℕ, List, Some, IfOk, IfSome, IsErrOf, IsTrue, OnOk, ◌↔◌, length, option_map};
 ghost use Rattle.std.specs.List.{cons_option};
+ghost use Rattle.cfa_base.specs.Patterns.{SizeRefusal};
+ghost use Rattle.cfa_classes.specs.Raised.{status_in};
 ghost use Rattle.cfa_schema.specs.Checked.{typed_promise_of};
 ghost use Rattle.cfa_schema.specs.Seen.{tree_of};
+ghost use Rattle.cfa_tree.specs.Plain.{plain_value};
 ghost use Rattle.cfa_vars.specs.Scopes.{in_scope};
 ghost use Rattle.cfa_acts.specs.Acts.{IsOwn};
+ghost use Rattle.cfa_scripts.specs.EditPromises.{at_least_one};
+ghost use Rattle.cfa_scripts.specs.Refusals.{too_big_in as script_too_big_in};
+ghost use Rattle.cfa_resolve.specs.declared.resolving.Made.TheVariants.{Instance as an_instance};
 ghost use Rattle.cfa_resolve.specs.Instances.{bust_instance};
-ghost use Rattle.cfa_resolve.specs.Resolution.{made, instance_in, name_in, is_among, with_name, instances_for, names_after, visits_of, resolved_as, resolution, is_acting, IsActing, resolution_of};
+ghost use Rattle.cfa_resolve.specs.Resolution.{caller_of, edit_call, walked_for, visits_in, unsettled_in, made_by_script, unless_unresolved, made, made_for, instance_in, name_in, is_among, with_name, instances_for, names_after, inner_visits, inner_unsettled, resolved_among, resolved_as, resolution, is_acting, IsActing, resolution_of, choices_found, IsBuiltByCall, IsBuiltAmong, IsBuiltFor};
 ghost use Rattle.cfa_resolve.specs.SeenReached.{seen_reached};
+ghost use Rattle.cfa_resolve.specs.Viewed.{reached_in, too_big_in, IsBuiltAt};
 
-use crate::bodies::bodies_of;
-use crate::combining::{Combined, combine};
-use crate::hearing::{Heard, hear};
-use crate::making::{bust_instance, made_instance};
+use crate::making::{bust_instance, handed_instance, made_instance};
 use crate::reached::Reached;
-use crate::reads::own_reads;
-use crate::{Instance, Instances, ResolveErr, Resolved, UnsettledList, View};
+use crate::{FoundPromise, Instance, Instances, ResolveErr, Resolved, View};
 use cfa_acts::Reason;
 use cfa_base::{Name, Names, NoMemory, Patterns, PromiseId};
+use cfa_bodies::{Bodies, Heard, bodies_of, hear};
+use cfa_defines::{Combined, combine, own_reads};
 use cfa_kinds::PromiseType;
 use cfa_schema::Checked;
-use cfa_values::has_attribute;
+use cfa_scripts::{
+    Caller, ScriptErr, Scripted, UnsettledList, Walked, count_combined, walk_bundle,
+};
+use cfa_tree::Value;
+use cfa_values::value_named;
 use cfa_vars::Choice;
 use std::alloc::Global;
 
@@ -32,9 +41,101 @@ pub(crate) enum Made {
     Nothing(Option<Name>),
 }
 
+// The value of the attribute that calls the edit bundle of a promise.
+fn edit_call<'r>(reached: &Reached<'r>) -> Option<&'r Value>
+    ensures { option_map (λ value. plain_value value.now) result
+        ≡ edit_call (seen_reached reached.now) }
+{
+    match reached.promise_type {
+        PromiseType::Files => value_named(reached.promise.attributes.as_slice(), "edit_line"),
+        _ => None,
+    }
+}
+
+// What comes of the edit bundle in one combination, if the promise calls one.
+fn walk_for<P: Patterns>(
+    alloc: Global,
+    reached: &Reached<'_>,
+    choice: &[(Name, Name)],
+    left: u64,
+    pats: &mut P,
+) -> Result<Option<Walked>, ScriptErr>
+    ensures walk { IfOk result (λ w. w ≡ walked_for (seen_reached reached.now) choice.now) }
+    ensures within { IfOk result (λ w. visits_in w ≤ left) }
+    ensures too_large { IsErrOf result ScriptErr.TooLarge →
+        left < visits_in (walked_for (seen_reached reached.now) choice.now) }
+    ensures sizes { SizeRefusal (IsBuiltByCall (caller_of (seen_reached reached.now) choice.now)
+        (edit_call (seen_reached reached.now)))
+        (script_too_big_in result) (P.shown pats.old) (P.shown pats.new) }
+{
+    match edit_call(reached) {
+        None => Ok(None),
+        Some(call) => {
+            let caller = Caller {
+                checked: reached.checked,
+                scopes: reached.scopes,
+                statuses: reached.statuses,
+                choice,
+            };
+            Ok(Some(walk_bundle(alloc, &caller, call, left, pats)?))
+        }
+    }
+}
+
+// What one combination comes to, where nothing that its bodies say keeps it from being made.
+fn make_scripted(
+    alloc: Global,
+    reached: &Reached<'_>,
+    choice: &[(Name, Name)],
+    bodies: &Bodies,
+    scripted: Option<Scripted>,
+) -> Result<Made, NoMemory>
+    ensures { IfOk result (λ m. m
+        ≡ made_by_script (seen_reached reached.now) choice.now bodies.now scripted) }
+{
+    match scripted {
+        Some(Scripted::Unresolved(name)) => Ok(Made::Nothing(name)),
+        Some(Scripted::TooMany) => Ok(Made::Instance(handed_instance(
+            alloc,
+            reached,
+            bodies,
+            Reason::TooMany,
+        )?)),
+        Some(Scripted::TooLong) => Ok(Made::Instance(handed_instance(
+            alloc,
+            reached,
+            bodies,
+            Reason::TooLong,
+        )?)),
+        other => Ok(Made::Instance(made_instance(alloc, reached, bodies, choice, other)?)),
+    }
+}
+
+// The instance of a list or text of a body that is too long, unless something in the edit bundle is unresolved.
+fn make_bust(
+    alloc: Global,
+    reached: &Reached<'_>,
+    scripted: Option<Scripted>,
+    reason: Reason,
+) -> Result<Made, NoMemory>
+    requires { IsOwn reason }
+    ensures { IfOk result (λ m. m ≡ unless_unresolved scripted
+        (an_instance (bust_instance (seen_reached reached.now) reason))) }
+{
+    match scripted {
+        Some(Scripted::Unresolved(name)) => Ok(Made::Nothing(name)),
+        _ => Ok(Made::Instance(bust_instance(alloc, reached, reason)?)),
+    }
+}
+
 #[tactic(auto, unfolding(crate::specs::Resolution::made))]
-fn make(alloc: Global, reached: &Reached<'_>, choice: &[(Name, Name)]) -> Result<Made, NoMemory>
-    ensures { IfOk result (λ m. m ≡ made (seen_reached reached.now) choice.now) }
+fn make(
+    alloc: Global,
+    reached: &Reached<'_>,
+    choice: &[(Name, Name)],
+    scripted: Option<Scripted>,
+) -> Result<Made, NoMemory>
+    ensures { IfOk result (λ m. m ≡ made (seen_reached reached.now) choice.now scripted) }
 {
     let bodies = bodies_of(
         alloc,
@@ -46,9 +147,9 @@ fn make(alloc: Global, reached: &Reached<'_>, choice: &[(Name, Name)]) -> Result
     )?;
     match hear(alloc, &bodies)? {
         Heard::Lacks(name) => Ok(Made::Nothing(name)),
-        Heard::TooMany => Ok(Made::Instance(bust_instance(alloc, reached, Reason::TooMany)?)),
-        Heard::TooLong => Ok(Made::Instance(bust_instance(alloc, reached, Reason::TooLong)?)),
-        Heard::All => Ok(Made::Instance(made_instance(alloc, reached, &bodies, choice)?)),
+        Heard::TooMany => make_bust(alloc, reached, scripted, Reason::TooMany),
+        Heard::TooLong => make_bust(alloc, reached, scripted, Reason::TooLong),
+        Heard::All => make_scripted(alloc, reached, choice, &bodies, scripted),
     }
 }
 
@@ -90,44 +191,88 @@ fn add_made(instances: &mut Vec<Instance>, names: &mut Names, made: Made) -> Res
     }
 }
 
-/// The instances of all combinations, and the names that kept something from being made.
+/// What was made of combinations so far.
 #[derive(Drop)]
 struct AllMade {
-    instances: Instances,
+    instances: Vec<Instance>,
     names: Names,
+    unsettled: UnsettledList,
+    /// How many visits the edit bundle counted.
+    visits: u64,
 }
 
-fn make_all(alloc: Global, reached: &Reached<'_>, choices: &[Choice]) -> Result<AllMade, NoMemory>
+fn count_walk(walk: &Option<Walked>) -> u64
+    ensures { result ≡ visits_in walk.now }
+{
+    match walk {
+        Some(walk) => walk.visits,
+        None => 0,
+    }
+}
+
+// Adds one combination to what was made.
+fn add_choice(
+    alloc: Global,
+    reached: &Reached<'_>,
+    choice: &[(Name, Name)],
+    walk: Option<Walked>,
+    all: &mut AllMade,
+) -> Result<(), NoMemory>
+    requires room { all.old.visits + visits_in walk < 2 ^ 64 }
+    requires walk { walk ≡ walked_for (seen_reached reached.now) choice.now }
+    ensures instances { OnOk result (all.new.instances.items ≡ all.old.instances.items
+        ++ cons_option (instance_in (made_for (seen_reached reached.now) choice.now)) []) }
+    ensures names { OnOk result (all.new.names
+        ≡ with_name all.old.names (name_in (made_for (seen_reached reached.now) choice.now))) }
+    ensures unsettled { OnOk result (all.new.unsettled
+        ≡ all.old.unsettled ++ unsettled_in (walked_for (seen_reached reached.now) choice.now)) }
+    ensures visits { OnOk result (all.new.visits
+        ≡ all.old.visits + visits_in (walked_for (seen_reached reached.now) choice.now)) }
+{
+    all.visits += count_walk(&walk);
+    let scripted = match walk {
+        Some(walk) => {
+            all.unsettled.append(walk.unsettled)?;
+            Some(walk.scripted)
+        }
+        None => None,
+    };
+    let made = make(alloc, reached, choice, scripted)?;
+    add_made(&mut all.instances, &mut all.names, made)
+}
+
+fn make_all<P: Patterns>(
+    alloc: Global,
+    reached: &Reached<'_>,
+    choices: &[Choice],
+    left: u64,
+    pats: &mut P,
+) -> Result<AllMade, ResolveErr>
     ensures instances { IfOk result
-        (λ all. all.instances ≡ instances_for (seen_reached reached.now) choices.now) }
+        (λ all. all.instances.items ≡ instances_for (seen_reached reached.now) choices.now) }
     ensures names { IfOk result
         (λ all. all.names ≡ names_after (seen_reached reached.now) [] choices.now) }
+    ensures unsettled { IfOk result
+        (λ all. all.unsettled ≡ inner_unsettled (seen_reached reached.now) choices.now) }
+    ensures visits { IfOk result
+        (λ all. all.visits ≡ inner_visits (seen_reached reached.now) choices.now) }
+    ensures within { IfOk result (λ all. all.visits ≤ left) }
+    ensures too_large { IsErrOf result ResolveErr.TooLarge →
+        left < inner_visits (seen_reached reached.now) choices.now }
+    ensures sizes { SizeRefusal (IsBuiltAmong (seen_reached reached.now) choices.now)
+        (too_big_in result) (P.shown pats.old) (P.shown pats.new) }
 {
-    let mut instances = Vec::new(alloc);
-    let mut names = Names::new(alloc);
+    let mut all = AllMade {
+        instances: Vec::new(alloc),
+        names: Names::new(alloc),
+        unsettled: UnsettledList::from_vec(Vec::new(alloc)),
+        visits: 0,
+    };
     for choice in choices {
-        let made = make(alloc, reached, choice.as_slice())?;
-        add_made(&mut instances, &mut names, made)?;
+        let walk = walk_for(alloc, reached, choice.as_slice(), left - all.visits, pats)?;
+        add_choice(alloc, reached, choice.as_slice(), walk, &mut all)?;
     }
-    Ok(AllMade {
-        instances: Instances::from_vec(instances),
-        names,
-    })
-}
-
-// How many visits are counted.
-fn visits_of(combined: &Combined) -> u64
-    ensures { result ≡ visits_of combined.now }
-{
-    match combined {
-        Combined::Lacks(_) => 1,
-        Combined::TooMany => 1,
-        Combined::TooLong(combinations) => *combinations as u64,
-        Combined::Found(choices) => {
-            let count = choices.as_slice().len();
-            if count == 0 { 1 } else { count as u64 }
-        }
-    }
+    Ok(all)
 }
 
 fn one_instance(
@@ -172,45 +317,82 @@ fn one_name(alloc: Global, name: Name) -> Result<Resolved, NoMemory>
     })
 }
 
-fn resolved_as(
+fn resolved_choices<P: Patterns>(
+    alloc: Global,
+    reached: &Reached<'_>,
+    choices: &[Choice],
+    left: u64,
+    pats: &mut P,
+) -> Result<Resolved, ResolveErr>
+    requires { at_least_one (length choices.now) ≤ left }
+    ensures resolved { IfOk result
+        (λ r. r ≡ resolved_among (seen_reached reached.now) choices.now) }
+    ensures within { IfOk result (λ r. r.visits ≤ left) }
+    ensures too_large { IsErrOf result ResolveErr.TooLarge →
+        left < (resolved_among (seen_reached reached.now) choices.now).visits }
+    ensures sizes { SizeRefusal (IsBuiltAmong (seen_reached reached.now) choices.now)
+        (too_big_in result) (P.shown pats.old) (P.shown pats.new) }
+{
+    let own = if choices.is_empty() {
+        1
+    } else {
+        choices.len() as u64
+    };
+    let all = make_all(alloc, reached, choices, left - own, pats)?;
+    Ok(Resolved {
+        instances: Instances::from_vec(all.instances),
+        unresolved: all.names,
+        unsettled: all.unsettled,
+        visits: own + all.visits,
+    })
+}
+
+fn resolved_as<P: Patterns>(
     alloc: Global,
     reached: &Reached<'_>,
     combined: Combined,
-) -> Result<Resolved, NoMemory>
-    ensures { IfOk result (λ r. r ≡ resolved_as (seen_reached reached.now) combined) }
+    left: u64,
+    pats: &mut P,
+) -> Result<Resolved, ResolveErr>
+    ensures resolved { IfOk result (λ r. r ≡ resolved_as (seen_reached reached.now) combined) }
+    ensures within { IfOk result (λ r. r.visits ≤ left) }
+    ensures too_large { IsErrOf result ResolveErr.TooLarge →
+        left < (resolved_as (seen_reached reached.now) combined).visits }
+    ensures sizes { SizeRefusal (IsBuiltAmong (seen_reached reached.now) (choices_found combined))
+        (too_big_in result) (P.shown pats.old) (P.shown pats.new) }
 {
-    let visits = visits_of(&combined);
+    let visits = count_combined(&combined);
+    if visits > left {
+        return Err(ResolveErr::TooLarge);
+    }
     match combined {
-        Combined::Lacks(name) => one_name(alloc, name),
-        Combined::TooMany => one_instance(alloc, reached, Reason::TooMany, 1),
-        Combined::TooLong(_) => one_instance(alloc, reached, Reason::TooLong, visits),
+        Combined::Lacks(name) => Ok(one_name(alloc, name)?),
+        Combined::TooMany => Ok(one_instance(alloc, reached, Reason::TooMany, 1)?),
+        Combined::TooLong(_) => Ok(one_instance(alloc, reached, Reason::TooLong, visits)?),
         Combined::Found(choices) => {
-            let all = make_all(alloc, reached, choices.as_slice())?;
-            Ok(Resolved {
-                instances: all.instances,
-                unresolved: all.names,
-                unsettled: UnsettledList::from_vec(Vec::new(alloc)),
-                visits,
-            })
+            resolved_choices(alloc, reached, choices.as_slice(), left, pats)
         }
     }
 }
 
 // What a promise resolves to, where it counts no more visits than are left.
-#[tactic(auto, unfolding(crate::specs::Resolution::resolution), using(crate::proofs::ResolutionLemmas::visits_counted))]
-fn resolution(alloc: Global, reached: &Reached<'_>, left: u64) -> Result<Resolved, ResolveErr>
+#[tactic(auto, unfolding(crate::specs::Resolution::resolution))]
+fn resolution<P: Patterns>(
+    alloc: Global,
+    reached: &Reached<'_>,
+    left: u64,
+    pats: &mut P,
+) -> Result<Resolved, ResolveErr>
     ensures resolved { IfOk result (λ r. r ≡ resolution (seen_reached reached.now)) }
     ensures within { IfOk result (λ r. r.visits ≤ left) }
     ensures too_large { IsErrOf result ResolveErr.TooLarge →
         left < (resolution (seen_reached reached.now)).visits }
-    ensures patterns { (name : List ℕ) → ¬ IsErrOf result (ResolveErr.PatternTooBig name) }
+    ensures sizes { SizeRefusal (IsBuiltFor (seen_reached reached.now))
+        (too_big_in result) (P.shown pats.old) (P.shown pats.new) }
 {
     let reads = own_reads(alloc, reached.promise_type, reached.promise)?;
     let combined = combine(alloc, reads, &reached.scopes)?;
-    if visits_of(&combined) > left {
-        return Err(ResolveErr::TooLarge);
-    }
-    Ok(resolved_as(alloc, reached, combined)?)
+    resolved_as(alloc, reached, combined, left, pats)
 }
 
 fn has_instances(promise_type: PromiseType) -> bool
@@ -222,26 +404,56 @@ fn has_instances(promise_type: PromiseType) -> bool
     )
 }
 
-/// Whether an id names a promise that `resolve` takes, without taking memory: one of files, methods, services or reports,
-/// without line edits.
+/// Whether an id names a promise that `resolve` takes, without taking memory: one of files, methods, services or reports.
 pub fn is_acting(checked: &Checked, promise: &PromiseId) -> bool
     ensures { IsTrue result ↔ IsActing (typed_promise_of (tree_of checked.now) promise.now) }
 {
     match checked.typed_promise(promise) {
         None => false,
-        Some((promise_type, found)) => {
-            has_instances(promise_type) && !has_attribute(found.attributes.as_slice(), "edit_line")
-        }
+        Some((promise_type, _)) => has_instances(promise_type),
     }
+}
+
+/// What a promise of a policy resolves to, as `resolve` says. It is handed with its id and its type, so that it needn't be
+/// looked up.
+pub fn resolve_promise<P: Patterns>(
+    alloc: Global,
+    checked: &Checked,
+    found: &FoundPromise<'_>,
+    view: &View<'_>,
+    left: u64,
+    pats: &mut P,
+) -> Result<Resolved, ResolveErr>
+    requires { IsTrue (is_acting found.now.promise_type) }
+    ensures resolved { IfOk result (λ r. r
+        ≡ resolution (reached_in (tree_of checked.now) found.now view.now)) }
+    ensures within { IfOk result (λ r. r.visits ≤ left) }
+    ensures too_large { IsErrOf result ResolveErr.TooLarge →
+        left < (resolution (reached_in (tree_of checked.now) found.now view.now)).visits }
+    ensures sizes { SizeRefusal (IsBuiltFor (reached_in (tree_of checked.now) found.now view.now))
+        (too_big_in result) (P.shown pats.old) (P.shown pats.new) }
+{
+    let reached = Reached {
+        checked,
+        id: found.id,
+        promise_type: found.promise_type,
+        promise: found.promise,
+        scopes: view.scopes,
+        statuses: view.statuses,
+        path: view.path,
+    };
+    resolution(alloc, &reached, left, pats)
 }
 
 /// What a promise resolves to in a view: an instance for each combination of the items of the lists that its own texts
 /// refer to, in their order, but for those in which something that a body says is unresolved; the names that kept
-/// something from being made; and how many visits it counts.
+/// something from being made; and how many visits it counts. The edit bundle that a files promise calls is walked once for
+/// each combination, also where a body is unresolved or the path is wrong: it gives the script, the promises whose guards may
+/// hold or not, and visits of its own.
 ///
-/// The promise is one of files, methods, services or reports, without line edits. Its guard isn't read. `TooLarge` comes
-/// exactly where it counts more visits than are left. No pattern is built, so that `PatternTooBig` never comes. The time
-/// is near to linear in what its instances and bodies say in their combinations, besides a logarithm of the bodies of the
+/// The promise is one of files, methods, services or reports. Its guard isn't read. `TooLarge` comes exactly where it counts
+/// more visits than are left, and `PatternTooBig` only where a pattern of its edit bundle was refused so. The time is near to
+/// linear in what its instances, bodies and edit bundles say in their combinations, besides a logarithm of the bodies of the
 /// policy for each body.
 #[tactic(auto, unfolding(crate::specs::Resolution::resolution_of))]
 pub fn resolve<P: Patterns>(
@@ -254,22 +466,20 @@ pub fn resolve<P: Patterns>(
 ) -> Result<Resolved, ResolveErr>
     requires { IsActing (typed_promise_of (tree_of checked.now) promise.now) }
     ensures resolved { IfOk result (λ r. resolution_of (tree_of checked.now) promise.now
-        (in_scope view.now.scopes) view.now.path.now ≡ Some r) }
+        (in_scope view.now.scopes) (status_in view.now.statuses.now) view.now.path.now ≡ Some r) }
     ensures within { IfOk result (λ r. r.visits ≤ left) }
     ensures too_large { IsErrOf result ResolveErr.TooLarge →
         IfSome (resolution_of (tree_of checked.now) promise.now
-        (in_scope view.now.scopes) view.now.path.now) (λ r. left < r.visits) }
-    ensures no_pattern { (name : List ℕ) → ¬ IsErrOf result (ResolveErr.PatternTooBig name) }
-    ensures patterns { P.shown pats.new ≡ P.shown pats.old }
+        (in_scope view.now.scopes) (status_in view.now.statuses.now) view.now.path.now)
+        (λ r. left < r.visits) }
+    ensures sizes { SizeRefusal (IsBuiltAt (tree_of checked.now) promise.now view.now)
+        (too_big_in result) (P.shown pats.old) (P.shown pats.new) }
 {
     let (promise_type, found) = checked.typed_promise(promise).unwrap();
-    let reached = Reached {
-        checked,
+    let found = FoundPromise {
         id: promise,
         promise_type,
         promise: found,
-        scopes: view.scopes,
-        path: view.path,
     };
-    resolution(alloc, &reached, left)
+    resolve_promise(alloc, checked, &found, view, left, pats)
 }

@@ -4,11 +4,10 @@ ghost use Rattle.cfa_kinds.specs.Forms.{minutes_written};
 ghost use Rattle.cfa_tree.specs.Plain.{plain_promise};
 ghost use Rattle.cfa_vars.specs.Scopes.{in_scope};
 ghost use Rattle.cfa_resolve.specs.Lengths.{IsShort};
-ghost use Rattle.cfa_resolve.specs.FileActs.{truth, mode_written, text_in, own_text};
+ghost use Rattle.cfa_resolve.specs.FileActs.{truth, mode_written, own_text};
 
-use crate::arguments::whole_or_empty;
-use crate::sayings::Said;
 use cfa_base::{Name, NoMemory};
+use cfa_bodies::whole_or_empty;
 use cfa_functions::text_of_value;
 use cfa_kinds::{Form, has_form, minutes};
 use cfa_tree::Promise;
@@ -57,18 +56,6 @@ pub(crate) fn minutes_written(text: &str) -> Option<u32>
     match minutes(text) {
         Some(number) => Some(short_minutes(number)),
         None => None,
-    }
-}
-
-/// What is said as a text, empty where it is none.
-pub(crate) fn text_in(said: &Said) -> &str
-    ensures { result.now ≡ text_in said.now }
-{
-    match said {
-        Said::Text(content) => content.as_str(),
-        Said::Items(_) => "",
-        Said::Unresolved(_) => "",
-        Said::Over(_) => "",
     }
 }
 

@@ -11,8 +11,6 @@ mod base;
 #[cfg(test)]
 mod calls;
 #[cfg(test)]
-mod checked;
-#[cfg(test)]
 mod classes;
 #[cfg(test)]
 mod demo;
@@ -44,8 +42,6 @@ mod outside;
 mod parser;
 #[cfg(test)]
 mod printer;
-#[cfg(test)]
-mod resolve;
 #[cfg(test)]
 mod sources;
 #[cfg(test)]

@@ -23,8 +23,8 @@ use Rattle.cfa_schema.specs.Served.{body_of, bundle_of, common_bundles_of, minut
 use Rattle.cfa_resolve.specs.declared.instances.Instance.{Instance}
 use Rattle.cfa_resolve.specs.declared.instances.Work.{Work}
 use Rattle.cfa_resolve.specs.declared.instances.Work.TheVariants.{Acts, Call, Report}
-use Rattle.cfa_resolve.specs.OwnTexts.{own_reads, combined}
-use Rattle.cfa_resolve.specs.Bodies.{datum_given, bodies_of, heard}
+use Rattle.cfa_defines.specs.OwnTexts.{own_reads, combined}
+use Rattle.cfa_bodies.specs.Bodies.{datum_given, bodies_of, heard}
 use Rattle.cfa_resolve.specs.FileActs.{file_acts, service_act, outcome_classes}
 use Rattle.cfa_resolve.specs.KeyTexts.{mode_text, key_text}
 use Rattle.cfa_resolve.specs.Instances.{made_instance}
@@ -33,8 +33,8 @@ use Rattle.cfa_outcomes.specs.declared.outcomes.Outcome.{Outcome}
 use Rattle.cfa_outcomes.specs.declared.outcomes.Outcome.TheVariants.{Kept, Repaired}
 use Rattle.cfa_walk.specs.History.{History, Begun, Set, Raised, Reached, Listed, Told, visits_in}
 use Rattle.cfa_walk.specs.Views.{Setting, shared_names, shared_in}
-use Rattle.cfa_walk.specs.VarsPromises.{setting_choices, data_set}
-use Rattle.cfa_walk.specs.ClassPromises.{raises_of}
+use Rattle.cfa_defines.specs.VarsPromises.{setting_choices, data_set}
+use Rattle.cfa_defines.specs.ClassPromises.{raises_of}
 use Rattle.cfa_walk.specs.Tellers.{Teller, all_kept, open_walk, one_each, worst_in, inner_path}
 use Rattle.cfa_walk.specs.Passes.{Course, goes, too_large, run, common_passes, passes, calls_of, reach, visit, told}
 

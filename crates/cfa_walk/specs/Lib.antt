@@ -1,7 +1,11 @@
-pub mod ClassPromises
 pub mod History
 pub mod Numbered
 pub mod Passes
 pub mod Tellers
-pub mod VarsPromises
 pub mod Views
+pub mod Settings
+pub mod Kept
+pub mod SeenNumbered
+pub mod Levels
+pub mod Steps
+pub mod Raising

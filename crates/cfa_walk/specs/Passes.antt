@@ -29,11 +29,13 @@ use Rattle.cfa_resolve.specs.declared.instances.Work.TheVariants.{Acts, Call, Re
 use Rattle.cfa_resolve.specs.Resolution.{resolution, reached_at}
 use Rattle.cfa_outcomes.specs.declared.outcomes.Outcome.{Outcome}
 use Rattle.cfa_outcomes.specs.declared.outcomes.Outcome.TheVariants.{Kept, Repaired, Failed}
+use Rattle.cfa_walk.specs.declared.states.TheConstants.{MOST_VISITS}
 use Rattle.cfa_walk.specs.History.{History, Where, everywhere, within, Begun, Set, Raised, Reached, Listed, Told, mark_in, visits_in}
 use Rattle.cfa_walk.specs.Numbered.{Numbered, numbered_in, params_of, name_of, agent_types, common_types, of_type}
-use Rattle.cfa_walk.specs.Views.{Setting, Home, scopes_in, status_in, guard_status, first_maybe_of_guard, source_of}
-use Rattle.cfa_walk.specs.VarsPromises.{setting_choices, count_choices, data_set}
-use Rattle.cfa_walk.specs.ClassPromises.{Raise, raises_of}
+use Rattle.cfa_walk.specs.Views.{Setting, Home, scopes_in, global_status, status_in, guard_status, source_of}
+use Rattle.cfa_defines.specs.FirstMaybe.{first_maybe_of_guard}
+use Rattle.cfa_defines.specs.VarsPromises.{setting_choices, count_choices, data_set}
+use Rattle.cfa_defines.specs.ClassPromises.{Raise, raises_of}
 use Rattle.cfa_walk.specs.Tellers.{Teller, inner_path}
 
 -- a history that goes on, or one that ended as too large
@@ -44,6 +46,11 @@ pub data Course : Type 0 where
 abbrev pub then_on : Course → (History → Course) → Course
 then_on (goes h) next = next h
 then_on (too_large h) next = too_large h
+
+-- one after the other, from one of them on
+abbrev pub each : {X : Type 0} → (X → History → Course) → List X → History → Course
+each does [] h = goes h
+each does (x ∷ more) h = then_on (does x h) (each does more)
 
 -- ---- outcome classes
 
@@ -123,9 +130,7 @@ visit teller activate guard activation instance h =
 
 -- the instances of a promise, from one of them on
 abbrev pub instances_from : Teller → Calls → (guard activation : Status) → List Instance → History → Course
-instances_from teller activate guard activation [] h = goes h
-instances_from teller activate guard activation (instance ∷ more) h =
-    then_on (visit teller activate guard activation instance h) (instances_from teller activate guard activation more)
+instances_from teller activate guard activation = each (visit teller activate guard activation)
 
 -- ---- promises
 
@@ -153,7 +158,7 @@ raise_all before place path guard in_guard (r ∷ more) h =
 
 -- the most visits that a run counts
 abbrev pub most_visits : ℕ
-most_visits = 1000000
+most_visits = MOST_VISITS
 
 abbrev pub within_limit : Bool → Course → History → Course
 within_limit true course h = course
@@ -164,7 +169,7 @@ abbrev pub reached : Home → Numbered → (guard : Status) → (sets : Bool) �
 reached home p guard sets visits next h =
     within_limit (nat_le (visits + visits_in h) most_visits) (next (Reached home.path p.id guard sets visits ∷ h)) h
 
-module _ (s : Setting) (teller : Teller) where
+module _ (s : Setting) where
   abbrev pub vars_reached : Home → Numbered → Status → Option (List Chosen) → History → Course
   vars_reached home p guard choices h =
       reached home p guard true (count_choices choices)
@@ -176,23 +181,41 @@ module _ (s : Setting) (teller : Teller) where
       (λ k. goes (raise_all h place home.path guard (first_maybe_of_guard p.promise.guard (status_in s h home.path))
       (raises_of (status_in s h home.path) (scopes_in s h home) p.promise choices) k)) h
 
+abbrev pub sets_variable : PromiseType → Bool
+sets_variable promises.Vars = true
+sets_variable type = false
+
+-- the parameters with what the arguments give
+abbrev pub bind : (path : List ℕ) → List NamedTree → List Datum → History → History
+bind path [] given h = h
+bind path (p ∷ params) [] h = h
+bind path (p ∷ params) (datum ∷ given) h = bind path params given (Set path p.name datum ∷ h)
+
+module _ (s : Setting) (teller : Teller) where
   abbrev pub instances_reached : Calls → Home → (activation : Status) → Numbered → Status → Resolved → History → Course
   instances_reached activate home activation p guard resolved h =
       reached home p guard false resolved.visits (instances_from teller activate guard activation resolved.instances) h
 
-  -- a promise whose guard may hold
+  abbrev pub acting_reached : Calls → Home → (activation : Status) → Numbered → PromiseType → Status → History → Course
+  acting_reached activate home activation p type guard h =
+      instances_reached activate home activation p guard
+      (resolution (reached_at s.policy p.id (scopes_in s h home) (global_status s h) home.path (type, p.promise))) h
+
+  -- a promise whose guard may hold; no agent bundle has others
   abbrev pub kept_by : Calls → Where → Home → (activation : Status) → Numbered → PromiseType → Status → History → Course
   kept_by activate place home activation p promises.Vars guard h =
-      vars_reached home p guard (setting_choices (scopes_in s h home) promises.Vars p.promise) h
+      vars_reached s home p guard (setting_choices (scopes_in s h home) promises.Vars p.promise) h
   kept_by activate place home activation p promises.Classes guard h =
-      classes_reached place home p guard (setting_choices (scopes_in s h home) promises.Classes p.promise) h
-  kept_by activate place home activation p type guard h =
-      instances_reached activate home activation p guard
-      (resolution (reached_at s.policy p.id (scopes_in s h home) home.path (type, p.promise))) h
-
-  abbrev pub sets_variable : PromiseType → Bool
-  sets_variable promises.Vars = true
-  sets_variable type = false
+      classes_reached s place home p guard (setting_choices (scopes_in s h home) promises.Classes p.promise) h
+  kept_by activate place home activation p promises.Files guard h =
+      acting_reached activate home activation p promises.Files guard h
+  kept_by activate place home activation p promises.Methods guard h =
+      acting_reached activate home activation p promises.Methods guard h
+  kept_by activate place home activation p promises.Services guard h =
+      acting_reached activate home activation p promises.Services guard h
+  kept_by activate place home activation p promises.Reports guard h =
+      acting_reached activate home activation p promises.Reports guard h
+  kept_by activate place home activation p type guard h = goes h
 
   -- where the guard isn't set a promise counts once and does nothing
   abbrev pub guarded : Calls → Where → Home → (activation : Status) → Numbered → Status → History → Course
@@ -205,16 +228,13 @@ module _ (s : Setting) (teller : Teller) where
       guarded activate place home activation p (guard_status s h home.path p.promise.guard) h
 
   abbrev pub promises_from : Calls → Where → Home → (activation : Status) → List Numbered → History → Course
-  promises_from activate place home activation [] h = goes h
-  promises_from activate place home activation (p ∷ more) h =
-      then_on (reach activate place home activation p h) (promises_from activate place home activation more)
+  promises_from activate place home activation = each (reach activate place home activation)
 
   -- ---- passes
 
   abbrev pub types_from : Calls → Where → Home → (activation : Status) → List Numbered → List PromiseType → History → Course
-  types_from activate place home activation ps [] h = goes h
-  types_from activate place home activation ps (type ∷ types) h =
-      then_on (promises_from activate place home activation (of_type type ps) h) (types_from activate place home activation ps types)
+  types_from activate place home activation ps =
+      each (λ type. promises_from activate place home activation (of_type type ps))
 
   -- so many passes
   unfoldable pub passes : Calls → Where → Home → (activation : Status) → List Numbered → ℕ → History → Course
@@ -222,27 +242,25 @@ module _ (s : Setting) (teller : Teller) where
   passes activate place home activation ps (suc n) h =
       then_on (types_from activate place home activation ps agent_types h) (passes activate place home activation ps n)
 
-  -- the parameters with what the arguments give
-  abbrev pub bind : (path : List ℕ) → List NamedTree → List Datum → History → History
-  bind path [] given h = h
-  bind path (p ∷ params) [] h = h
-  bind path (p ∷ params) (datum ∷ given) h = bind path params given (Set path p.name datum ∷ h)
-
-  -- an activation of a bundle under a path, with arguments and a status
-  abbrev pub activation : Calls → (path : List ℕ) → Status → List Datum → Option BlockTree → History → Course
-  activation activate path status given None h = goes h
-  activation activate path status given (Some block) h =
+  -- a bundle is gone through under a path, with arguments and a status
+  abbrev pub through : Calls → (path : List ℕ) → Status → List Datum → Option BlockTree → History → Course
+  through activate path status given None h = goes h
+  through activate path status given (Some block) h =
       passes activate (within path) (record { path = path; bundle = name_of block }) status (numbered_in block) 3
-      (bind path (params_of block) given (Begun path given ∷ h))
+      (bind path (params_of block) given h)
+
+  -- an activation of a bundle
+  abbrev pub activation : Calls → (path : List ℕ) → Status → List Datum → Option BlockTree → History → Course
+  activation activate path status given found h = through activate path status given found (Begun path given ∷ h)
 
   abbrev pub called_by : Calls → (path : List ℕ) → Work → Status → History → Course
   called_by activate path (Acts acts) status h = goes h
   called_by activate path (Report content) status h = goes h
   called_by activate path (Call name given) status h = activation activate path status given (bundle_of s.policy name) h
 
-  -- calls inside calls, so deep
+  -- calls inside calls, so deep; one that would be deeper, which no valid policy has, begins and does nothing
   unfoldable pub calls_of : ℕ → Calls
-  calls_of zero = λ instance status h. goes h
+  calls_of zero = λ instance status h. goes (Begun (inner_path instance) [] ∷ h)
   calls_of (suc n) = λ instance status h. called_by (calls_of n) (inner_path instance) instance.work status h
 
   -- no chain of calls is longer than there are blocks
@@ -251,11 +269,12 @@ module _ (s : Setting) (teller : Teller) where
 
   -- ---- common bundles
 
+  abbrev pub through_common : BlockTree → History → Course
+  through_common block =
+      types_from all_calls everywhere (record { path = name_of block; bundle = name_of block }) Yes (numbered_in block) common_types
+
   abbrev pub commons_from : List BlockTree → History → Course
-  commons_from [] h = goes h
-  commons_from (block ∷ more) h =
-      then_on (types_from all_calls everywhere (record { path = name_of block; bundle = name_of block }) Yes (numbered_in block) common_types h)
-      (commons_from more)
+  commons_from = each through_common
 
   unfoldable pub common_passes : ℕ → History → Course
   common_passes zero h = goes h
@@ -279,8 +298,7 @@ module _ (s : Setting) (teller : Teller) where
   in_sequence name found h = by_type name (type_of_block found) found h
 
   abbrev pub sequence_from : List (List ℕ) → History → Course
-  sequence_from [] h = goes h
-  sequence_from (name ∷ names) h = then_on (in_sequence name (bundle_of s.policy name) h) (sequence_from names)
+  sequence_from = each (λ name. in_sequence name (bundle_of s.policy name))
 
   -- the whole run
   unfoldable pub run : Course

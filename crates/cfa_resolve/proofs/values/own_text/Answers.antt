@@ -1,7 +1,7 @@
 use Rattle.std.proofs.Common.{ap, sym, subst, List, ℕ, length, ◌≤◌, ◌∙◌}
 use Rattle.cfa_tree.specs.Plain.{plain_value}
 use Rattle.cfa_vars.specs.Scopes.{in_scope}
-use Rattle.cfa_resolve.specs.Bodies.{whole_or_empty}
+use Rattle.cfa_bodies.specs.Bodies.{whole_or_empty}
 use Rattle.cfa_resolve.proofs.FileLemmas.{given_short}
 use Rattle.cfa_resolve.proofs.values.own_text.Goals as goal
 

@@ -1,0 +1,115 @@
+-- What acts do depends on nothing of a world but its nodes and its services.
+use Rattle.std.proofs.Common.{◌≡◌, ℕ, true, false, List, [], ◌∷◌, ◌++◌, refl, sym, ap, ◌∙◌, IsTrue, subst, Bool, nat_lt}
+use Rattle.std.specs.Prelude.{if◌then◌else◌}
+use Rattle.cfa_outside.specs.declared.worlds.World.{World}
+use Rattle.cfa_outside.specs.declared.sites.Change.{Change}
+use Rattle.cfa_outside.specs.declared.sites.Change.TheVariants.{PutFile, PutDir, Remove, SetPerms, PutService, PutLock, Append}
+use Rattle.cfa_outside.specs.declared.sites.Entry.{Entry}
+use Rattle.cfa_outside.specs.Sites.{fits, after, after_change}
+use Rattle.cfa_outside.specs.Worlds.{put_file, put_directory, set_perms}
+use Rattle.cfa_acts.specs.declared.acts.Act.{Act}
+use Rattle.cfa_acts.specs.declared.acts.Act.TheVariants as act
+use Rattle.cfa_acts.specs.declared.acts.Decision.{Decision}
+use Rattle.cfa_acts.specs.declared.acts.Decision.TheVariants as decisions
+use Rattle.cfa_acts.specs.Acts.{decision, post, needed}
+use Rattle.cfa_walk.specs.Tellers.{Actuated, actuated, actuated_by, changing}
+use Rattle.std.specs.FinMap as map
+use Rattle.cfa_resolve.specs.declared.instances.Instance.{Instance}
+use Rattle.cfa_agent.specs.declared.recording.Heading.{Heading}
+use Rattle.cfa_journal.specs.declared.records.Record.TheVariants.{Open}
+use Rattle.cfa_locks.specs.Locks.{key_of}
+use Rattle.cfa_agent.specs.Actuations.{run_record, appended}
+use Rattle.cfa_agent.specs.Recording.{opening, opening_at}
+use Rattle.cfa_agent.proofs.Logs.{after_both}
+
+pub record SameHost (a b : World) : Type 0 where
+  pub nodes : a.nodes ≡ b.nodes
+  pub services : a.services ≡ b.services
+
+-- a world with the locks and the journal of another
+abbrev beside : World → World → World
+beside other world = record world { locks = other.locks; journal = other.journal }
+
+beside_same : (a b : World) → SameHost a b → beside b a ≡ b
+beside_same a b same i = record { nodes = same.nodes i; services = same.services i; locks = b.locks; journal = b.journal }
+
+decision_beside : (asked : Act) (a b : World) → decision asked a ≡ decision asked (beside b a)
+unfolding decision post needed
+decision_beside (act.Create path) a b = refl
+decision_beside (act.MakeDir path) a b = refl
+decision_beside (act.Delete path with_directories) a b = refl
+decision_beside (act.Content path bytes) a b = refl
+decision_beside (act.Copy source path) a b = refl
+decision_beside (act.Edit path script) a b = refl
+decision_beside (act.Perms path mode owners groups) a b = refl
+decision_beside (act.Start name) a b = refl
+decision_beside (act.Stop name) a b = refl
+decision_beside (act.Enable name) a b = refl
+decision_beside (act.Disable name) a b = refl
+decision_beside (act.Restart name) a b = refl
+decision_beside (act.Bust reason) a b = refl
+
+decision_same : (asked : Act) (a b : World) → SameHost a b → decision asked a ≡ decision asked b
+decision_same asked a b same = decision_beside asked a b ∙ ap (decision asked) (beside_same a b same)
+
+fits_beside : (change : Change) (a b : World) → fits change a ≡ fits change (beside b a)
+fits_beside (PutFile path bytes) a b = refl
+fits_beside (PutDir path) a b = refl
+fits_beside (Remove path) a b = refl
+fits_beside (SetPerms path perms) a b = refl
+fits_beside (PutService name row) a b = refl
+fits_beside (PutLock key moment) a b = refl
+fits_beside (Append bytes) a b = refl
+
+pub fits_same : (change : Change) (a b : World) → SameHost a b → IsTrue (fits change a) → IsTrue (fits change b)
+fits_same change a b same h = subst IsTrue (fits_beside change a b ∙ ap (fits change) (beside_same a b same)) h
+
+pub same_after : (change : Change) (a b : World) → SameHost a b → SameHost (after_change change a) (after_change change b)
+unfolding after_change
+same_after (PutFile path bytes) a b same = record { nodes = ap (put_file path bytes) same.nodes; services = same.services }
+same_after (PutDir path) a b same = record { nodes = ap (put_directory path) same.nodes; services = same.services }
+same_after (Remove path) a b same = record { nodes = ap (λ nodes. map.remove nodes path) same.nodes; services = same.services }
+same_after (SetPerms path perms) a b same = record { nodes = ap (set_perms path perms) same.nodes; services = same.services }
+same_after (PutService name row) a b same = record { nodes = same.nodes; services = ap (λ services. map.insert services name row) same.services }
+same_after (PutLock key moment) a b same = record { nodes = same.nodes; services = same.services }
+same_after (Append bytes) a b same = record { nodes = same.nodes; services = same.services }
+
+by_rest : (d : Decision) (kept kept' : Actuated) (changed changed' : Change → Actuated) → kept ≡ kept' → ((change : Change) → changed change ≡ changed' change) → actuated_by d kept changed ≡ actuated_by d kept' changed'
+by_rest decisions.Kept kept kept' changed changed' e f = e
+by_rest (decisions.Needs change) kept kept' changed changed' e f = ap (changing change) (f change)
+by_rest (decisions.Fail reason) kept kept' changed changed' e f = refl
+by_rest (decisions.Fault call) kept kept' changed changed' e f = refl
+
+pub actuated_same : (acts : List Act) (a b : World) → SameHost a b → actuated acts a ≡ actuated acts b
+actuated_same [] a b same = refl
+actuated_same (asked ∷ acts) a b same =
+    ap (λ d. actuated_by d (actuated acts a) (λ change. actuated acts (after_change change a))) (decision_same asked a b same)
+    ∙ by_rest (decision asked b) (actuated acts a) (actuated acts b) (λ change. actuated acts (after_change change a)) (λ change. actuated acts (after_change change b)) (actuated_same acts a b same)
+    (λ change. actuated_same acts (after_change change a) (after_change change b) (same_after change a b same))
+
+-- records change neither nodes nor services
+same_appended : (bytes : List ℕ) (w : World) → SameHost (after_change (Append bytes) w) w
+unfolding after_change
+same_appended bytes w = record { nodes = refl; services = refl }
+
+pub same_trans : (a b c : World) → SameHost a b → SameHost b c → SameHost a c
+same_trans a b c first second = record { nodes = first.nodes ∙ second.nodes; services = first.services ∙ second.services }
+
+same_run : (moment : ℕ) (has_record : Bool) (w : World) → SameHost (after (run_record moment has_record) w) w
+same_run moment true w = record { nodes = refl; services = refl }
+same_run moment false w = same_appended _ w
+
+pub same_opening : (heading : Heading) (instance : Instance) (w : World) → SameHost (after (opening heading instance) w) w
+same_opening heading instance w = by_run (run_record heading.moment heading.has_record) w (same_run heading.moment heading.has_record w) where
+  by_run : (entries : List Entry) (w : World) → SameHost (after entries w) w → SameHost (after (entries ++ appended (Open heading.number instance.source (key_of instance.text)) ∷ []) w) w
+  by_run entries w same = subst (λ v. SameHost v w) (sym (after_both entries (appended (Open heading.number instance.source (key_of instance.text)) ∷ []) w)) (same_trans _ (after entries w) w (same_appended _ (after entries w)) same)
+
+-- the records before a change that stands behind so many others
+pub same_opened : (changes : ℕ) (heading : Heading) (instance : Instance) (w : World) → SameHost (after (opening_at changes heading instance) w) w
+same_opened changes heading instance w = by_test (nat_lt 0 changes) where
+  by_test : (made : Bool) → SameHost (after (if made then [] else opening heading instance) w) w
+  by_test true = record { nodes = refl; services = refl }
+  by_test false = same_opening heading instance w
+
+pub same_back : (a b : World) → SameHost a b → SameHost b a
+same_back a b same = record { nodes = sym same.nodes; services = sym same.services }

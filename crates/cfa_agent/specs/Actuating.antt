@@ -1,0 +1,126 @@
+-- Of the code alone: what the actuation of an instance on a site answers, and what it leaves the site to show.
+use Rattle.std.specs.Prelude.{ℕ, ◌≡◌, ◌≤◌, Bool, true, false, if◌then◌else◌, List, [], ◌∷◌, ◌++◌, length, Option, Some, None, IfSome, Result, Ok, Err, IfOk, IfErr}
+use Rattle.cfa_base.specs.Shown.{Shown, Follows, HasFailed}
+use Rattle.cfa_base.specs.declared.want_of_memory.NoMemory.{NoMemory}
+use Rattle.cfa_outside.specs.declared.sites.Call.{Call}
+use Rattle.cfa_outside.specs.declared.sites.Call.TheVariants as calls
+use Rattle.cfa_outside.specs.declared.sites.Change.{Change}
+use Rattle.cfa_outside.specs.declared.sites.Entry.{Entry}
+use Rattle.cfa_outside.specs.declared.sites.Entry.TheVariants.{Did, Refused}
+use Rattle.cfa_outside.specs.declared.worlds.World.{World}
+use Rattle.cfa_outside.specs.Sites.{Told, adds}
+use Rattle.cfa_acts.specs.declared.acts.Act.{Act}
+use Rattle.cfa_acts.specs.declared.acts.Decision.{Decision}
+use Rattle.cfa_acts.specs.declared.acts.Decision.TheVariants as decisions
+use Rattle.cfa_acts.specs.declared.acts.Reason.{Reason}
+use Rattle.cfa_acts.specs.declared.acts.Reason.TheVariants.{Fault}
+use Rattle.cfa_acts.specs.Acts.{IsOwn, decision}
+use Rattle.cfa_output.specs.declared.ends.Stop.{Stop}
+use Rattle.cfa_resolve.specs.declared.instances.Instance.{Instance}
+use Rattle.cfa_walk.specs.Tellers.{actuated}
+use Rattle.cfa_agent.specs.declared.actuating.Actuation.{Actuation}
+use Rattle.cfa_agent.specs.declared.actuating.Step.{Step}
+use Rattle.cfa_agent.specs.declared.actuating.Step.TheVariants as steps
+use Rattle.cfa_agent.specs.declared.recording.Heading.{Heading}
+use Rattle.cfa_agent.specs.Actuations.{Mark, Done, is_change, done_by, entries_of, changed, refused_entry}
+use Rattle.cfa_agent.specs.Recording.{HasFault, StopsBySite, opening}
+
+-- ---- one act
+
+-- behind what stands before it a change was made, or refused
+abbrev pub IsMade : Change → (opened : List Entry) → (before after : Shown Told) → Step → Type 0
+IsMade change opened before after steps.Changed = Follows (adds (opened ++ Did change ∷ [])) before after
+IsMade change opened before after (steps.Refused calls.Change) =
+    HasFailed (adds (opened ++ Refused calls.Change ∷ [])) before after
+IsMade change opened before after _ = ⊥
+
+abbrev pub ChangeTried : Change → (before after : Shown Told) → Result Step NoMemory → Type 0
+ChangeTried change before after (Ok step) = IsMade change [] before after step
+ChangeTried change before after (Err want) = before.faults ≤ after.faults
+
+pub record ChangeMade (change : Change) (opened : List Entry) (before after : Shown Told) (result : Result Step Stop) : Type 0 where
+  pub made : IfOk result (IsMade change opened before after)
+  pub stopped : IfErr result (StopsBySite before after)
+
+-- a look was refused
+abbrev pub IsRefusedLook : Call → Step → Type 0
+IsRefusedLook call (steps.Refused call') = (call' ≡ call) × (is_change call ≡ false)
+IsRefusedLook call _ = ⊥
+
+-- where a call was refused one failed, and else the count of faults stands
+abbrev pub StepFaults : Step → (before after : Shown Told) → Type 0
+StepFaults (steps.Refused call) before after = HasFault before after
+StepFaults _ before after = after.faults ≡ before.faults
+
+-- an act fails of itself for no fault
+abbrev pub StepIsOwn : Step → Type 0
+StepIsOwn (steps.Failed reason) = IsOwn reason
+StepIsOwn _ = Unit {0}
+
+-- the entries of a call that was refused in an act
+abbrev pub refused_entries : (opened : List Entry) → Call → List Entry
+refused_entries opened call = (if is_change call then opened else []) ++ Refused call ∷ []
+
+-- what came of an act, by the decision on it; whether a call is refused is the site's to say
+abbrev pub Takes : (opened : List Entry) → Decision → Step → (after : Shown Told) → Told → Type 0
+Takes opened decisions.Kept steps.Kept after t = after.told ≡ Some t
+Takes opened (decisions.Needs change) steps.Changed after t = after.told ≡ Some (adds (opened ++ Did change ∷ []) t)
+Takes opened (decisions.Fail reason) (steps.Failed reason') after t = (reason' ≡ reason) × (after.told ≡ Some t)
+Takes opened _ (steps.Refused call) after t = after.told ≡ Some (adds (refused_entries opened call) t)
+Takes opened _ _ after t = ⊥
+
+pub record ActTaken (act : Act) (opened : List Entry) (before after : Shown Told) (result : Result Step Stop) : Type 0 where
+  pub taken : IfOk result (λ step. IfSome before.told (λ t. Takes opened (decision act t.world) step after t))
+  pub cause : IfOk result (λ step. StepFaults step before after)
+  pub own : IfOk result StepIsOwn
+  pub stopped : IfErr result (StopsBySite before after)
+
+-- ---- an actuation
+
+-- where a call was refused one failed, and else the count of faults stands
+abbrev pub FaultsBy : (refused : Option Call) → (before after : Shown Told) → Type 0
+FaultsBy None before after = after.faults ≡ before.faults
+FaultsBy (Some call) before after = HasFault before after
+
+-- where a call was refused the instance fails for a fault, and else for none
+abbrev pub IsCaused : (refused : Option Call) → (failure : Option Reason) → Type 0
+IsCaused None None = Unit {0}
+IsCaused None (Some reason) = IsOwn reason
+IsCaused (Some call) failure = failure ≡ Some Fault
+
+-- the mark that an actuation met
+abbrev pub mark_by : (number changes : ℕ) → (refused : Option Call) → Option Mark
+mark_by number changes None = None
+mark_by number changes (Some call) = Some (record { instance = number; changes = changes; call = call })
+
+abbrev pub mark_met : (number : ℕ) → Actuation → Option Mark
+mark_met number a = mark_by number a.changes a.refused
+
+-- what acts do on a world under that mark
+abbrev pub done_met : (number : ℕ) → List Act → Actuation → World → Done
+done_met number acts a world = done_by (actuated acts world) (mark_met number a)
+
+-- it came to what was to be done, and wrote this of it
+pub record DoesActs (entries : Done → List Entry) (done : Done) (after : Shown Told) (a : Actuation) (t : Told) : Type 0 where
+  pub failure : a.failure ≡ done.failure
+  pub changes : a.changes ≡ length done.changes
+  pub told : after.told ≡ Some (adds (entries done) t)
+
+pub record ActsDone (number : ℕ) (acts : List Act) (entries : Done → List Entry) (before after : Shown Told) (result : Result Actuation Stop) : Type 0 where
+  pub done : IfOk result (λ a. IfSome before.told (λ t. DoesActs entries (done_met number acts a t.world) after a t))
+  pub cause : IfOk result (λ a. FaultsBy a.refused before after)
+  pub caused : IfOk result (λ a. IsCaused a.refused a.failure)
+  pub stopped : IfErr result (StopsBySite before after)
+
+-- the entries up to the last change, or up to the refused call
+abbrev pub acted_by : (opened : List Entry) → Done → (is_begun : Bool) → List Entry
+acted_by opened done false = refused_entry done.refused
+acted_by opened done true = opened ++ (changed done.changes ++ refused_entry done.refused)
+
+abbrev pub acted : (opened : List Entry) → Done → List Entry
+acted opened done = acted_by opened done done.is_begun
+
+-- the acts were done, with the records of the journal
+abbrev pub Actuates : (moment number : ℕ) → Instance → List Act → (has_record : Bool) → (before after : Shown Told) → Result Actuation Stop → Type 0
+Actuates moment number instance acts has_record before after result =
+    ActsDone number acts (λ done. entries_of moment number instance done has_record) before after result

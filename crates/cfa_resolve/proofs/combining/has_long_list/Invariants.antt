@@ -1,8 +1,0 @@
-use Rattle.std.proofs.Common.{◌≡◌, drop}
-use Rattle.std.specs.List.{list_any}
-use Rattle.cfa_vars.specs.Scopes.{in_scope}
-use Rattle.cfa_resolve.specs.OwnTexts.{is_long_list}
-use Rattle.cfa_resolve.proofs.combining.has_long_list.Given as goal
-
-abbrev pub invariant-loop-read : goal.invariant-loop-read
-invariant-loop-read l = list_any (is_long_list (in_scope l.scopes)) (drop l.read-index l.reads) ≡ list_any (is_long_list (in_scope l.scopes)) l.reads

@@ -1,0 +1,5 @@
+pub mod FormLemmas
+pub mod NumberLemmas
+pub mod OrderLemmas
+pub mod Rules
+pub mod WalkLemmas

@@ -1,0 +1,252 @@
+-- What an activation's own events make of what is kept of it, and what is kept of one that begins.
+use Rattle.std.proofs.Common.{◌≡◌, ◌≢◌, ℕ, ◌+◌, ◌≤◌, true, false, List, [], ◌∷◌, length, map, Option, Some, None, refl, sym, ap, ◌∙◌, arith}
+use Rattle.std.specs.Prelude.{◌&&◌, slice_get, slice_set, option_map, unwrap_or}
+use Rattle.std.specs.declared.alloc.Global.{Global}
+use Rattle.std.specs.declared.vec.Vec.{Vec}
+use Rattle.std.specs.Option.{option_or}
+use Rattle.std.specs.Str.{bytes_eq}
+use Rattle.std.proofs.Math.Path.{fun_ext}
+use Rattle.std.proofs.lemmas.Option.{slice_get-map, slice_get_within}
+use Rattle.std.proofs.lemmas.Slice.Eq.{bytes_eq-Decides}
+use Rattle.cfa_base.specs.declared.places.PromiseId.{PromiseId}
+use Rattle.cfa_base.specs.declared.texts.Name.{Name}
+use Rattle.cfa_classes.specs.declared.levels.Status.{Status}
+use Rattle.cfa_classes.specs.declared.levels.Status.TheVariants.{No}
+use Rattle.cfa_classes.specs.Raised.{Raised as StatusMap, greater_in}
+use Rattle.cfa_classes.specs.Status.{greater, value_of}
+use Rattle.cfa_outcomes.specs.Environments.{EnvironmentMaps, status_of, source_of, mark_of}
+use Rattle.cfa_outcomes.specs.declared.outcomes.Outcome.TheVariants.{Kept}
+use Rattle.cfa_tree.specs.Tree.{ExprTree}
+use Rattle.cfa_vars.specs.declared.scoping.Datum.{Datum}
+use Rattle.cfa_vars.specs.declared.scoping.Scope.{Scope}
+use Rattle.cfa_vars.specs.Named.{put}
+use Rattle.cfa_vars.specs.Scopes.{Table, InScope}
+use Rattle.cfa_walk.specs.declared.activations.Activation.{Activation}
+use Rattle.cfa_walk.specs.declared.states.State.{State}
+use Rattle.cfa_walk.specs.History.{History, Event, Begun, Set, Raised, within, scope_in, locally, local_source, visits_in}
+use Rattle.cfa_walk.specs.Kept.{Keeps, KeepsLocally, Stands, OwnScope, IsFresh, IsUntouched, home_of, scope_at, first, second}
+use Rattle.cfa_walk.specs.Tellers.{worst_in}
+use Rattle.cfa_walk.specs.Views.{Setting, global_status, status_in, is_listed, scopes_in, shared_names, shared_in}
+use Rattle.cfa_walk.proofs.SharedLemmas.{same_name, is_same, names_of_pairs, with_its, shared_once, set_in_place}
+use Rattle.cfa_walk.proofs.KeptLemmas.{changed, greater_turned, keeps_begun, keeps_set, other_begun, other_set}
+use Rattle.cfa_walk.proofs.LocalLemmas.{own_scope_same, own_set, own_is_unshared, has_own, shared_at, is_shared_at}
+
+-- ---- classes that are raised in it
+
+module _ (h : History) (path class : List ℕ) (to : Status) (source : Option PromiseId) (name : List ℕ) where
+  here : bytes_eq class name ≡ true → (bytes_eq path path && bytes_eq class name) ≡ true
+  here same = ap (λ b. b && bytes_eq class name) (same_name path) ∙ same
+
+  elsewhere : bytes_eq class name ≡ false → (bytes_eq path path && bytes_eq class name) ≡ false
+  elsewhere differ = ap (λ b. b && bytes_eq class name) (same_name path) ∙ differ
+
+  raised_here : bytes_eq class name ≡ true → locally (Raised (within path) class to source ∷ h) path name ≡ greater to (locally h path name)
+  raised_here same = rw (here same, locally) refl
+
+  raised_elsewhere : bytes_eq class name ≡ false → locally (Raised (within path) class to source ∷ h) path name ≡ locally h path name
+  raised_elsewhere differ = rw (elsewhere differ, locally) refl
+
+  source_here : bytes_eq class name ≡ true → local_source (Raised (within path) class to source ∷ h) path name ≡ option_or (local_source h path name) source
+  source_here same = rw (here same, local_source) refl
+
+  source_elsewhere : bytes_eq class name ≡ false → local_source (Raised (within path) class to source ∷ h) path name ≡ local_source h path name
+  source_elsewhere differ = rw (elsewhere differ, local_source) refl
+
+module _ (s : Setting) (a : Activation) (e : EnvironmentMaps) (h : History) (keeps : KeepsLocally s a h) (class : List ℕ) (to : Status) (source : Option PromiseId) where
+  raised_status : status_of e class ≡ greater (status_of a.local class) to → ((other : List ℕ) → other ≢ class → status_of e other ≡ status_of a.local other) →
+      (name : List ℕ) → status_of e name ≡ locally (Raised (within a.path) class to source ∷ h) a.path name
+  raised_status becomes others name =
+      let before = status_of a.local in
+      changed before (status_of e) class (greater (before class) to) becomes others name (locally (Raised (within a.path) class to source ∷ h) a.path name)
+      (λ same.
+      raised_here h a.path class to source name same ∙ greater_turned to (locally h a.path name)
+      ∙ ap (λ x. greater x to) (sym (keeps.0 name)) ∙ ap (λ n. greater (before n) to) (sym (is_same class name same)))
+      (λ differ. raised_elsewhere h a.path class to source name differ ∙ sym (keeps.0 name))
+
+  raised_source : source_of e class ≡ option_or (source_of a.local class) source → ((other : List ℕ) → other ≢ class → source_of e other ≡ source_of a.local other) →
+      (name : List ℕ) → source_of e name ≡ local_source (Raised (within a.path) class to source ∷ h) a.path name
+  raised_source becomes others name =
+      let before = source_of a.local in
+      changed before (source_of e) class (option_or (before class) source) becomes others name (local_source (Raised (within a.path) class to source ∷ h) a.path name)
+      (λ same.
+      source_here h a.path class to source name same ∙ ap (λ o. option_or o source) (sym (keeps.1.0 name))
+      ∙ ap (λ n. option_or (before n) source) (sym (is_same class name same)))
+      (λ differ. source_elsewhere h a.path class to source name differ ∙ sym (keeps.1.0 name))
+
+  pub local_raised : status_of e class ≡ greater (status_of a.local class) to → ((other : List ℕ) → other ≢ class → status_of e other ≡ status_of a.local other) →
+      source_of e class ≡ option_or (source_of a.local class) source → ((other : List ℕ) → other ≢ class → source_of e other ≡ source_of a.local other) →
+      KeepsLocally s (record a { local = e }) (Raised (within a.path) class to source ∷ h)
+  local_raised status other_statuses given other_sources = (
+    raised_status status other_statuses,
+    (
+      raised_source given other_sources,
+      (keeps.1.1.0, own_scope_same s.policy a.place a.own a.path h (Raised (within a.path) class to source ∷ h) refl keeps.1.1.1),
+    ),
+  )
+
+-- ---- scopes
+
+begun_here : (path : List ℕ) (given : List Datum) (h : History) (name : List ℕ) → bytes_eq path name ≡ true → scope_in (Begun path given ∷ h) name ≡ []
+begun_here path given h name same = rw (same, scope_in) refl
+
+set_here : (path variable : List ℕ) (datum : Datum) (h : History) → scope_in (Set path variable datum ∷ h) path ≡ put (scope_in h path) variable datum
+set_here path variable datum h = rw (same_name path, scope_in) refl
+
+module _ (s : Setting) (st : State) (h : History) (keeps : Keeps s st h) where
+  names_kept : map first st.shared.items ≡ shared_names s.policy
+  unfolding shared_in
+  names_kept = ap (map first) keeps.1.1.1.0 ∙ names_of_pairs (scope_in h) (shared_names s.policy)
+
+  pub shared_found : (place : ℕ) (name : List ℕ) → slice_get (map first st.shared.items) place ≡ Some name → slice_get (shared_names s.policy) place ≡ Some name
+  shared_found place name found = ap (λ names. slice_get names place) (sym names_kept) ∙ found
+
+  pub shared_missing : (name : List ℕ) → is_listed (map first st.shared.items) name ≡ false → is_listed (shared_names s.policy) name ≡ false
+  shared_missing name missing = ap (λ names. is_listed names name) (sym names_kept) ∙ missing
+
+  -- the scope at a place
+  table_at : (place : ℕ) (path : List ℕ) → slice_get (shared_names s.policy) place ≡ Some path → slice_get st.shared.items place ≡ Some (path, scope_in h path)
+  unfolding shared_in
+  table_at place path at =
+      ap (λ scopes. slice_get scopes place) keeps.1.1.1.0 ∙ slice_get-map (with_its (scope_in h)) (shared_names s.policy) place
+      ∙ ap (option_map (with_its (scope_in h))) at
+
+  -- one of them is another after an event, and the others aren't
+  shared_changed : (event : Event) (place : ℕ) (path : List ℕ) (scopes : List (List ℕ × Table)) → slice_get (shared_names s.policy) place ≡ Some path →
+      ((name : List ℕ) → bytes_eq path name ≡ false → scope_in (event ∷ h) name ≡ scope_in h name) →
+      scopes ≡ slice_set st.shared.items place (with_its (scope_in (event ∷ h)) path) → scopes ≡ shared_in s.policy (event ∷ h)
+  unfolding shared_in
+  shared_changed event place path scopes at others is =
+      is ∙ ap (λ items. slice_set items place (with_its (scope_in (event ∷ h)) path)) keeps.1.1.1.0
+      ∙ set_in_place path (scope_in h) (scope_in (event ∷ h)) others (shared_names s.policy) place (shared_once s.policy) at
+
+-- ---- what it may refer to
+
+scope_is : (s : Setting) (st : State) (h : History) (place : Option ℕ) (own : Table) (path : List ℕ) → Keeps s st h → OwnScope s.policy place own path h →
+    scope_at st.shared.items place own ≡ scope_in h path
+scope_is s st h None own path keeps scope = scope.0
+scope_is s st h (Some place) own path keeps scope = ap (λ found. unwrap_or (option_map second found) own) (table_at s st h keeps place path scope)
+
+abbrev in_scopes : Table → List ℕ → List (List ℕ × Table) → InScope
+in_scopes own own_name shared = record { own = own; own_name = own_name; shared = shared }
+
+pub scopes_are : (s : Setting) (st : State) (a : Activation) (h : History) (own : Table) (shared : List (List ℕ × Table)) → Stands s st a h →
+    own ≡ scope_at st.shared.items a.place a.own → shared ≡ st.shared.items → in_scopes own a.bundle shared ≡ scopes_in s h (home_of a)
+scopes_are s st a h own shared stands is_own is_shared =
+    ap (λ t. in_scopes t a.bundle shared) (is_own ∙ scope_is s st h a.place a.own a.path stands.0 stands.1.1.1.1)
+    ∙ ap (in_scopes (scope_in h a.path) a.bundle) (is_shared ∙ stands.0.1.1.1.0)
+
+pub guard_is : (s : Setting) (st : State) (a : Activation) (h : History) (guard : ExprTree) (global local : StatusMap) → Stands s st a h →
+    global ≡ st.environment.statuses → local ≡ a.local.statuses → value_of guard (greater_in global local) ≡ value_of guard (status_in s h a.path)
+unfolding greater_in
+guard_is s st a h guard global local stands is_global is_local =
+    ap (value_of guard) (fun_ext (λ name.
+    ap (λ m. greater_in m local name) is_global ∙ ap (λ m. greater_in st.environment.statuses m name) is_local
+    ∙ ap (λ x. greater x (status_of a.local name)) (stands.0.0 name) ∙ ap (greater (global_status s h name)) (stands.1.0 name)))
+
+-- ---- variables that are set in it
+
+pub stands_set_own : (s : Setting) (st : State) (a : Activation) (h : History) (variable : List ℕ) (datum : Datum) (own : Table) → a.place ≡ None → own ≡ put a.own variable datum →
+    Stands s st a h → Stands s st (record a { own = own }) (Set a.path variable datum ∷ h)
+stands_set_own s st a h variable datum own none is stands =
+    let k : History = Set a.path variable datum ∷ h in (
+      keeps_set s st h a.path variable datum (own_is_unshared s.policy a.place a.own a.path h none stands.1.1.1.1) stands.0,
+      (
+        stands.1.0,
+        (
+          stands.1.1.0,
+          (
+            stands.1.1.1.0,
+            own_set s.policy a.place a.own own a.path h k none (λ same. is ∙ ap (λ t. put t variable datum) same ∙ sym (set_here a.path variable datum h)) stands.1.1.1.1,
+          ),
+        ),
+      ),
+    )
+
+pub stands_set_shared : (s : Setting) (st : State) (a : Activation) (h : History) (variable : List ℕ) (datum : Datum) (place : ℕ) (shared : Vec (Name × Scope) Global) → a.place ≡ Some place →
+    ((path : List ℕ) (table : Table) → slice_get st.shared.items place ≡ Some (path, table) → shared.items ≡ slice_set st.shared.items place (path, put table variable datum)) →
+    Stands s st a h → Stands s (record st { shared = shared }) a (Set a.path variable datum ∷ h)
+stands_set_shared s st a h variable datum place shared at is stands =
+    let keeps = stands.0 in
+    let k : History = Set a.path variable datum ∷ h in
+    let found = shared_at s.policy a.place place a.own a.path h at stands.1.1.1.1 in
+    let now = is a.path (scope_in h a.path) (table_at s st h keeps place a.path found) in
+    let set = ap (λ t. slice_set st.shared.items place (a.path, t)) (sym (set_here a.path variable datum h)) in (
+      (keeps.0, (keeps.1.0, (keeps.1.1.0, (shared_changed s st h keeps (Set a.path variable datum) place a.path shared.items found (other_set a.path variable datum h) (now ∙ set), keeps.1.1.1.1)))),
+      (stands.1.0, (stands.1.1.0, (stands.1.1.1.0, is_shared_at s.policy a.place place a.own a.path k at found))),
+    )
+
+pub never_past : (s : Setting) (st : State) (a : Activation) (h : History) (place : ℕ) → a.place ≡ Some place → length st.shared.items ≤ place → Stands s st a h → ⊥
+never_past s st a h place at past stands =
+    let found = table_at s st h stands.0 place a.path (shared_at s.policy a.place place a.own a.path h at stands.1.1.1.1) in
+    let within_it = slice_get_within st.shared.items place (a.path, scope_in h a.path) found in
+    omega arith
+
+-- ---- an activation that begins
+
+module _ (h : History) (path : List ℕ) (given : List Datum) (name : List ℕ) (same : bytes_eq path name ≡ true) where
+  none_locally : (class : List ℕ) → locally (Begun path given ∷ h) name class ≡ No
+  none_locally class = rw (same, locally) refl
+
+  no_source : (class : List ℕ) → local_source (Begun path given ∷ h) name class ≡ None
+  no_source class = rw (same, local_source) refl
+
+  no_outcome : worst_in (Begun path given ∷ h) name ≡ Kept
+  no_outcome = rw (same, worst_in) refl
+
+local_begun : (s : Setting) (a : Activation) (h : History) (path : List ℕ) (given : List Datum) → a.path ≡ path → IsFresh a →
+    OwnScope s.policy a.place a.own a.path (Begun path given ∷ h) → KeepsLocally s a (Begun path given ∷ h)
+local_begun s a h path given is fresh scope =
+    let same = (bytes_eq-Decides path a.path).1 (sym is) in (
+      λ class. fresh.statuses class ∙ sym (none_locally h path given a.path same class),
+      (
+        λ class. fresh.sources class ∙ sym (no_source h path given a.path same class),
+        (fresh.worst ∙ sym (no_outcome h path given a.path same), scope),
+      ),
+    )
+
+pub stands_called : (s : Setting) (st : State) (a : Activation) (h : History) (path : List ℕ) (given : List Datum) → a.path ≡ path → a.place ≡ None → IsFresh a →
+    Keeps s st h → is_listed (shared_names s.policy) path ≡ false → Stands s st a (Begun path given ∷ h)
+stands_called s st a h path given is none fresh keeps own = (
+  keeps_begun s st h path given own keeps,
+  local_begun s a h path given is fresh
+      (has_own s.policy a.place a.own a.path (Begun path given ∷ h) none (fresh.own ∙ sym (begun_here path given h a.path ((bytes_eq-Decides path a.path).1 (sym is))))
+      (ap (is_listed (shared_names s.policy)) is ∙ own)),
+)
+
+pub stands_common : (s : Setting) (st : State) (a : Activation) (h : History) (name : List ℕ) (place : ℕ) → a.path ≡ name → a.place ≡ Some place → IsFresh a →
+    slice_get (map first st.shared.items) place ≡ Some name → Keeps s st h → IsUntouched h name → Stands s st a h
+stands_common s st a h name place is at fresh found keeps untouched = (
+  keeps,
+  (
+    λ class. fresh.statuses class ∙ sym (ap (λ n. locally h n class) is ∙ untouched.statuses class),
+    (
+      λ class. fresh.sources class ∙ sym (ap (λ n. local_source h n class) is ∙ untouched.sources class),
+      (
+        fresh.worst ∙ sym (ap (worst_in h) is ∙ untouched.worst),
+        is_shared_at s.policy a.place place a.own a.path h at (shared_found s st h keeps place name found ∙ ap Some (sym is)),
+      ),
+    ),
+  ),
+)
+
+pub stands_begun : (s : Setting) (st st' : State) (a : Activation) (h : History) (name : List ℕ) (place : ℕ) → a.path ≡ name → a.place ≡ Some place → IsFresh a →
+    slice_get (map first st.shared.items) place ≡ Some name → st'.environment ≡ st.environment → st'.left ≡ st.left →
+    ((path : List ℕ) (table : Table) → slice_get st.shared.items place ≡ Some (path, table) → st'.shared.items ≡ slice_set st.shared.items place (path, [])) →
+    Keeps s st h → Stands s st' a (Begun name [] ∷ h)
+stands_begun s st st' a h name place is at fresh found environment left cleared keeps =
+    let k : History = Begun name [] ∷ h in
+    let found = shared_found s st h keeps place name found in
+    let now = cleared name (scope_in h name) (table_at s st h keeps place name found) in
+    let empty = ap (λ t. slice_set st.shared.items place (name, t)) (sym (begun_here name [] h name (same_name name))) in (
+      (
+        λ class. ap (λ e. status_of e class) environment ∙ keeps.0 class,
+        (
+          λ class. ap (λ e. source_of e class) environment ∙ keeps.1.0 class,
+          (
+            λ path text. ap (λ e. mark_of e path text) environment ∙ keeps.1.1.0 path text,
+            (shared_changed s st h keeps (Begun name []) place name st'.shared.items found (other_begun name [] h) (now ∙ empty), ap (λ n. n + visits_in h) left ∙ keeps.1.1.1.1),
+          ),
+        ),
+      ),
+      local_begun s a h name [] is fresh (is_shared_at s.policy a.place place a.own a.path k at (found ∙ ap Some (sym is))),
+    )

@@ -1,0 +1,269 @@
+-- Promises that define variables and classes, by what they do to what is kept of a history.
+use Rattle.std.proofs.Common.{◌≡◌, ℕ, ◌+◌, ◌-◌, ◌≤◌, ◌<◌, Bool, true, false, List, [], ◌∷◌, ◌++◌, length, map, Option, refl, sym, ap, subst, ◌∙◌, arith}
+use Rattle.std.proofs.Math.Path.{fun_ext}
+use Rattle.std.proofs.lemmas.Bool.{le-leb, lt-leb}
+use Rattle.std.proofs.lemmas.List.{map-append}
+use Rattle.cfa_base.specs.declared.places.PromiseId.{PromiseId}
+use Rattle.cfa_classes.specs.declared.levels.Status.{Status}
+use Rattle.cfa_classes.specs.declared.levels.Status.TheVariants.{No}
+use Rattle.cfa_classes.specs.Status.{greater}
+use Rattle.cfa_classes.specs.Raised.{Raised as Statuses, greater_in}
+use Rattle.cfa_kinds.specs.declared.kinds.PromiseType.TheVariants as promises
+use Rattle.cfa_outcomes.specs.Environments.{status_of}
+use Rattle.cfa_tree.specs.Tree.{NamedTree, PromiseTree, PolicyTree}
+use Rattle.cfa_vars.specs.declared.scoping.Datum.{Datum}
+use Rattle.cfa_vars.specs.Expansion.{Chosen}
+use Rattle.cfa_vars.specs.Scopes.{InScope}
+use Rattle.cfa_defines.specs.FirstMaybe.{first_maybe_of_guard}
+use Rattle.cfa_defines.specs.VarsPromises.{setting_choices, count_choices, data_set}
+use Rattle.cfa_defines.specs.ClassPromises.{Raise, raises_of}
+use Rattle.cfa_defines.specs.declared.class_promises.Raise.{Raise as Held}
+use Rattle.cfa_defines.specs.SeenRaises.{seen_raise}
+use Rattle.cfa_walk.specs.declared.states.State.{State}
+use Rattle.cfa_walk.specs.declared.activations.Activation.{Activation}
+use Rattle.cfa_walk.specs.declared.defining.Handed.{Handed}
+use Rattle.cfa_walk.specs.History.{History, Event, Where, everywhere, within, Set, Raised, Reached, visits_in}
+use Rattle.cfa_walk.specs.Kept.{Stands, home_of, IsSame, SpareShorter, SpareLocals}
+use Rattle.cfa_walk.specs.Levels.{GoesTo, IsTooLarge, QuietLevel, Quietly, nothing, one_more, StandsAt, SpareIf, HasQuietlyDone}
+use Rattle.cfa_walk.specs.Numbered.{Numbered}
+use Rattle.cfa_walk.specs.Passes.{Course, goes, most_visits, within_limit, reached, set_each, raise_event, raise_all, bind, sets_variable}
+use Rattle.cfa_walk.specs.Raising.{hand, handed_by, raise_handed}
+use Rattle.cfa_walk.specs.Steps.{idle_level, vars_level, classes_level, place_of}
+use Rattle.cfa_walk.specs.Tellers.{Teller}
+use Rattle.cfa_walk.specs.Views.{Setting, Home, scopes_in, global_status, status_in}
+use Rattle.cfa_walk.proofs.LevelLemmas.{goes_weaker, quietly_then}
+use Rattle.cfa_walk.proofs.KeptLemmas.{keeps_reached}
+use Rattle.cfa_walk.proofs.LocalLemmas.{local_reached}
+use Rattle.cfa_walk.proofs.SpareLemmas.{spare_none, spare_then, locals_none, locals_then, locals_set, locals_raised_everywhere, locals_reached, spare_set, spare_raised_within, spare_raised_everywhere, spare_reached}
+use Rattle.cfa_walk.proofs.LastLemmas.{set_each-last}
+
+-- ---- what is local to shorter paths, and in a common bundle to any, is as it was
+
+abbrev pub Passed : (is_common : Bool) → (path : List ℕ) → (h k : History) → Type 0
+Passed is_common path h k = Quietly h k × (SpareShorter (length path) h k × SpareIf is_common h k)
+
+spare_if : (is_common : Bool) (h k : History) → SpareLocals h k → SpareIf is_common h k
+spare_if true h k spares = spares
+spare_if false h k spares = tt
+
+spare_if_then : (is_common : Bool) (h k m : History) → SpareIf is_common h k → SpareIf is_common k m → SpareIf is_common h m
+spare_if_then true h k m hk km = locals_then h k m hk km
+spare_if_then false h k m hk km = tt
+
+pub passed_then : (is_common : Bool) (path : List ℕ) (h k m : History) → Passed is_common path h k → Passed is_common path k m → Passed is_common path h m
+passed_then is_common path h k m hk km =
+    (quietly_then hk.0 km.0, (spare_then (length path) h k m hk.1.0 km.1.0, spare_if_then is_common h k m hk.1.1 km.1.1))
+
+pub passed_none : (is_common : Bool) (path : List ℕ) (h : History) → Passed is_common path h h
+passed_none is_common path h = (nothing, (spare_none (length path) h, spare_if is_common h h (locals_none h)))
+
+pub passed_reached : (is_common : Bool) (path at : List ℕ) (id : PromiseId) (guard : Status) (sets : Bool) (visits : ℕ) (h : History) → Passed is_common path h (Reached at id guard sets visits ∷ h)
+passed_reached is_common path at id guard sets visits h =
+    let event : Event = Reached at id guard sets visits in
+    let spares = locals_reached h at id guard sets visits in
+    (one_more event refl nothing, (spare_reached (length path) h at id guard sets visits, spare_if is_common h (event ∷ h) spares))
+
+pub passed_set : (is_common : Bool) (path name : List ℕ) (datum : Datum) (h : History) → Passed is_common path h (Set path name datum ∷ h)
+passed_set is_common path name datum h =
+    let event : Event = Set path name datum in
+    (one_more event refl nothing, (spare_set (length path) h path name datum (omega arith), spare_if is_common h (event ∷ h) (locals_set h path name datum)))
+
+pub passed_raised : (is_common : Bool) (home : Home) (class : List ℕ) (to : Status) (source : Option PromiseId) (h : History) → Passed is_common home.path h (Raised (place_of is_common home) class to source ∷ h)
+passed_raised true home class to source h =
+    (one_more (Raised everywhere class to source) refl nothing, (spare_raised_everywhere (length home.path) h class to source, locals_raised_everywhere h class to source))
+passed_raised false home class to source h =
+    (one_more (Raised (within home.path) class to source) refl nothing, (spare_raised_within (length home.path) h home.path class to source (omega arith), tt))
+
+pub passed_set_each : (is_common : Bool) (path name : List ℕ) (set : List Datum) (h : History) → Passed is_common path h (set_each path name set h)
+passed_set_each is_common path name [] h = passed_none is_common path h
+passed_set_each is_common path name (datum ∷ more) h =
+    passed_then is_common path h (Set path name datum ∷ h) (set_each path name more (Set path name datum ∷ h))
+    (passed_set is_common path name datum h) (passed_set_each is_common path name more (Set path name datum ∷ h))
+
+pub passed_handed : (is_common : Bool) (home : Home) (handed : List Handed) (h : History) → Passed is_common home.path h (raise_handed (place_of is_common home) handed h)
+passed_handed is_common home [] h = passed_none is_common home.path h
+passed_handed is_common home (one ∷ more) h =
+    let k : History = Raised (place_of is_common home) one.class one.to one.source ∷ h in
+    passed_then is_common home.path h k (raise_handed (place_of is_common home) more k)
+    (passed_raised is_common home one.class one.to one.source h) (passed_handed is_common home more k)
+
+-- binding is quiet, and spares what is local to shorter paths
+pub passed_bind : (is_common : Bool) (path : List ℕ) (params : List NamedTree) (given : List Datum) (h : History) → Passed is_common path h (bind path params given h)
+passed_bind is_common path [] given h = passed_none is_common path h
+passed_bind is_common path (p ∷ params) [] h = passed_none is_common path h
+passed_bind is_common path (p ∷ params) (datum ∷ given) h =
+    passed_then is_common path h (Set path p.name datum ∷ h) (bind path params given (Set path p.name datum ∷ h))
+    (passed_set is_common path p.name datum h) (passed_bind is_common path params given (Set path p.name datum ∷ h))
+
+-- ---- what is kept, after visits are counted
+
+pub stands_reached : (s : Setting) (st : State) (a : Activation) (at : List ℕ) (id : PromiseId) (guard : Status) (sets : Bool) (visits : ℕ) (h : History) →
+    visits ≤ st.left → Stands s st a h → Stands s (record st { left = st.left - visits }) a (Reached at id guard sets visits ∷ h)
+stands_reached s st a at id guard sets visits h enough stands =
+    (keeps_reached s st (record st { left = st.left - visits }) h at id guard sets visits enough refl stands.0, local_reached s a h at id guard sets visits stands.1)
+
+-- ---- limits
+
+pub reached_goes : (home : Home) (p : Numbered) (guard : Status) (sets : Bool) (visits : ℕ) (next : History → Course) (h : History) (P : History → Type 0) →
+    visits + visits_in h ≤ most_visits → GoesTo (next (Reached home.path p.id guard sets visits ∷ h)) P → GoesTo (reached home p guard sets visits next h) P
+reached_goes home p guard sets visits next h P enough goes_on =
+    subst (λ (b : Bool). GoesTo (within_limit b (next (Reached home.path p.id guard sets visits ∷ h)) h) P) (sym (le-leb (visits + visits_in h) most_visits enough)) goes_on
+
+pub reached_past : (home : Home) (p : Numbered) (guard : Status) (sets : Bool) (visits : ℕ) (next : History → Course) (h : History) →
+    most_visits < visits + visits_in h → IsTooLarge (reached home p guard sets visits next h)
+reached_past home p guard sets visits next h past =
+    subst (λ (b : Bool). IsTooLarge (within_limit b (next (Reached home.path p.id guard sets visits ∷ h)) h)) (sym (lt-leb (visits + visits_in h) most_visits past)) tt
+
+pub fits : (left visits before : ℕ) → visits ≤ left → left + before ≡ most_visits → visits + before ≤ most_visits
+fits left visits before enough is = omega arith
+
+pub exceeds : (left visits before : ℕ) → left < visits → left + before ≡ most_visits → most_visits < visits + before
+exceeds left visits before few is = omega arith
+
+-- ---- levels at the home of an activation
+
+pub home_same : (a a' : Activation) → IsSame a a' → home_of a' ≡ home_of a
+home_same a a' same =
+    let first : List ℕ → Home = λ x. record { path = x; bundle = a'.bundle } in
+    let second : List ℕ → Home = λ x. record { path = a.path; bundle = x } in
+    ap first same.path ∙ ap second same.bundle
+
+pub same_always : (a : Activation) → IsSame a a
+same_always a = record { path = refl; bundle = refl; status = refl; place = refl }
+
+pub same_then : (a b c : Activation) → IsSame a b → IsSame b c → IsSame a c
+same_then a b c ab bc = record { path = bc.path ∙ ab.path; bundle = bc.bundle ∙ ab.bundle; status = bc.status ∙ ab.status; place = bc.place ∙ ab.place }
+
+module _ (policy : PolicyTree) (is_common : Bool) (level : QuietLevel) (st st' : State) (a a' : Activation) where
+  pub at_home : IsSame a a' →
+      ((s : Setting) (t : Teller) (h : History) → Stands s st a h → GoesTo (level s (home_of a) t h) (λ k. Stands s st' a' k × Passed is_common a.path h k)) →
+      HasQuietlyDone policy is_common level st st' a a'
+  at_home same does = λ s home status t h stands.
+      subst (λ (x : Home). GoesTo (level s x t h) (λ k. StandsAt policy s x status st' a' k × (Quietly h k × (SpareShorter (length x.path) h k × SpareIf is_common h k)))) stands.1.0
+      (goes_weaker (level s (home_of a) t h) _ _ (λ k p. ((stands.0, (home_same a a' same, (same.status ∙ stands.1.1.0, p.0))), p.1)) (does s t h stands.1.1.1))
+
+-- ---- one more event, last
+
+pub set_one_more : (s : Setting) (st' : State) (a a' b : Activation) (name copy : List ℕ) (set : List Datum) (datum : Datum) (h : History) →
+    IsSame a a' → copy ≡ name → Stands s st' b (Set a'.path copy datum ∷ set_each a.path name set h) → Stands s st' b (set_each a.path name (set ++ datum ∷ []) h)
+set_one_more s st' a a' b name copy set datum h same is stands =
+    subst (λ (k : History). Stands s st' b k)
+    (ap (λ (x : List ℕ). Set x copy datum ∷ set_each a.path name set h) same.path ∙ (ap (λ (x : List ℕ). Set a.path x datum ∷ set_each a.path name set h) is
+    ∙ sym (set_each-last a.path name set datum h))) stands
+
+raise_handed_more : (place : Where) (handed : List Handed) (one : Handed) (h : History) → raise_handed place (handed ++ one ∷ []) h ≡ raise_handed place (one ∷ []) (raise_handed place handed h)
+raise_handed_more place [] one h = refl
+raise_handed_more place (x ∷ handed) one h = raise_handed_more place handed one (Raised place x.class x.to x.source ∷ h)
+
+pub raised_one_more : (s : Setting) (is_common : Bool) (st' : State) (a a' b : Activation) (handed : List Handed) (one : Handed) (h : History) →
+    IsSame a a' → Stands s st' b (raise_handed (place_of is_common (home_of a')) (one ∷ []) (raise_handed (place_of is_common (home_of a)) handed h)) →
+    Stands s st' b (raise_handed (place_of is_common (home_of a)) (handed ++ one ∷ []) h)
+raised_one_more s is_common st' a a' b handed one h same stands =
+    subst (λ (k : History). Stands s st' b k)
+    (ap (λ (x : Home). raise_handed (place_of is_common x) (one ∷ []) (raise_handed (place_of is_common (home_of a)) handed h)) (home_same a a' same)
+    ∙ sym (raise_handed_more (place_of is_common (home_of a)) handed one h)) stands
+
+-- ---- a promise whose guard isn't set
+
+pub passed_over : (policy : PolicyTree) (is_common : Bool) (p : Numbered) (st st' : State) (a : Activation) → 1 ≤ st.left → st' ≡ record st { left = st.left - 1 } → HasQuietlyDone policy is_common (idle_level p) st st' a a
+passed_over policy is_common p st st' a enough counts =
+    at_home policy is_common (idle_level p) st st' a a (same_always a) (λ s t h stands.
+    let sets = sets_variable p.type in
+    let event : Event = Reached a.path p.id No sets 1 in
+    subst (λ (x : State). GoesTo (idle_level p s (home_of a) t h) (λ k. Stands s x a k × Passed is_common a.path h k)) (sym counts)
+    (reached_goes (home_of a) p No sets 1 goes h _ (fits st.left 1 (visits_in h) enough stands.0.1.1.1.1)
+    (stands_reached s st a a.path p.id No sets 1 h enough stands, passed_reached is_common a.path a.path p.id No sets 1 h)))
+
+-- ---- vars
+
+module _ (policy : PolicyTree) (is_common : Bool) (p : Numbered) (guard : Status) (scopes : InScope) (choices : Option (List Chosen)) (visits : ℕ) (st counted' st' : State) (a a' : Activation)
+    (sees : (s : Setting) (h : History) → Stands s st a h → scopes ≡ scopes_in s h (home_of a)) (counting : visits ≡ count_choices choices) where
+  pub vars_set : (set : List Datum) → choices ≡ setting_choices scopes promises.Vars p.promise → set ≡ data_set scopes p.promise choices →
+      visits ≤ st.left → counted' ≡ record st { left = st.left - visits } → IsSame a a' →
+      ((s : Setting) (h : History) → Stands s counted' a h → Stands s st' a' (set_each a.path p.promise.promiser set h)) →
+      HasQuietlyDone policy is_common (vars_level p guard) st st' a a'
+  vars_set set choosing setting enough counts same does =
+      at_home policy is_common (vars_level p guard) st st' a a' same (λ s t h stands.
+      let home : Home = home_of a in
+      let S : InScope = scopes_in s h home in
+      let C : Option (List Chosen) = setting_choices S promises.Vars p.promise in
+      let chosen : choices ≡ C = choosing ∙ ap (λ (x : InScope). setting_choices x promises.Vars p.promise) (sees s h stands) in
+      let visited : visits ≡ count_choices C = counting ∙ ap count_choices chosen in
+      let given : set ≡ data_set S p.promise C = setting ∙ (ap (data_set scopes p.promise) chosen ∙ ap (λ (x : InScope). data_set x p.promise C) (sees s h stands)) in
+      let P : History → Type 0 = λ k. Stands s st' a' k × Passed is_common a.path h k in
+      let k : History = Reached a.path p.id guard true visits ∷ h in
+      let done : GoesTo (reached home p guard true visits (λ x. goes (set_each a.path p.promise.promiser set x)) h) P =
+      reached_goes home p guard true visits (λ x. goes (set_each a.path p.promise.promiser set x)) h P (fits st.left visits (visits_in h) enough stands.0.1.1.1.1) (
+        does s k (subst (λ (x : State). Stands s x a k) (sym counts) (stands_reached s st a a.path p.id guard true visits h enough stands)),
+        passed_then is_common a.path h k (set_each a.path p.promise.promiser set k) (passed_reached is_common a.path a.path p.id guard true visits h) (passed_set_each is_common a.path p.promise.promiser set k),
+      ) in
+      subst (λ (v : ℕ). GoesTo (reached home p guard true v (λ x. goes (set_each a.path p.promise.promiser (data_set S p.promise C) x)) h) P) visited
+      (subst (λ (d : List Datum). GoesTo (reached home p guard true visits (λ x. goes (set_each a.path p.promise.promiser d x)) h) P) given done))
+
+-- ---- classes
+
+pub all_raised : (before : History) (place : Where) (path : List ℕ) (guard : Status) (in_guard : Option (List ℕ)) (raises : List Raise) (h : History) →
+    raise_handed place (map (hand before path guard in_guard) raises) h ≡ raise_all before place path guard in_guard raises h
+all_raised before place path guard in_guard [] h = refl
+all_raised before place path guard in_guard (r ∷ more) h = all_raised before place path guard in_guard more (raise_event before place path guard in_guard r h)
+
+-- one more raise is handed what it is
+pub handed_one_more : (before : History) (path : List ℕ) (guard : Status) (in_guard : Option (List ℕ)) (raises : List Held) (raise : Held) (handed after : List Handed) (one : Handed) →
+    handed ≡ map (hand before path guard in_guard) (map seen_raise raises) → one ≡ hand before path guard in_guard (seen_raise raise) → after ≡ handed ++ one ∷ [] →
+    after ≡ map (hand before path guard in_guard) (map seen_raise (raises ++ raise ∷ []))
+handed_one_more before path guard in_guard raises raise handed after one so_far is adds =
+    let give = hand before path guard in_guard in
+    adds ∙ (ap (λ (x : List Handed). x ++ one ∷ []) so_far ∙ (ap (λ (x : Handed). map give (map seen_raise raises) ++ x ∷ []) is
+    ∙ (sym (map-append give (map seen_raise raises) (seen_raise raise ∷ [])) ∙ ap (map give) (sym (map-append seen_raise raises (raise ∷ []))))))
+
+-- the statuses that are kept are those of the history
+pub same_statuses : (s : Setting) (st : State) (a : Activation) (h : History) → Stands s st a h → greater_in st.environment.statuses a.local.statuses ≡ status_in s h a.path
+unfolding greater_in
+same_statuses s st a h stands = fun_ext (λ (class : List ℕ).
+    ap (λ (x : Status). greater x (status_of a.local class)) (stands.0.0 class)
+    ∙ ap (λ (x : Status). greater (global_status s h class) x) (stands.1.0 class))
+
+pub handed_over : (s : Setting) (st : State) (a : Activation) (h : History) (guard : Status) (scopes : InScope) (promise : PromiseTree) (choices : Option (List Chosen))
+    (global local : Statuses) (in_guard : Option (List ℕ)) (raises : List Raise) (handed : List Handed) →
+    Stands s st a h → global ≡ st.environment.statuses → local ≡ a.local.statuses →
+    raises ≡ raises_of (greater_in global local) scopes promise choices → in_guard ≡ first_maybe_of_guard promise.guard (greater_in global local) →
+    handed ≡ map (hand h a.path guard in_guard) raises → handed ≡ handed_by s h a.path guard scopes promise choices
+handed_over s st a h guard scopes promise choices global local in_guard raises handed stands globals locals raising waiting handing =
+    let statuses : greater_in global local ≡ status_in s h a.path =
+    ap (λ (x : Statuses). greater_in x local) globals ∙ (ap (λ (x : Statuses). greater_in st.environment.statuses x) locals ∙ same_statuses s st a h stands) in
+    let raised : raises ≡ raises_of (status_in s h a.path) scopes promise choices =
+    raising ∙ ap (λ (x : List ℕ → Status). raises_of x scopes promise choices) statuses in
+    let waits : in_guard ≡ first_maybe_of_guard promise.guard (status_in s h a.path) = waiting ∙ ap (first_maybe_of_guard promise.guard) statuses in
+    handing ∙ (ap (λ (x : Option (List ℕ)). map (hand h a.path guard x) raises) waits
+    ∙ ap (map (hand h a.path guard (first_maybe_of_guard promise.guard (status_in s h a.path)))) raised)
+
+module _ (policy : PolicyTree) (is_common : Bool) (p : Numbered) (guard : Status) (scopes : InScope) (choices : Option (List Chosen)) (visits : ℕ) (st counted' st' : State) (a a' : Activation)
+    (sees : (s : Setting) (h : History) → Stands s st a h → scopes ≡ scopes_in s h (home_of a)) (counting : visits ≡ count_choices choices) where
+  pub classes_raised : (handed : List Handed) → choices ≡ setting_choices scopes promises.Classes p.promise →
+      ((s : Setting) (h : History) → Stands s st a h → handed ≡ handed_by s h a.path guard scopes p.promise choices) →
+      visits ≤ st.left → counted' ≡ record st { left = st.left - visits } → IsSame a a' →
+      ((s : Setting) (h : History) → Stands s counted' a h → Stands s st' a' (raise_handed (place_of is_common (home_of a)) handed h)) →
+      HasQuietlyDone policy is_common (classes_level is_common p guard) st st' a a'
+  classes_raised handed choosing handing enough counts same does =
+      at_home policy is_common (classes_level is_common p guard) st st' a a' same (λ s t h stands.
+      let home : Home = home_of a in
+      let S : InScope = scopes_in s h home in
+      let C : Option (List Chosen) = setting_choices S promises.Classes p.promise in
+      let chosen : choices ≡ C = choosing ∙ ap (λ (x : InScope). setting_choices x promises.Classes p.promise) (sees s h stands) in
+      let visited : visits ≡ count_choices C = counting ∙ ap count_choices chosen in
+      let over : handed ≡ handed_by s h a.path guard S p.promise C =
+      handing s h stands ∙ (ap (handed_by s h a.path guard scopes p.promise) chosen ∙ ap (λ (x : InScope). handed_by s h a.path guard x p.promise C) (sees s h stands)) in
+      let P : History → Type 0 = λ k. Stands s st' a' k × Passed is_common a.path h k in
+      let k : History = Reached a.path p.id guard false visits ∷ h in
+      let place : Where = place_of is_common home in
+      let done : GoesTo (goes (raise_handed place handed k)) P = (
+        does s k (subst (λ (x : State). Stands s x a k) (sym counts) (stands_reached s st a a.path p.id guard false visits h enough stands)),
+        passed_then is_common a.path h k (raise_handed place handed k) (passed_reached is_common a.path a.path p.id guard false visits h) (passed_handed is_common home handed k),
+      ) in
+      let in_guard : Option (List ℕ) = first_maybe_of_guard p.promise.guard (status_in s h a.path) in
+      let raises : List Raise = raises_of (status_in s h a.path) S p.promise C in
+      let all : raise_handed place handed k ≡ raise_all h place a.path guard in_guard raises k =
+      ap (λ (x : List Handed). raise_handed place x k) over ∙ all_raised h place a.path guard in_guard raises k in
+      subst (λ (v : ℕ). GoesTo (reached home p guard false v (λ x. goes (raise_all h place a.path guard in_guard raises x)) h) P) visited
+      (reached_goes home p guard false visits (λ x. goes (raise_all h place a.path guard in_guard raises x)) h P (fits st.left visits (visits_in h) enough stands.0.1.1.1.1)
+      (subst (λ (x : History). GoesTo (goes x) P) all done)))

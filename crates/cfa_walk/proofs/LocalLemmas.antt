@@ -1,0 +1,65 @@
+-- What is kept of an activation stays so over each event of other places.
+use Rattle.std.proofs.Common.{◌≡◌, ℕ, Bool, false, List, ◌∷◌, Option, Some, None, refl, sym, ap, ◌∙◌}
+use Rattle.std.specs.Prelude.{slice_get}
+use Rattle.cfa_base.specs.declared.places.PromiseId.{PromiseId}
+use Rattle.cfa_classes.specs.declared.levels.Status.{Status}
+use Rattle.cfa_resolve.specs.declared.instances.Instance.{Instance}
+use Rattle.cfa_tree.specs.Tree.{PolicyTree}
+use Rattle.cfa_vars.specs.Scopes.{Table}
+use Rattle.cfa_walk.specs.declared.activations.Activation.{Activation}
+use Rattle.cfa_walk.specs.History.{History, Raised, Reached, Listed, everywhere, scope_in, locally, local_source}
+use Rattle.cfa_walk.specs.Kept.{KeepsLocally, OwnScope}
+use Rattle.cfa_walk.specs.Tellers.{worst_in}
+use Rattle.cfa_walk.specs.Views.{Setting, is_listed, shared_names}
+
+-- ---- the scope of an activation
+
+pub own_scope_same : (policy : PolicyTree) (place : Option ℕ) (own : Table) (path : List ℕ) (h k : History) → scope_in k path ≡ scope_in h path →
+    OwnScope policy place own path h → OwnScope policy place own path k
+own_scope_same policy None own path h k same scope = (scope.0 ∙ sym same, scope.1)
+own_scope_same policy (Some place) own path h k same scope = scope
+
+pub own_set : (policy : PolicyTree) (place : Option ℕ) (own own' : Table) (path : List ℕ) (h k : History) → place ≡ None → (own ≡ scope_in h path → own' ≡ scope_in k path) →
+    OwnScope policy place own path h → OwnScope policy place own' path k
+own_set policy None own own' path h k is set scope = (set scope.0, scope.1)
+own_set policy (Some place) own own' path h k is set scope = absurd (cc)
+
+pub own_is_unshared : (policy : PolicyTree) (place : Option ℕ) (own : Table) (path : List ℕ) (h : History) → place ≡ None → OwnScope policy place own path h → is_listed (shared_names policy) path ≡ false
+own_is_unshared policy None own path h is scope = scope.1
+own_is_unshared policy (Some place) own path h is scope = absurd (cc)
+
+pub shared_at : (policy : PolicyTree) (place : Option ℕ) (at : ℕ) (own : Table) (path : List ℕ) (h : History) → place ≡ Some at → OwnScope policy place own path h → slice_get (shared_names policy) at ≡ Some path
+shared_at policy None at own path h is scope = absurd (cc)
+shared_at policy (Some place) at own path h is scope = let same : at ≡ place = cc in ap (slice_get (shared_names policy)) same ∙ scope
+
+pub is_shared_at : (policy : PolicyTree) (place : Option ℕ) (at : ℕ) (own : Table) (path : List ℕ) (h : History) → place ≡ Some at → slice_get (shared_names policy) at ≡ Some path → OwnScope policy place own path h
+is_shared_at policy None at own path h is found = absurd (cc)
+is_shared_at policy (Some place) at own path h is found = let same : place ≡ at = cc in ap (slice_get (shared_names policy)) same ∙ found
+
+pub has_own : (policy : PolicyTree) (place : Option ℕ) (own : Table) (path : List ℕ) (h : History) → place ≡ None → own ≡ scope_in h path → is_listed (shared_names policy) path ≡ false →
+    OwnScope policy place own path h
+has_own policy None own path h is same unshared = (same, unshared)
+has_own policy (Some place) own path h is same unshared = absurd (cc)
+
+-- ---- events of other places
+
+pub local_same : (s : Setting) (a : Activation) (h k : History) → ((class : List ℕ) → locally k a.path class ≡ locally h a.path class) →
+    ((class : List ℕ) → local_source k a.path class ≡ local_source h a.path class) → worst_in k a.path ≡ worst_in h a.path → scope_in k a.path ≡ scope_in h a.path →
+    KeepsLocally s a h → KeepsLocally s a k
+local_same s a h k locals sources worst scope keeps = (
+  λ class. keeps.0 class ∙ sym (locals class),
+  (
+    λ class. keeps.1.0 class ∙ sym (sources class),
+    (keeps.1.1.0 ∙ sym worst, own_scope_same s.policy a.place a.own a.path h k scope keeps.1.1.1),
+  ),
+)
+
+module _ (s : Setting) (a : Activation) (h : History) where
+  pub local_raised_everywhere : (class : List ℕ) (status : Status) (source : Option PromiseId) → KeepsLocally s a h → KeepsLocally s a (Raised everywhere class status source ∷ h)
+  local_raised_everywhere class status source = local_same s a h (Raised everywhere class status source ∷ h) (λ _. refl) (λ _. refl) refl refl
+
+  pub local_reached : (path : List ℕ) (promise : PromiseId) (guard : Status) (sets : Bool) (visits : ℕ) → KeepsLocally s a h → KeepsLocally s a (Reached path promise guard sets visits ∷ h)
+  local_reached path promise guard sets visits = local_same s a h (Reached path promise guard sets visits ∷ h) (λ _. refl) (λ _. refl) refl refl
+
+  pub local_listed : (instance : Instance) (status : Status) → KeepsLocally s a h → KeepsLocally s a (Listed instance status ∷ h)
+  local_listed instance status = local_same s a h (Listed instance status ∷ h) (λ _. refl) (λ _. refl) refl refl

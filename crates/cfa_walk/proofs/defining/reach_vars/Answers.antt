@@ -1,0 +1,13 @@
+use Rattle.std.proofs.Common.{◌≡◌, true, rules}
+use Rattle.cfa_vars.specs.Scopes.{in_scope}
+use Rattle.cfa_walk.specs.SeenNumbered.{seen_numbered}
+use Rattle.cfa_walk.proofs.DefiningLemmas.{vars_set}
+use Rattle.cfa_walk.proofs.defining.reach_vars.Goals as goal
+
+pub returns : goal.returns
+returns c = λ policy is_common.
+    let counts : c.count.result ≡ true = search rules in
+    vars_set policy is_common (seen_numbered c.args.promise.now) c.args.guard (in_scope c.scopes_of-scopes.result) c.in_ok-choices.choices c.count_choices.result
+    c.args.state.now c.count.new.self c.set_each.new.state c.args.activation.now c.set_each.new.activation c.scopes_of-scopes.ensures c.count_choices.ensures
+    c.in_ok-data.data.items c.in_ok-choices.ensures c.in_ok-data.ensures (c.count.ensures.within counts) (c.count.ensures.left counts)
+    c.in_ok-set_each.ensures.same c.in_ok-set_each.ensures.stands

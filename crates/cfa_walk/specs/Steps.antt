@@ -1,0 +1,154 @@
+-- Of the code alone: the levels of the passes, by what each is about.
+use Rattle.std.specs.Prelude.{◌≡◌, ℕ, ◌+◌, nat_le, Bool, true, false, All, IsTrue, List, ◌∷◌, length, ⊤, Result, Ok, Err}
+use Rattle.cfa_base.specs.Shown.{Shown}
+use Rattle.cfa_schema.specs.Laws.{IsCounted}
+use Rattle.cfa_resolve.specs.declared.instances.Resolved.{Resolved}
+use Rattle.cfa_resolve.specs.Resolution.{resolution, reached_at}
+use Rattle.cfa_walk.specs.declared.activations.Activation.{Activation}
+use Rattle.cfa_output.specs.declared.ends.Stop.{Stop}
+use Rattle.cfa_output.specs.declared.ends.Stop.TheVariants.{Outside, Memory, Visits, Pattern}
+use Rattle.cfa_classes.specs.declared.levels.Status.{Status}
+use Rattle.cfa_classes.specs.declared.levels.Status.TheVariants.{No, Yes}
+use Rattle.cfa_kinds.specs.declared.kinds.PromiseType.{PromiseType}
+use Rattle.cfa_kinds.specs.declared.kinds.PromiseType.TheVariants as promises
+use Rattle.cfa_outcomes.specs.declared.outcomes.Outcome.{Outcome}
+use Rattle.cfa_resolve.specs.declared.instances.Instance.{Instance}
+use Rattle.cfa_resolve.specs.declared.instances.Work.{Work}
+use Rattle.cfa_resolve.specs.declared.instances.Work.TheVariants.{Acts, Call, Report}
+use Rattle.cfa_tree.specs.Tree.{PolicyTree}
+use Rattle.cfa_walk.specs.declared.states.State.{State}
+use Rattle.cfa_walk.specs.History.{History, Where, everywhere, within, Reached, visits_in}
+use Rattle.cfa_walk.specs.Kept.{Keeps, SpareShorter}
+use Rattle.cfa_walk.specs.Levels.{Level, QuietLevel, GoesTo, IsTooLarge, EndedAs, StandsAt, Faults, FaultsAre, PatternsAre, done_of}
+use Rattle.cfa_walk.specs.Numbered.{Numbered, of_type, agent_types, common_types}
+use Rattle.cfa_walk.specs.Passes.{Course, goes, most_visits, reached, visit, instances_from, acting_reached, reach, promises_from, types_from, passes, calls_of, vars_reached, classes_reached, sets_variable}
+use Rattle.cfa_walk.specs.Tellers.{Teller, inner_path}
+use Rattle.cfa_walk.specs.Views.{Setting, Home, scopes_in, global_status}
+use Rattle.cfa_defines.specs.VarsPromises.{setting_choices}
+
+-- ---- promises
+
+-- a promise that counts its visits and does nothing
+abbrev pub idle : Numbered → (guard : Status) → (sets_variable : Bool) → QuietLevel
+idle p guard sets s home t h = reached home p guard sets 1 goes h
+
+-- a promise whose guard isn't set
+abbrev pub idle_level : Numbered → QuietLevel
+idle_level p = idle p No (sets_variable p.type)
+
+abbrev pub vars_level : Numbered → (guard : Status) → QuietLevel
+vars_level p guard s home t h = vars_reached s home p guard (setting_choices (scopes_in s h home) promises.Vars p.promise) h
+
+-- classes are raised everywhere or within the activation
+abbrev pub place_of : (is_common : Bool) → Home → Where
+place_of true home = everywhere
+place_of false home = within home.path
+
+abbrev pub classes_level : (is_common : Bool) → Numbered → (guard : Status) → QuietLevel
+classes_level is_common p guard s home t h =
+    classes_reached s (place_of is_common home) home p guard (setting_choices (scopes_in s h home) promises.Classes p.promise) h
+
+-- ---- levels of a common bundle, where nothing is told
+
+module _ (depth : ℕ) where
+  abbrev pub reach_common_level : Numbered → QuietLevel
+  reach_common_level p s home t h = reach s t (calls_of s t depth) everywhere home Yes p h
+
+  abbrev pub common_type_level : List Numbered → PromiseType → QuietLevel
+  common_type_level ps type s home t h = promises_from s t (calls_of s t depth) everywhere home Yes (of_type type ps) h
+
+  abbrev pub common_level : List Numbered → QuietLevel
+  common_level ps s home t h = types_from s t (calls_of s t depth) everywhere home Yes ps common_types h
+
+-- ---- levels of an activation, where calls go so deep
+
+module _ (depth : ℕ) where
+  abbrev pub visit_level : (guard : Status) → Instance → Level
+  visit_level guard instance s home status t h = visit t (calls_of s t depth) guard status instance h
+
+  abbrev pub instances_level : (guard : Status) → List Instance → Level
+  instances_level guard instances s home status t h = instances_from t (calls_of s t depth) guard status instances h
+
+  abbrev pub reach_level : Numbered → Level
+  reach_level p s home status t h = reach s t (calls_of s t depth) (within home.path) home status p h
+
+  -- a promise that has instances
+  abbrev pub acting_level : Numbered → (guard : Status) → Level
+  acting_level p guard s home status t h = acting_reached s t (calls_of s t depth) home status p p.type guard h
+
+  abbrev pub type_level : List Numbered → PromiseType → Level
+  type_level ps type s home status t h =
+      promises_from s t (calls_of s t depth) (within home.path) home status (of_type type ps) h
+
+  abbrev pub pass_level : List Numbered → Level
+  pass_level ps s home status t h = types_from s t (calls_of s t depth) (within home.path) home status ps agent_types h
+
+  abbrev pub passes_level : List Numbered → Level
+  passes_level ps s home status t h = passes s t (calls_of s t depth) (within home.path) home status ps 3 h
+
+  -- what a call's bundle does; other work calls none
+  abbrev pub call_course : Instance → Work → Status → Setting → Teller → History → Course
+  call_course instance (Call name given) status s t h = calls_of s t depth instance status h
+  call_course instance (Acts acts) status s t h = goes h
+  call_course instance (Report content) status s t h = goes h
+
+-- an instance of the activation of this path, whose promise is one that a policy may have
+abbrev pub IsAt : (path : List ℕ) → Instance → Type 0
+IsAt path instance = (instance.path ≡ path) × IsCounted instance.source
+
+abbrev pub AreCounted : List Numbered → Type 0
+AreCounted ps = All (λ (p : Numbered). IsCounted p.id) ps
+
+-- the visits of a promise were counted, and these are its instances
+abbrev pub resolution_at : Setting → Home → Numbered → History → Resolved
+resolution_at s home p h =
+    resolution (reached_at s.policy p.id (scopes_in s h home) (global_status s h) home.path (p.type, p.promise))
+
+abbrev pub reached_event : Home → Numbered → (guard : Status) → Resolved → History → History
+reached_event home p guard resolved h = Reached home.path p.id guard false resolved.visits ∷ h
+
+module _ (policy : PolicyTree) (p : Numbered) where
+  abbrev pub Counts : (st st' : State) → (a : Activation) → Result (List Instance) Stop → Type 0
+  Counts st st' a (Ok instances) =
+      (s : Setting) (home : Home) (status guard : Status) (h : History) → StandsAt policy s home status st a h →
+      (instances ≡ (resolution_at s home p h).instances)
+      × (IsTrue (nat_le ((resolution_at s home p h).visits + visits_in h) most_visits)
+      × StandsAt policy s home status st' a (reached_event home p guard (resolution_at s home p h) h))
+  Counts st st' a (Err (Outside object)) = ⊥
+  Counts st st' a (Err Memory) = ⊤
+  Counts st st' a (Err Visits) =
+      (s : Setting) (home : Home) (status : Status) (h : History) → StandsAt policy s home status st a h →
+      nat_le ((resolution_at s home p h).visits + visits_in h) most_visits ≡ false
+  Counts st st' a (Err (Pattern text)) = ⊤
+
+-- a call's bundle was gone through
+module _ {W X : Type 0} (teller : X → Teller) (agrees : W → X → Type 0) (behind : W → X → History → Type 0) (policy : PolicyTree) where
+  abbrev pub HasCalled : (depth : ℕ) → Instance → Status → (w w' : W) → (st st' : State) → (called : Outcome) → Type 0
+  HasCalled depth instance status w w' st st' called =
+      (s : Setting) (x : X) (h : History) → agrees w' x →
+      agrees w x × ((s.policy ≡ policy) → Keeps s st h → behind w x h →
+      GoesTo (call_course depth instance instance.work status s (teller x) h) (λ k. Keeps s st' k
+      × (behind w' x k × (SpareShorter (length (inner_path instance)) h k
+      × EndedAs instance.work instance called k))))
+
+  abbrev pub CallsPastLimit : (depth : ℕ) → Instance → Status → (w w' : W) → (st : State) → Type 0
+  CallsPastLimit depth instance status w w' st =
+      (s : Setting) (x : X) (h : History) → agrees w' x →
+      agrees w x × ((s.policy ≡ policy) → Keeps s st h → behind w x h →
+      IsTooLarge (call_course depth instance instance.work status s (teller x) h))
+
+  abbrev pub CallDone : (depth : ℕ) → Instance → Status → (w w' : W) → (st st' : State) → Result Outcome Stop → Type 0
+  CallDone depth instance status w w' st st' (Ok called) = HasCalled depth instance status w w' st st' called
+  CallDone depth instance status w w' st st' (Err (Outside object)) = ⊤
+  CallDone depth instance status w w' st st' (Err Memory) = ⊤
+  CallDone depth instance status w w' st st' (Err Visits) = CallsPastLimit depth instance status w w' st
+  CallDone depth instance status w w' st st' (Err (Pattern text)) = ⊤
+
+-- how a call ended: what came of it, the counts of faults, and the builder of patterns
+module _ {W X : Type 0} (teller : X → Teller) (agrees : W → X → Type 0) (behind : W → X → History → Type 0) (faults : W → Faults) (policy : PolicyTree) where
+  abbrev pub CallEnds :
+      (depth : ℕ) → Instance → Status → (w w' : W) → (st st' : State) → (pats pats' : Shown (List (List ℕ))) →
+      Result Outcome Stop → Type 0
+  CallEnds depth instance status w w' st st' pats pats' result =
+      CallDone teller agrees behind policy depth instance status w w' st st' result
+      × (FaultsAre (faults w) (faults w') (done_of result) × PatternsAre (done_of result) pats pats')

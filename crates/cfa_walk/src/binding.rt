@@ -1,0 +1,47 @@
+// The binding of the parameters of a bundle.
+ghost use Rattle.std.specs.Prelude.{◌≡◌, IfOk, OnOk, map};
+ghost use Rattle.cfa_tree.specs.Plain.{plain_named};
+ghost use Rattle.cfa_walk.specs.History.{History};
+ghost use Rattle.cfa_walk.specs.Kept.{Stands, IsSame};
+ghost use Rattle.cfa_walk.specs.Passes.{bind};
+ghost use Rattle.cfa_walk.specs.Views.{Setting};
+
+use crate::activations::{Activation, set_variable};
+use crate::states::State;
+use cfa_base::{Name, NoMemory};
+use cfa_tree::Named;
+use cfa_vars::Datum;
+use std::alloc::Global;
+
+fn copy_datum(alloc: Global, datum: &Datum) -> Result<Datum, NoMemory>
+    ensures { IfOk result (λ d. d ≡ datum.now) }
+{
+    match datum {
+        Datum::Text(text) => Ok(Datum::Text(text.copy(alloc)?)),
+        Datum::List(items) => Ok(Datum::List(items.copy(alloc)?)),
+    }
+}
+
+/// Sets the parameters of a bundle to what the arguments give, one after the other.
+pub(crate) fn bind(
+    alloc: Global,
+    params: &[Named],
+    given: &[Datum],
+    state: &mut State,
+    activation: &mut Activation,
+) -> Result<(), NoMemory>
+    ensures same { OnOk result (IsSame activation.old activation.new) }
+    ensures stands { OnOk result ((s : Setting) (h : History)
+        → Stands s state.old activation.old h
+        → Stands s state.new activation.new
+        (bind activation.old.path (map plain_named params.now) given.now h)) }
+{
+    for (place, param) in params.iter().enumerate() {
+        if place >= given.len() {
+            return Ok(());
+        }
+        let datum = copy_datum(alloc, &given[place])?;
+        set_variable(state, activation, param.name.copy(alloc)?, datum)?;
+    }
+    Ok(())
+}

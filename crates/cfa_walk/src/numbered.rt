@@ -1,0 +1,86 @@
+// The promises of a bundle with their ids and their types.
+ghost use Rattle.std.specs.Prelude.{◌≡◌, ◌+◌, ◌++◌, [], IfOk, OnOk, map, length};
+ghost use Rattle.std.specs.List.{cons_option};
+ghost use Rattle.cfa_tree.specs.Plain.{plain_block, plain_promise, plain_section};
+ghost use Rattle.cfa_schema.specs.Checked.{worded_promises_of};
+ghost use Rattle.cfa_walk.specs.Numbered.{numbered_as, numbered_from, numbered_in};
+ghost use Rattle.cfa_walk.specs.SeenNumbered.{seen_numbered};
+
+use cfa_base::{Name, NoMemory, PromiseId};
+use cfa_kinds::{PromiseType, promise_type};
+use cfa_tree::{Block, Bundle, Promise, Section};
+use std::alloc::Global;
+
+/// A promise of a bundle with its id and its type.
+#[derive(Drop)]
+pub(crate) struct Numbered<'a> {
+    pub id: PromiseId,
+    pub promise_type: PromiseType,
+    pub promise: &'a Promise,
+}
+
+// Adds a promise under its number, where its type is found.
+fn add_promise<'a>(
+    alloc: Global,
+    bundle: &Name,
+    number: u32,
+    promise: &'a Promise,
+    found: Option<PromiseType>,
+    promises: &mut Vec<Numbered<'a>>,
+) -> Result<(), NoMemory>
+    ensures { OnOk result (map seen_numbered promises.new.items
+        ≡ map seen_numbered promises.old.items
+        ++ cons_option (numbered_as bundle.now number (plain_promise promise.now) found) []) }
+{
+    if let Some(promise_type) = found {
+        promises.push(Numbered {
+            id: PromiseId {
+                bundle: bundle.copy(alloc)?,
+                number,
+                line: promise.place.line,
+            },
+            promise_type,
+            promise,
+        })?;
+    }
+    Ok(())
+}
+
+// Adds the promises of a section behind some of its bundle. It gives the number of the last one.
+fn add_section<'a>(
+    alloc: Global,
+    bundle: &Name,
+    section: &'a Section,
+    before: u32,
+    promises: &mut Vec<Numbered<'a>>,
+) -> Result<u32, NoMemory>
+    ensures promises { OnOk result (map seen_numbered promises.new.items
+        ≡ map seen_numbered promises.old.items
+        ++ numbered_from bundle.now (before + 1) (worded_promises_of (plain_section section.now))) }
+    ensures number { IfOk result
+        (λ number. number ≡ before + length section.now.promises) }
+{
+    let found = promise_type(section.kind.as_str());
+    let mut number = before;
+    for promise in section.promises.as_slice() {
+        number = number.checked_add(1).ok_or(NoMemory)?;
+        add_promise(alloc, bundle, number, promise, found, promises)?;
+    }
+    Ok(number)
+}
+
+/// The promises of a bundle, in text order, numbered from 1 over all types.
+pub(crate) fn numbered_in<'a>(
+    alloc: Global,
+    bundle: &'a Bundle,
+) -> Result<Vec<Numbered<'a>>, NoMemory>
+    ensures { IfOk result (λ promises. map seen_numbered promises.items
+        ≡ numbered_in (plain_block (Block.Bundle bundle.now))) }
+{
+    let mut promises = Vec::new(alloc);
+    let mut number = 0;
+    for section in bundle.sections.as_slice() {
+        number = add_section(alloc, &bundle.name.name, section, number, &mut promises)?;
+    }
+    Ok(promises)
+}
