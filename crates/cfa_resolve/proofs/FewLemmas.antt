@@ -7,8 +7,8 @@ use Rattle.cfa_defines.specs.declared.combining.Combined.TheVariants.{Found as f
 use Rattle.cfa_defines.specs.OwnTexts.{combined, combined_by, own_reads, first_lacking, has_too_many, has_too_long, choices_among, found_or_too_long}
 use Rattle.cfa_scripts.specs.EditPromises.{at_least_one}
 use Rattle.cfa_resolve.specs.declared.instances.Instance.{Instance}
-use Rattle.cfa_resolve.specs.declared.resolving.Made.{Made}
-use Rattle.cfa_resolve.specs.declared.resolving.Made.TheVariants.{Instance as an_instance, Nothing as nothing_for}
+use Rattle.cfa_resolve.specs.declared.combinations.Made.{Made}
+use Rattle.cfa_resolve.specs.declared.combinations.Made.TheVariants.{Instance as an_instance, Nothing as nothing_for}
 use Rattle.cfa_resolve.specs.Instances.{Reached}
 use Rattle.cfa_resolve.specs.Laws.{InstancesAreFew}
 use Rattle.cfa_resolve.specs.Resolution.{made_for, instance_in, instances_for, resolved_as, resolution}

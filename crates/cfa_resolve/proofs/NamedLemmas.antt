@@ -11,8 +11,8 @@ use Rattle.cfa_defines.specs.declared.combining.Combined.TheVariants.{Lacks as l
 use Rattle.cfa_bodies.specs.declared.hearing.Heard.{Heard}
 use Rattle.cfa_bodies.specs.declared.hearing.Heard.TheVariants.{Lacks as lacks_body, TooMany as many_in_body, TooLong as long_in_body, All as all_heard}
 use Rattle.cfa_resolve.specs.declared.instances.Instance.{Instance}
-use Rattle.cfa_resolve.specs.declared.resolving.Made.{Made}
-use Rattle.cfa_resolve.specs.declared.resolving.Made.TheVariants.{Instance as an_instance, Nothing as nothing_for}
+use Rattle.cfa_resolve.specs.declared.combinations.Made.{Made}
+use Rattle.cfa_resolve.specs.declared.combinations.Made.TheVariants.{Instance as an_instance, Nothing as nothing_for}
 use Rattle.cfa_bodies.specs.Bodies.{Bodies}
 use Rattle.cfa_resolve.specs.Instances.{Reached, bust_instance, made_instance, handed_instance, timed}
 use Rattle.cfa_scripts.specs.declared.scripting.Scripted.{Scripted}

@@ -4,11 +4,10 @@ use Rattle.std.specs.Prelude.{map}
 use Rattle.cfa_base.specs.declared.places.Place.{Place}
 use Rattle.cfa_base.specs.declared.places.PromiseId.{PromiseId}
 use Rattle.cfa_tree.specs.Tree.{ValueTree, text, word, list_reference, list, call, value_trees, AttributeTree, NamedTree, BlockTree, body, PolicyTree}
+use Rattle.cfa_classes.specs.declared.levels.Status.TheVariants.{No}
 use Rattle.cfa_kinds.specs.declared.kinds.PromiseType.{PromiseType}
 use Rattle.cfa_kinds.specs.declared.kinds.PromiseType.TheVariants as promises
-use Rattle.cfa_classes.specs.declared.levels.Status.TheVariants.{No}
 use Rattle.cfa_vars.specs.declared.scoping.Datum.TheVariants.{Text as text_of, List as list_of}
-use Rattle.cfa_classes.specs.declared.levels.Status.TheVariants.{No}
 use Rattle.cfa_vars.specs.Scopes.{Table}
 use Rattle.cfa_acts.specs.declared.acts.Act.TheVariants.{Create, MakeDir, Delete, Content, Copy, Perms, Bust}
 use Rattle.cfa_acts.specs.declared.acts.Reason.TheVariants as reasons

@@ -23,8 +23,8 @@ use Rattle.cfa_defines.specs.OwnTexts.{combined, own_reads}
 use Rattle.cfa_bodies.specs.declared.hearing.Heard.{Heard}
 use Rattle.cfa_bodies.specs.declared.hearing.Heard.TheVariants.{Lacks as lacks_body, TooMany as many_in_body, TooLong as long_in_body, All as all_heard}
 use Rattle.cfa_bodies.specs.Bodies.{Bodies, bodies_of, heard}
-use Rattle.cfa_resolve.specs.declared.resolving.Made.{Made}
-use Rattle.cfa_resolve.specs.declared.resolving.Made.TheVariants.{Instance as an_instance, Nothing as nothing_for}
+use Rattle.cfa_resolve.specs.declared.combinations.Made.{Made}
+use Rattle.cfa_resolve.specs.declared.combinations.Made.TheVariants.{Instance as an_instance, Nothing as nothing_for}
 use Rattle.cfa_resolve.specs.Instances.{Reached, bust_instance, made_instance, handed_instance}
 use Rattle.cfa_values.specs.Attributes.{value_of}
 use Rattle.cfa_scripts.specs.declared.blaming.Unsettled.{Unsettled}

@@ -2,6 +2,7 @@
 #![tactic(auto)]
 
 mod classes;
+mod combinations;
 mod editing;
 mod fields;
 mod files;

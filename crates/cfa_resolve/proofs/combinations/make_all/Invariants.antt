@@ -1,7 +1,7 @@
 use Rattle.std.proofs.Common.{◌≡◌, ◌≤◌, ◌+◌, ◌++◌, [], drop}
 use Rattle.cfa_resolve.specs.Resolution.{instances_for, names_after, inner_visits, inner_unsettled}
 use Rattle.cfa_resolve.specs.SeenReached.{seen_reached}
-use Rattle.cfa_resolve.proofs.resolving.make_all.Given as goal
+use Rattle.cfa_resolve.proofs.combinations.make_all.Given as goal
 
 abbrev pub invariant-loop-choice : goal.invariant-loop-choice
 invariant-loop-choice g l =

@@ -5,7 +5,7 @@ use Rattle.cfa_vars.specs.Expansion.{Chosen}
 use Rattle.cfa_resolve.specs.Resolution.{caller_of, edit_call, IsBuiltByCall, IsBuiltAmong}
 use Rattle.cfa_resolve.specs.SeenReached.{seen_reached}
 use Rattle.cfa_resolve.proofs.ResolutionLemmas.{built_among, sizes_kept}
-use Rattle.cfa_resolve.proofs.resolving.make_all.Goals as goal
+use Rattle.cfa_resolve.proofs.combinations.make_all.Goals as goal
 
 pub returns-in_err-walk-clause-sizes : goal.returns-in_err-walk-clause-sizes
 returns-in_err-walk-clause-sizes g c =
