@@ -1,7 +1,7 @@
 -- Levels one after the other.
-use Rattle.std.proofs.Common.{◌≡◌, ℕ, ◌≤◌, ◌<◌, Bool, true, false, List, [], ◌∷◌, ◌++◌, length, IsTrue, refl, sym, ap, subst, ◌∙◌, arith}
+use Rattle.std.proofs.Common.{◌≡◌, ℕ, ◌≤◌, Bool, true, false, List, [], ◌∷◌, ◌++◌, length, IsTrue, refl, sym, subst, ◌∙◌, arith}
 use Rattle.std.specs.Prelude.{Result, Ok, Err}
-use Rattle.cfa_base.specs.Shown.{Shown, HasFailed}
+use Rattle.cfa_base.specs.Shown.{Shown}
 use Rattle.cfa_base.specs.Causes.{Rose}
 use Rattle.cfa_classes.specs.declared.levels.Status.{Status}
 use Rattle.cfa_output.specs.declared.ends.Object.TheVariants.{Inputs, Site, Sink}
@@ -12,7 +12,7 @@ use Rattle.cfa_walk.specs.declared.states.State.{State}
 use Rattle.cfa_walk.specs.declared.activations.Activation.{Activation}
 use Rattle.cfa_walk.specs.History.{History, Event}
 use Rattle.cfa_walk.specs.Kept.{SpareShorter, SpareLocals}
-use Rattle.cfa_walk.specs.Levels.{GoesTo, IsTooLarge, is_quiet, Faults, Later, Stops, Level, StandsAt, PatternsAre, HasDone, IsPastLimit, LevelDone, FaultsAre, Ends, QuietLevel, Quietly, nothing, one_more, SpareIf, HasQuietlyDone, QuietDone}
+use Rattle.cfa_walk.specs.Levels.{GoesTo, IsTooLarge, is_quiet, Faults, Later, Stops, Level, StandsAt, PatternsAre, HasDone, LevelDone, FaultsAre, Ends, QuietLevel, Quietly, nothing, one_more, SpareIf, HasQuietlyDone, QuietDone}
 use Rattle.cfa_walk.specs.Passes.{Course, goes, too_large, then_on, each}
 use Rattle.cfa_walk.specs.Tellers.{Teller}
 use Rattle.cfa_walk.specs.Views.{Setting, Home}
@@ -83,11 +83,11 @@ rose_same a b c same rose = subst (λ n. Rose n c) same rose
 
 pub stops_later : (f g k : Faults) (stop : Stop) → Later f g → Stops g k stop → Stops f k stop
 stops_later f g k (Outside Inputs) later stops = stops
-stops_later f g k (Outside Site) later stops = rose_later f.0 g.0 k.0 later.0 stops
+stops_later f g k (Outside Site) later stops = (rose_later f.0 g.0 k.0 later.0 stops.0, stops.1 ∙ later.1)
 stops_later f g k (Outside Sink) later stops = rose_same f.1 g.1 k.1 later.1 stops
-stops_later f g k Memory later stops = tt
-stops_later f g k Visits later stops = tt
-stops_later f g k (Pattern text) later stops = tt
+stops_later f g k Memory later stops = stops ∙ later.1
+stops_later f g k Visits later stops = stops ∙ later.1
+stops_later f g k (Pattern text) later stops = stops ∙ later.1
 
 pub faults_then : (f g k : Faults) (result : Result (Unit {0}) Stop) → Later f g → FaultsAre g k result → FaultsAre f k result
 faults_then f g k (Ok done) later are = later_then f g k later are

@@ -1,11 +1,21 @@
 mod Rows
 pub mod LevelLemmas
+pub mod FactLemmas
+pub mod CommonLemmas
 pub mod SharedLemmas
 pub mod KeptLemmas
 pub mod LocalLemmas
 pub mod SpareLemmas
 pub mod LastLemmas
 pub mod ActivationLemmas
+pub mod QuietLemmas
+pub mod ServedLemmas
+pub mod WalkLemmas
 pub mod NumberedLemmas
 pub mod DefiningLemmas
 pub mod EndingLemmas
+pub mod LoopLemmas
+pub mod PassLemmas
+pub mod CountLemmas
+pub mod VisitLemmas
+pub mod CallLemmas

@@ -3,7 +3,7 @@
 -- Who tells how instances end is an object with what it stands on. It agrees with a teller of the definition as far as it was
 -- asked, and stands behind a history. What it is asked last decides with what it agrees, so a level speaks of every teller with
 -- which the object agrees afterwards.
-use Rattle.std.specs.Prelude.{◌≡◌, ℕ, ◌≤◌, Bool, true, false, List, [], ◌∷◌, length, IsTrue, ⊤, Option, Some, None, Result, Ok, Err}
+use Rattle.std.specs.Prelude.{◌≡◌, ℕ, ◌≤◌, Bool, true, false, List, [], ◌∷◌, length, IsTrue, ⊤, Result, Ok, Err}
 use Rattle.std.specs.List.{Contains}
 use Rattle.cfa_base.specs.Causes.{Rose}
 use Rattle.cfa_base.specs.Shown.{Shown, HasFailed}
@@ -73,14 +73,14 @@ Faults = ℕ × ℕ
 abbrev pub Later : (before after : Faults) → Type 0
 Later before after = (before.0 ≤ after.0) × (after.1 ≡ before.1)
 
--- the cause of a stop
+-- the cause of a stop: the count of the object that failed rose, and at each other stop that of the sink stands
 abbrev pub Stops : (before after : Faults) → Stop → Type 0
 Stops before after (Outside Inputs) = ⊥
-Stops before after (Outside Site) = Rose before.0 after.0
+Stops before after (Outside Site) = Rose before.0 after.0 × (after.1 ≡ before.1)
 Stops before after (Outside Sink) = Rose before.1 after.1
-Stops before after Memory = ⊤
-Stops before after Visits = ⊤
-Stops before after (Pattern text) = ⊤
+Stops before after Memory = after.1 ≡ before.1
+Stops before after Visits = after.1 ≡ before.1
+Stops before after (Pattern text) = after.1 ≡ before.1
 
 -- who tells stops for an object of the outside or for want of memory alone
 abbrev pub IsTellersStop : Stop → Type 0

@@ -9,3 +9,7 @@ pub mod SeenNumbered
 pub mod Levels
 pub mod Steps
 pub mod Raising
+pub mod Walked
+pub mod Facts
+pub mod Bundles
+pub mod Walks

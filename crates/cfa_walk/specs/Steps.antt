@@ -80,6 +80,10 @@ module _ (depth : ℕ) where
   type_level ps type s home status t h =
       promises_from s t (calls_of s t depth) (within home.path) home status (of_type type ps) h
 
+  abbrev pub types_level : List Numbered → List PromiseType → Level
+  types_level ps types s home status t h =
+      types_from s t (calls_of s t depth) (within home.path) home status ps types h
+
   abbrev pub pass_level : List Numbered → Level
   pass_level ps s home status t h = types_from s t (calls_of s t depth) (within home.path) home status ps agent_types h
 

@@ -9,13 +9,14 @@ ghost use Rattle.cfa_resolve.specs.declared.instances.Instance.{Instance};
 ghost use Rattle.cfa_walk.specs.declared.states.State.{State};
 ghost use Rattle.cfa_walk.specs.History.{History, Begun, Set, Raised, Told, within, source_in};
 ghost use Rattle.cfa_walk.specs.Kept.{Keeps, KeepsLocally, Stands, IsSame, IsOf, IsFresh, IsUntouched, home_of, scope_at};
-ghost use Rattle.cfa_walk.specs.Tellers.{worse};
+ghost use Rattle.cfa_walk.specs.Tellers.{worse, inner_path};
 ghost use Rattle.cfa_walk.specs.Views.{Setting, scopes_in, guard_status, is_listed, shared_names};
 
 use crate::states::State;
 use cfa_base::{Name, Names, NoMemory, PromiseId};
 use cfa_classes::{Status, value};
 use cfa_outcomes::{Environment, Outcome};
+use cfa_resolve::Instance;
 use cfa_tree::Guard;
 use cfa_vars::{Datum, Scope, Scopes};
 use std::alloc::Global;
@@ -224,6 +225,15 @@ fn worse(outcome: Outcome, other: Outcome) -> Outcome
         (Outcome::Repaired, Outcome::Failed) => Outcome::Failed,
         (Outcome::Repaired, _) => Outcome::Repaired,
     }
+}
+
+/// The path of a called bundle: that of the caller, a newline, and the key text of the call.
+pub(crate) fn inner_path(alloc: Global, instance: &Instance) -> Result<Name, NoMemory>
+    ensures { IfOk result (λ path. path ≡ inner_path instance.now) }
+{
+    let path = instance.path.as_str();
+    let text = instance.text.as_str();
+    Ok(Name::from_string(format!(in alloc; "{path}\n{text}")?))
 }
 
 /// The status of a guard in an activation.

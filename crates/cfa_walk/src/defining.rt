@@ -1,6 +1,7 @@
 // Promises that define variables and classes.
-ghost use Rattle.std.specs.Prelude.{◌≡◌, [], ◌∷◌, Bool, IfOk, OnOk, map, option_copied};
+ghost use Rattle.std.specs.Prelude.{◌≡◌, ℕ, List, [], ◌∷◌, Bool, IfOk, OnOk, map, option_copied};
 ghost use Rattle.cfa_base.specs.Patterns.{SizeRefusal};
+ghost use Rattle.cfa_base.specs.Shown.{Shown};
 ghost use Rattle.cfa_defines.specs.Builds.{BuiltBy};
 ghost use Rattle.cfa_defines.specs.SeenRaises.{seen_raise};
 ghost use Rattle.cfa_functions.specs.Builds.{refused_in};
@@ -38,9 +39,10 @@ pub(crate) fn pass_over(
     state: &mut State,
     activation: &Activation,
 ) -> Result<(), Stop>
-    ensures { (policy : PolicyTree) (is_common : Bool) → QuietDone policy is_common
+    ensures done { (policy : PolicyTree) (is_common : Bool) → QuietDone policy is_common
         (idle_level (seen_numbered promise.now))
         state.old state.new activation.now activation.now result }
+    ensures patterns { (pats : Shown (List (List ℕ))) → PatternsAre result pats pats }
 {
     if state.count(1) {
         Ok(())
@@ -76,9 +78,11 @@ pub(crate) fn reach_vars(
     state: &mut State,
     activation: &mut Activation,
 ) -> Result<(), Stop>
-    ensures { (policy : PolicyTree) (is_common : Bool) → QuietDone policy is_common
+    ensures done { (policy : PolicyTree) (is_common : Bool) → QuietDone policy is_common
         (vars_level (seen_numbered promise.now) guard)
         state.old state.new activation.old activation.new result }
+    ensures patterns { (pats : Shown (List (List ℕ))) → PatternsAre result pats pats }
+    ensures path { OnOk result (activation.new.path ≡ activation.old.path) }
 {
     let scopes = scopes_of(state, activation);
     let choices = setting_choices(alloc, PromiseType::Vars, promise.promise, &scopes)?;
@@ -278,6 +282,7 @@ pub(crate) fn reach_classes<P: Patterns>(
         (classes_level is_common (seen_numbered promise.now) guard)
         state.old state.new activation.old activation.new result }
     ensures patterns { PatternsAre result (P.shown pats.old) (P.shown pats.new) }
+    ensures path { OnOk result (activation.new.path ≡ activation.old.path) }
 {
     let scopes = scopes_of(state, activation);
     let choices = setting_choices(alloc, PromiseType::Classes, promise.promise, &scopes)?;

@@ -4,11 +4,20 @@
 mod activations;
 mod binding;
 mod contexts;
+mod counting;
 mod defining;
 mod ending;
+mod facts;
 mod numbered;
+mod passing;
 mod shared_names;
 mod states;
+mod tellers;
+mod walking;
+mod walks;
 
 pub use contexts::Context;
 pub use states::MOST_VISITS;
+pub use tellers::Teller;
+pub use walking::run;
+pub use walks::{Blame, Blames, Visit, Visits, Walk, WalkErr};

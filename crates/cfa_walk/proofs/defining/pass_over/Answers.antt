@@ -2,6 +2,6 @@ use Rattle.cfa_walk.specs.SeenNumbered.{seen_numbered}
 use Rattle.cfa_walk.proofs.DefiningLemmas.{passed_over}
 use Rattle.cfa_walk.proofs.defining.pass_over.Goals as goal
 
-pub returns-then-count : goal.returns-then-count
-returns-then-count c = λ policy is_common.
+pub returns-then-count-clause-done : goal.returns-then-count-clause-done
+returns-then-count-clause-done c = λ policy is_common.
     passed_over policy is_common (seen_numbered c.args.promise.now) c.args.state.now c.count.new.self c.args.activation.now (c.count.ensures.within c.if-count.true) (c.count.ensures.left c.if-count.true)

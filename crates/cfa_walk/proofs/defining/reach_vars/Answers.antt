@@ -4,8 +4,8 @@ use Rattle.cfa_walk.specs.SeenNumbered.{seen_numbered}
 use Rattle.cfa_walk.proofs.DefiningLemmas.{vars_set}
 use Rattle.cfa_walk.proofs.defining.reach_vars.Goals as goal
 
-pub returns : goal.returns
-returns c = λ policy is_common.
+pub returns-clause-done : goal.returns-clause-done
+returns-clause-done c = λ policy is_common.
     let counts : c.count.result ≡ true = search rules in
     vars_set policy is_common (seen_numbered c.args.promise.now) c.args.guard (in_scope c.scopes_of-scopes.result) c.in_ok-choices.choices c.count_choices.result
     c.args.state.now c.count.new.self c.set_each.new.state c.args.activation.now c.set_each.new.activation c.scopes_of-scopes.ensures c.count_choices.ensures

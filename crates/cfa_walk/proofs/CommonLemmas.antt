@@ -1,0 +1,240 @@
+-- Promises of common bundles, and common bundles one after the other.
+use Rattle.std.proofs.Common.{◌≡◌, ◌∙◌, ℕ, ◌+◌, ◌<◌, length, take, drop, get_or, map, Bool, true, false, cond, List, [], ◌∷◌, ◌++◌, IsTrue, Option, refl, ap, sym, subst}
+use Rattle.std.specs.Prelude.{not, All, Some, IfSome, Result, Ok, Err}
+use Rattle.std.specs.Result.{IsErrAnd}
+use Rattle.std.proofs.Common.{rules}
+use Rattle.std.proofs.lemmas.Bool.{false≢true}
+use Rattle.std.proofs.lemmas.List.{map-append, take_more, take-append-drop}
+use Rattle.std.proofs.lemmas.List.Elements.{All-get_or, filter-append}
+use denote.Enum.Bare.{sameb, same_true}
+use Rattle.cfa_kinds.specs.contracts.kinds.PromiseType.{the_type as the_types}
+use Rattle.cfa_classes.specs.contracts.levels.Status.{the_type as the_statuses}
+use Rattle.cfa_classes.specs.declared.levels.Status.{Status}
+use Rattle.cfa_classes.specs.declared.levels.Status.TheVariants.{No, Maybe, Yes}
+use Rattle.cfa_kinds.specs.declared.kinds.PromiseType.{PromiseType}
+use Rattle.cfa_kinds.specs.declared.kinds.PromiseType.TheVariants.{Vars, Classes, Files, Methods, Services, Reports, DeleteLines, FieldEdits, InsertLines, ReplacePatterns}
+use Rattle.cfa_output.specs.declared.ends.Stop.{Stop}
+use Rattle.cfa_tree.specs.Tree.{PolicyTree}
+use Rattle.cfa_walk.specs.declared.states.State.{State}
+use Rattle.cfa_walk.specs.declared.activations.Activation.{Activation}
+use Rattle.cfa_walk.specs.Kept.{Stands}
+use Rattle.cfa_walk.specs.Levels.{StandsAt, HasQuietlyDone, QuietDone}
+use Rattle.cfa_walk.specs.Bundles.{is_in_common}
+use Rattle.cfa_walk.specs.History.{History, Where, everywhere}
+use Rattle.cfa_walk.specs.Numbered.{Numbered, is_type, of_type}
+use Rattle.cfa_walk.specs.Passes.{Course, goes, too_large, then_on, Calls, each, kept_by, guarded, reach, calls_of}
+use Rattle.cfa_walk.specs.Steps.{idle_level, vars_level, classes_level, common_type_level}
+use Rattle.cfa_walk.specs.Tellers.{Teller}
+use Rattle.cfa_walk.specs.Views.{Setting, Home, guard_status}
+use Rattle.cfa_walk.proofs.LevelLemmas.{then_assoc, each_one, quiet_is, quiet_nothing, quiet_then, quiet_stops}
+
+-- ---- types
+
+same_type : (type : PromiseType) → is_type type type ≡ true
+same_type Vars = refl
+same_type Classes = refl
+same_type Files = refl
+same_type Methods = refl
+same_type Services = refl
+same_type Reports = refl
+same_type DeleteLines = refl
+same_type FieldEdits = refl
+same_type InsertLines = refl
+same_type ReplacePatterns = refl
+
+pub is_same_type : (type other : PromiseType) → other ≡ type → is_type type other ≡ true
+is_same_type type other same = ap (λ x. is_type type x) same ∙ same_type type
+
+pub is_other_type : (type other : PromiseType) → (other ≡ type → ⊥) → is_type type other ≡ false
+is_other_type Vars Vars other = absurd (other refl)
+is_other_type Classes Classes other = absurd (other refl)
+is_other_type Files Files other = absurd (other refl)
+is_other_type Methods Methods other = absurd (other refl)
+is_other_type Services Services other = absurd (other refl)
+is_other_type Reports Reports other = absurd (other refl)
+is_other_type DeleteLines DeleteLines other = absurd (other refl)
+is_other_type FieldEdits FieldEdits other = absurd (other refl)
+is_other_type InsertLines InsertLines other = absurd (other refl)
+is_other_type ReplacePatterns ReplacePatterns other = absurd (other refl)
+is_other_type type found other = refl
+
+pub other_is_classes : (type : PromiseType) → IsTrue (is_in_common type) → (type ≡ Vars → ⊥) → type ≡ Classes
+other_is_classes Vars common other = absurd (other refl)
+other_is_classes Classes common other = refl
+other_is_classes Files common other = cc
+other_is_classes Methods common other = cc
+other_is_classes Services common other = cc
+other_is_classes Reports common other = cc
+other_is_classes DeleteLines common other = cc
+other_is_classes FieldEdits common other = cc
+other_is_classes InsertLines common other = cc
+other_is_classes ReplacePatterns common other = cc
+
+type_agrees : (type : PromiseType) → sameb the_types type type ≡ true
+type_agrees Vars = refl
+type_agrees Classes = refl
+type_agrees Files = refl
+type_agrees Methods = refl
+type_agrees Services = refl
+type_agrees Reports = refl
+type_agrees DeleteLines = refl
+type_agrees FieldEdits = refl
+type_agrees InsertLines = refl
+type_agrees ReplacePatterns = refl
+
+pub types_agree : (type other : PromiseType) → true ≡ sameb the_types type other → type ≡ other
+types_agree type other e = same_true the_types (search rules) _ _ (sym e)
+
+pub types_differ : (type other : PromiseType) → false ≡ sameb the_types type other → type ≡ other → ⊥
+types_differ type other e same = false≢true (e ∙ ap (λ x. sameb the_types type x) (sym same) ∙ type_agrees type)
+
+status_agrees : (status : Status) → sameb the_statuses status status ≡ true
+status_agrees No = refl
+status_agrees Maybe = refl
+status_agrees Yes = refl
+
+pub statuses_agree : (status other : Status) → true ≡ sameb the_statuses status other → status ≡ other
+statuses_agree status other e = same_true the_statuses (search rules) _ _ (sym e)
+
+pub statuses_differ : (status other : Status) → false ≡ sameb the_statuses status other → status ≡ other → ⊥
+statuses_differ status other e same = false≢true (e ∙ ap (λ x. sameb the_statuses status x) (sym same) ∙ status_agrees status)
+
+pub flipped : (b : Bool) → false ≡ not b → true ≡ b
+flipped true e = refl
+flipped false e = cc
+
+pub flipped_true : (b : Bool) → true ≡ not b → false ≡ b
+flipped_true true e = cc
+flipped_true false e = refl
+
+-- ---- a promise of a common bundle
+
+module _ (s : Setting) (t : Teller) (home : Home) (p : Numbered) (h : History) where
+  pub other_left : (depth : ℕ) (type : PromiseType) → is_type type p.type ≡ false → common_type_level depth (p ∷ []) type s home t h ≡ goes h
+  other_left depth type other =
+      ap (λ b. each (reach s t (calls_of s t depth) everywhere home Yes) (cond b (p ∷ []) []) h) other
+
+  pub one_reached : (depth : ℕ) (type : PromiseType) → is_type type p.type ≡ true →
+      common_type_level depth (p ∷ []) type s home t h ≡ reach s t (calls_of s t depth) everywhere home Yes p h
+  one_reached depth type same =
+      ap (λ b. each (reach s t (calls_of s t depth) everywhere home Yes) (cond b (p ∷ []) []) h) same
+      ∙ each_one (reach s t (calls_of s t depth) everywhere home Yes) p h
+
+  pub not_set : (activate : Calls) (place : Where) (status : Status) → guard_status s h home.path p.promise.guard ≡ No →
+      reach s t activate place home status p h ≡ idle_level p s home t h
+  unfolding reach
+  not_set activate place status unset = ap (λ g. guarded s t activate place home status p g h) unset
+
+  set_by : (activate : Calls) (place : Where) (status guard : Status) → (guard ≡ No → ⊥) →
+      guarded s t activate place home status p guard h ≡ kept_by s t activate place home status p p.type guard h
+  set_by activate place status No set = absurd (set refl)
+  set_by activate place status Maybe set = refl
+  set_by activate place status Yes set = refl
+
+  is_set : (activate : Calls) (place : Where) (status guard : Status) (type : PromiseType) → p.type ≡ type → (guard ≡ No → ⊥) →
+      guard_status s h home.path p.promise.guard ≡ guard →
+      reach s t activate place home status p h ≡ kept_by s t activate place home status p type guard h
+  unfolding reach
+  is_set activate place status guard type of set is =
+      ap (λ g. guarded s t activate place home status p g h) is ∙ set_by activate place status guard set
+      ∙ ap (λ x. kept_by s t activate place home status p x guard h) of
+
+  pub vars_are : (activate : Calls) (place : Where) (status guard : Status) → p.type ≡ Vars → (guard ≡ No → ⊥) →
+      guard_status s h home.path p.promise.guard ≡ guard → reach s t activate place home status p h ≡ vars_level p guard s home t h
+  vars_are activate place status guard of set is = is_set activate place status guard Vars of set is
+
+  pub classes_are : (activate : Calls) (status guard : Status) → p.type ≡ Classes → (guard ≡ No → ⊥) →
+      guard_status s h home.path p.promise.guard ≡ guard → reach s t activate everywhere home status p h ≡ classes_level true p guard s home t h
+  classes_are activate status guard of set is = is_set activate everywhere status guard Classes of set is
+
+-- where the status of its guard is read
+module _ (policy : PolicyTree) (st : State) (a : Activation) (p : Numbered) (guard : Status)
+    (read : (s : Setting) (h : History) → Stands s st a h → guard ≡ guard_status s h a.path p.promise.guard) where
+  read_at : (s : Setting) (home : Home) (status : Status) (h : History) → StandsAt policy s home status st a h →
+      guard_status s h home.path p.promise.guard ≡ guard
+  read_at s home status h stands =
+      ap (λ x. guard_status s h x.path p.promise.guard) (sym stands.1.0) ∙ sym (read s h stands.1.1.1)
+
+  pub common_unset : (depth : ℕ) (type : PromiseType) (st' : State) (a' : Activation) (result : Result (Unit {0}) Stop) →
+      is_type type p.type ≡ true → guard ≡ No → QuietDone policy true (idle_level p) st st' a a' result →
+      QuietDone policy true (common_type_level depth (p ∷ []) type) st st' a a' result
+  common_unset depth type st' a' result same unset does =
+      quiet_is policy true (idle_level p) (common_type_level depth (p ∷ []) type) st st' a a' result
+      (λ s home status t h stands. one_reached s t home p h depth type same
+      ∙ not_set s t home p h (calls_of s t depth) everywhere Yes (read_at s home status h stands ∙ unset)) does
+
+  pub common_vars : (depth : ℕ) (type : PromiseType) (st' : State) (a' : Activation) (result : Result (Unit {0}) Stop) →
+      is_type type p.type ≡ true → p.type ≡ Vars → (guard ≡ No → ⊥) → QuietDone policy true (vars_level p guard) st st' a a' result →
+      QuietDone policy true (common_type_level depth (p ∷ []) type) st st' a a' result
+  common_vars depth type st' a' result same of set does =
+      quiet_is policy true (vars_level p guard) (common_type_level depth (p ∷ []) type) st st' a a' result
+      (λ s home status t h stands. one_reached s t home p h depth type same
+      ∙ vars_are s t home p h (calls_of s t depth) everywhere Yes guard of set (read_at s home status h stands)) does
+
+  pub common_classes : (depth : ℕ) (type : PromiseType) (st' : State) (a' : Activation) (result : Result (Unit {0}) Stop) →
+      is_type type p.type ≡ true → p.type ≡ Classes → (guard ≡ No → ⊥) → QuietDone policy true (classes_level true p guard) st st' a a' result →
+      QuietDone policy true (common_type_level depth (p ∷ []) type) st st' a a' result
+  common_classes depth type st' a' result same of set does =
+      quiet_is policy true (classes_level true p guard) (common_type_level depth (p ∷ []) type) st st' a a' result
+      (λ s home status t h stands. one_reached s t home p h depth type same
+      ∙ classes_are s t home p h (calls_of s t depth) Yes guard of set (read_at s home status h stands)) does
+
+-- ---- some after others
+
+then_alike : (c : Course) (f g : History → Course) → ((k : History) → f k ≡ g k) → then_on c f ≡ then_on c g
+then_alike (goes h) f g same = same h
+then_alike (too_large h) f g same = refl
+
+pub each_append : {X : Type 0} (does : X → History → Course) (xs ys : List X) (h : History) → each does (xs ++ ys) h ≡ then_on (each does xs h) (each does ys)
+each_append does [] ys h = refl
+each_append does (x ∷ xs) ys h =
+    then_alike (does x h) (each does (xs ++ ys)) (λ k. then_on (each does xs k) (each does ys)) (each_append does xs ys)
+    ∙ sym (then_assoc (does x h) (each does xs) (each does ys))
+
+-- the promises of one type of a common bundle
+module _ (policy : PolicyTree) (depth : ℕ) (type : PromiseType) where
+  level_append : (xs ys : List Numbered) (s : Setting) (home : Home) (t : Teller) (h : History) →
+      common_type_level depth (xs ++ ys) type s home t h ≡ then_on (common_type_level depth xs type s home t h) (common_type_level depth ys type s home t)
+  level_append xs ys s home t h =
+      ap (λ ps. each (reach s t (calls_of s t depth) everywhere home Yes) ps h) (filter-append (λ p. is_type type p.type) xs ys)
+      ∙ each_append (reach s t (calls_of s t depth) everywhere home Yes) (of_type type xs) (of_type type ys) h
+
+  pub type_nothing : (st : State) (a : Activation) → HasQuietlyDone policy true (common_type_level depth [] type) st st a a
+  type_nothing st a = quiet_nothing policy true (common_type_level depth [] type) st a (λ s home status t h stands. refl)
+
+  pub type_then : (all xs ys : List Numbered) (st st' st'' : State) (a a' a'' : Activation) (result : Result (Unit {0}) Stop) → all ≡ xs ++ ys →
+      HasQuietlyDone policy true (common_type_level depth xs type) st st' a a' → QuietDone policy true (common_type_level depth ys type) st' st'' a' a'' result →
+      QuietDone policy true (common_type_level depth all type) st st'' a a'' result
+  type_then all xs ys st st' st'' a a' a'' result is first second =
+      quiet_is policy true
+      (λ s home t h. then_on (common_type_level depth xs type s home t h) (common_type_level depth ys type s home t)) (common_type_level depth all type) st st'' a a'' result
+      (λ s home status t h stands. ap (λ ps. common_type_level depth ps type s home t h) is ∙ level_append xs ys s home t h)
+      (quiet_then policy true (common_type_level depth xs type) (common_type_level depth ys type) st st' st'' a a' a'' result first second)
+
+  pub type_stops : (all xs ys : List Numbered) (st st' : State) (a a' : Activation) (stop : Stop) → all ≡ xs ++ ys →
+      QuietDone policy true (common_type_level depth xs type) st st' a a' (Err stop) → QuietDone policy true (common_type_level depth all type) st st' a a' (Err stop)
+  type_stops all xs ys st st' a a' stop is first =
+      quiet_is policy true
+      (λ s home t h. then_on (common_type_level depth xs type s home t h) (common_type_level depth ys type s home t)) (common_type_level depth all type) st st' a a' (Err stop)
+      (λ s home status t h stands. ap (λ ps. common_type_level depth ps type s home t h) is ∙ level_append xs ys s home t h)
+      (quiet_stops policy true (common_type_level depth xs type) (common_type_level depth ys type) st st' a a' stop first)
+
+-- ---- parts of lists
+
+pub one_taken : {X Y : Type 0} (f : X → Y) (xs : List X) (i : ℕ) (x : X) → i < length xs → x ≡ get_or xs i x → map f (take (i + 1) xs) ≡ map f (take i xs) ++ f x ∷ []
+one_taken f xs i x within is =
+    ap (map f) (take_more xs i x within) ∙ map-append f (take i xs) (get_or xs i x ∷ []) ∙ ap (λ y. map f (take i xs) ++ f y ∷ []) (sym is)
+
+pub in_parts : {X Y : Type 0} (f : X → Y) (xs : List X) (i : ℕ) → map f xs ≡ map f (take i xs) ++ map f (drop i xs)
+in_parts f xs i = ap (map f) (sym (take-append-drop i xs)) ∙ map-append f (take i xs) (drop i xs)
+
+-- what the exit of a `?` answers
+pub on_stop : (P : Result (Unit {0}) Stop → Type 0) (result : Result (Unit {0}) Stop) (stop : Stop) → IsErrAnd result (λ e. e ≡ stop) → P (Err stop) → P result
+on_stop P (Ok done) stop same stopped = absurd same
+on_stop P (Err e) stop same stopped = subst (λ (x : Stop). P (Err x)) (sym same) stopped
+
+pub of_some : {X : Type 0} (P : X → Type 0) (found : Option X) (x : X) → found ≡ Some x → IfSome found P → P x
+of_some {X} P found x is holds = subst (λ (f : Option X). IfSome f P) is holds
+
+pub of_item : {X : Type 0} (P : X → Type 0) (xs : List X) (i : ℕ) (x : X) → i < length xs → x ≡ get_or xs i x → All P xs → P x
+of_item P xs i x within is all = subst P (sym is) (All-get_or P xs i x within all)

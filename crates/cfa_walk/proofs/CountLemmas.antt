@@ -1,0 +1,152 @@
+-- A promise that has instances: its visits are counted, and its instances visited.
+use Rattle.std.proofs.Common.{◌≡◌, ℕ, ◌+◌, ◌-◌, ◌≤◌, ◌<◌, Bool, false, List, ◌∷◌, length, All, IsTrue, refl, sym, ap, subst, ◌∙◌}
+use Rattle.std.specs.Prelude.{nat_le, Result, Ok, Err}
+use Rattle.std.proofs.Math.Path.{fun_ext}
+use Rattle.std.proofs.lemmas.Bool.{le-leb, lt-leb}
+use Rattle.std.proofs.lemmas.List.Elements.{All-weaker}
+use Rattle.cfa_base.specs.Shown.{Shown}
+use Rattle.cfa_base.specs.declared.places.PromiseId.{PromiseId}
+use Rattle.cfa_classes.specs.declared.levels.Status.{Status}
+use Rattle.cfa_classes.specs.Raised.{Raised as Statuses, status_in}
+use Rattle.cfa_output.specs.declared.ends.Stop.{Stop}
+use Rattle.cfa_output.specs.declared.ends.Stop.TheVariants.{Outside, Memory, Visits, Pattern}
+use Rattle.cfa_resolve.specs.declared.instances.Instance.{Instance}
+use Rattle.cfa_resolve.specs.declared.instances.Resolved.{Resolved}
+use Rattle.cfa_resolve.specs.Laws.{IsInstanceOf}
+use Rattle.cfa_resolve.specs.Instances.{Reached as ReachedAt}
+use Rattle.cfa_resolve.specs.Resolution.{resolution, reached_at}
+use Rattle.cfa_schema.specs.Laws.{IsCounted}
+use Rattle.cfa_tree.specs.Tree.{PolicyTree}
+use Rattle.cfa_vars.specs.Scopes.{InScope}
+use Rattle.cfa_walk.specs.declared.states.State.{State}
+use Rattle.cfa_walk.specs.declared.activations.Activation.{Activation}
+use Rattle.cfa_walk.specs.History.{History, Event, Reached, visits_in}
+use Rattle.cfa_walk.specs.Kept.{Stands, SpareShorter, home_of}
+use Rattle.cfa_walk.specs.Levels.{GoesTo, IsTooLarge, is_quiet, Faults, StandsAt, LevelDone, PatternsAre, Ends}
+use Rattle.cfa_walk.specs.Numbered.{Numbered}
+use Rattle.cfa_walk.specs.Passes.{Course, within_limit, most_visits, calls_of, instances_from}
+use Rattle.cfa_walk.specs.Steps.{acting_level, instances_level, resolution_at, reached_event, Counts, IsAt}
+use Rattle.cfa_walk.specs.Tellers.{Teller}
+use Rattle.cfa_walk.specs.Views.{Setting, Home, scopes_in, global_status}
+use Rattle.cfa_walk.proofs.LevelLemmas.{goes_weaker, patterns_then}
+use Rattle.cfa_walk.proofs.SpareLemmas.{spare_then, spare_reached}
+use Rattle.cfa_walk.proofs.DefiningLemmas.{stands_reached, fits, exceeds}
+
+-- ---- its level
+
+module _ (depth : ℕ) (p : Numbered) (guard : Status) (s : Setting) (home : Home) (status : Status) (t : Teller) (h : History) where
+  acting_is : (instances : List Instance) → instances ≡ (resolution_at s home p h).instances →
+      IsTrue (nat_le ((resolution_at s home p h).visits + visits_in h) most_visits) →
+      acting_level depth p guard s home status t h ≡ instances_level depth guard instances s home status t (reached_event home p guard (resolution_at s home p h) h)
+  acting_is instances is within_it =
+      let r : Resolved = resolution_at s home p h in
+      let k : History = reached_event home p guard r h in
+      ap (λ (b : Bool). within_limit b (instances_from t (calls_of s t depth) guard status r.instances k) h) within_it
+      ∙ ap (λ (xs : List Instance). instances_from t (calls_of s t depth) guard status xs k) (sym is)
+
+  acting_past : nat_le ((resolution_at s home p h).visits + visits_in h) most_visits ≡ false → IsTooLarge (acting_level depth p guard s home status t h)
+  acting_past past =
+      let r : Resolved = resolution_at s home p h in
+      let k : History = reached_event home p guard r h in
+      subst (λ (b : Bool). IsTooLarge (within_limit b (instances_from t (calls_of s t depth) guard status r.instances k) h)) (sym past) tt
+
+module _ {W X : Type 0} (teller : X → Teller) (agrees : W → X → Type 0) (behind : W → X → History → Type 0) (faults : W → Faults) (policy : PolicyTree)
+    (depth : ℕ) (p : Numbered) (guard : Status) (w : W) (st st' : State) (a : Activation) where
+  acting_done : ((x : X) (event : Event) (h : History) → IsTrue (is_quiet event) → behind w x h → behind w x (event ∷ h)) →
+      (w' : W) (st'' : State) (a' : Activation) (instances : List Instance) (result : Result (Unit {0}) Stop) →
+      Counts policy p st st' a (Ok instances) → LevelDone teller agrees behind policy (instances_level depth guard instances) w w' st' st'' a a' result →
+      LevelDone teller agrees behind policy (acting_level depth p guard) w w' st st'' a a' result
+  acting_done steady w' st'' a' instances (Ok done) counts does = λ s home status x h agree.
+      let r : Resolved = resolution_at s home p h in
+      let k : History = reached_event home p guard r h in
+      let d = does s home status x k agree in (
+        d.0,
+        λ stands stays.
+            let n = counts s home status guard h stands in
+            let P : History → Type 0 = λ m. StandsAt policy s home status st'' a' m × (behind w' x m × SpareShorter (length home.path) h m) in
+            subst (λ (c : Course). GoesTo c P) (sym (acting_is depth p guard s home status (teller x) h instances n.0 n.1.0))
+            (goes_weaker (instances_level depth guard instances s home status (teller x) k) _ P
+            (λ m q. (q.0, (q.1.0, spare_then (length home.path) h k m (spare_reached (length home.path) h home.path p.id guard false r.visits) q.1.1)))
+            (d.1 n.1.1 (steady x (Reached home.path p.id guard false r.visits) h refl stays))),
+      )
+  acting_done steady w' st'' a' instances (Err (Outside object)) counts does = tt
+  acting_done steady w' st'' a' instances (Err Memory) counts does = tt
+  acting_done steady w' st'' a' instances (Err Visits) counts does = λ s home status x h agree.
+      let r : Resolved = resolution_at s home p h in
+      let k : History = reached_event home p guard r h in
+      let d = does s home status x k agree in (
+        d.0,
+        λ stands stays.
+            let n = counts s home status guard h stands in
+            subst (λ (c : Course). IsTooLarge c) (sym (acting_is depth p guard s home status (teller x) h instances n.0 n.1.0))
+            (d.1 n.1.1 (steady x (Reached home.path p.id guard false r.visits) h refl stays)),
+      )
+  acting_done steady w' st'' a' instances (Err (Pattern text)) counts does = tt
+
+  pub acting_ends : ((x : X) (event : Event) (h : History) → IsTrue (is_quiet event) → behind w x h → behind w x (event ∷ h)) →
+      (w' : W) (st'' : State) (a' : Activation) (instances : List Instance) (b b' b'' : Shown (List (List ℕ))) (result : Result (Unit {0}) Stop) →
+      Counts policy p st st' a (Ok instances) → PatternsAre (Ok tt) b b' →
+      Ends teller agrees behind faults policy (instances_level depth guard instances) w w' st' st'' a a' b' b'' result →
+      Ends teller agrees behind faults policy (acting_level depth p guard) w w' st st'' a a' b b'' result
+  acting_ends steady w' st'' a' instances b b' b'' result counts same ends =
+      (acting_done steady w' st'' a' instances result counts ends.0, (ends.1.0, patterns_then b b' b'' result same ends.1.1))
+
+  -- the counting stopped
+  pub count_stops : (b b' : Shown (List (List ℕ))) (stop : Stop) → Counts policy p st st' a (Err stop) → PatternsAre (Err stop) b b' →
+      Ends teller agrees behind faults policy (acting_level depth p guard) w w st st' a a b b' (Err stop)
+  count_stops b b' (Outside object) counts are = absurd counts
+  count_stops b b' Memory counts are = (tt, (refl, are))
+  count_stops b b' Visits counts are =
+      (λ s home status x h agree. (agree, λ stands stays. acting_past depth p guard s home status (teller x) h (counts s home status h stands)), (refl, are))
+  count_stops b b' (Pattern text) counts are = (tt, (refl, are))
+
+-- ---- what was counted
+
+-- what a promise is reached at, by what is kept
+abbrev pub seen_at : PolicyTree → Numbered → InScope → Statuses → (path : List ℕ) → ReachedAt
+seen_at policy p scopes statuses path = reached_at policy p.id scopes (status_in statuses) path (p.type, p.promise)
+
+module _ (policy : PolicyTree) (p : Numbered) (scopes : InScope) (statuses : Statuses) (st : State) (a : Activation)
+    (sees : (s : Setting) (h : History) → Stands s st a h → scopes ≡ scopes_in s h (home_of a)) (global : statuses ≡ st.environment.statuses) where
+  seen_is : (s : Setting) (home : Home) (status : Status) (h : History) → StandsAt policy s home status st a h →
+      resolution (seen_at policy p scopes statuses a.path) ≡ resolution_at s home p h
+  seen_is s home status h stands =
+      let its : Home = home_of a in
+      ap (λ (x : InScope). resolution (reached_at policy p.id x (status_in statuses) a.path (p.type, p.promise))) (sees s h stands.1.1.1)
+      ∙ (ap (λ (x : Statuses). resolution (reached_at policy p.id (scopes_in s h its) (status_in x) a.path (p.type, p.promise))) global
+      ∙ (ap (λ (x : List ℕ → Status). resolution (reached_at policy p.id (scopes_in s h its) x a.path (p.type, p.promise))) (fun_ext stands.1.1.1.0.0)
+      ∙ (ap (λ (x : Home). resolution (reached_at policy p.id (scopes_in s h x) (global_status s h) x.path (p.type, p.promise))) stands.1.0
+      ∙ ap (λ (x : PolicyTree). resolution (reached_at x p.id (scopes_in s h home) (global_status s h) home.path (p.type, p.promise))) (sym stands.0))))
+
+  pub counted : (resolved : Resolved) (st' : State) → resolved ≡ resolution (seen_at policy p scopes statuses a.path) → resolved.visits ≤ st.left →
+      st' ≡ record st { left = st.left - resolved.visits } → Counts policy p st st' a (Ok resolved.instances)
+  counted resolved st' is enough counts = λ s home status guard h stands.
+      let r : Resolved = resolution_at s home p h in
+      let same : resolved ≡ r = is ∙ seen_is s home status h stands in
+      let fit : r.visits + visits_in h ≤ most_visits =
+      subst (λ (x : Resolved). x.visits + visits_in h ≤ most_visits) same (fits st.left resolved.visits (visits_in h) enough stands.1.1.1.0.1.1.1.1) in
+      let stood : Stands s st' a (Reached home.path p.id guard false resolved.visits ∷ h) =
+      subst (λ (x : State). Stands s x a (Reached home.path p.id guard false resolved.visits ∷ h)) (sym counts)
+      (stands_reached s st a home.path p.id guard false resolved.visits h enough stands.1.1.1) in (
+        ap (λ (x : Resolved). x.instances) same,
+        (
+          le-leb (r.visits + visits_in h) most_visits fit,
+          (stands.0, (stands.1.0, (stands.1.1.0, subst (λ (x : Resolved). Stands s st' a (reached_event home p guard x h)) same stood))),
+        ),
+      )
+
+  pub uncounted : (st' : State) → st.left < (resolution (seen_at policy p scopes statuses a.path)).visits → Counts policy p st st' a (Err Visits)
+  uncounted st' few = λ s home status h stands.
+      let r : Resolved = resolution_at s home p h in
+      let past : most_visits < r.visits + visits_in h =
+      exceeds st.left r.visits (visits_in h) (subst (λ (x : Resolved). st.left < x.visits) (seen_is s home status h stands) few) stands.1.1.1.0.1.1.1.1 in
+      lt-leb (r.visits + visits_in h) most_visits past
+
+-- its instances are of its activation
+pub all_at : (policy : PolicyTree) (p : Numbered) (scopes : InScope) (statuses : Statuses) (path : List ℕ) (resolved : Resolved) →
+    resolved ≡ resolution (seen_at policy p scopes statuses path) → IsCounted p.id →
+    ((r : ReachedAt) → All (IsInstanceOf r) (resolution r).instances) → All (IsAt path) resolved.instances
+all_at policy p scopes statuses path resolved is id named =
+    let r : ReachedAt = seen_at policy p scopes statuses path in
+    subst (λ (x : Resolved). All (IsAt path) x.instances) (sym is)
+    (All-weaker (IsInstanceOf r) (IsAt path) (λ instance of. (of.path, subst (λ (x : PromiseId). IsCounted x) (sym of.source) id)) (resolution r).instances (named r))

@@ -1,0 +1,565 @@
+use Rattle.std.proofs.Common.{◌≡◌, ◌∙◌, ℕ, All, suc, ◌+◌, ◌-◌, List, Some, None, get_or, [], ◌∷◌, ◌++◌, map, take, drop, refl, sym, ap, subst, Bool, false, rules, arith}
+use Rattle.std.specs.Prelude.{Ok, Err}
+use Rattle.std.proofs.lemmas.List.{take_all, take_more, take-append-drop}
+use Rattle.cfa_classes.specs.declared.levels.Status.TheVariants.{No}
+use Rattle.cfa_kinds.specs.declared.kinds.PromiseType.{PromiseType}
+use Rattle.cfa_kinds.specs.declared.kinds.PromiseType.TheVariants.{Vars}
+use Rattle.cfa_schema.specs.Laws.{IsCounted}
+use Rattle.cfa_schema.specs.Served.{bundle_of}
+use Rattle.cfa_tree.specs.Plain.{plain_named}
+use Rattle.cfa_vars.specs.declared.scoping.Datum.{Datum}
+use Rattle.cfa_walk.specs.Bundles.{seen_bundle}
+use Rattle.cfa_walk.specs.History.{History}
+use Rattle.cfa_walk.specs.Kept.{Stands, IsOf}
+use Rattle.cfa_walk.specs.Passes.{bind}
+use Rattle.cfa_walk.specs.Tellers.{inner_path}
+use Rattle.cfa_walk.specs.Views.{Setting}
+use Rattle.cfa_walk.proofs.ServedLemmas.{all_held, found_name}
+use Rattle.cfa_walk.proofs.passing.+passes.Goals.{reach_type-then-eq+in_ok-reach, reach_type-else-eq, activate-in-Some+in_ok-bind+in_ok-promises+in_ok-go_through, activate-in_default}
+use Rattle.cfa_resolve.specs.declared.instances.Instance.{Instance}
+use Rattle.cfa_schema.specs.Seen.{tree_of}
+use Rattle.cfa_walk.specs.declared.numbered.Numbered.{Numbered as Held}
+use Rattle.cfa_output.specs.declared.ends.Stop.TheVariants.{Memory}
+use Rattle.cfa_walk.specs.Levels.{Ends, HasVisited}
+use Rattle.cfa_walk.specs.Numbered.{Numbered, agent_types, numbered_in, params_of}
+use Rattle.cfa_walk.specs.SeenNumbered.{seen_numbered}
+use Rattle.cfa_walk.specs.Steps.{IsAt, AreCounted, CallEnds, visit_level, instances_level, acting_level, type_level, types_level, pass_level, passes_level}
+use Rattle.cfa_walk.proofs.CommonLemmas.{one_taken, in_parts, of_item, on_stop, is_same_type, is_other_type, types_agree, types_differ, statuses_agree, statuses_differ}
+use Rattle.cfa_walk.proofs.LoopLemmas.{loop_begins, loop_goes_on, loop_stops}
+use Rattle.cfa_walk.proofs.PassLemmas.{first_stops, second_stops, passes_end, type_begins, type_goes_on, type_leaves, type_stops, reached_unset, reached_vars, reached_classes, reached_acting, reached_left, left_type, acting_type, no_path, any_path, path_then}
+use Rattle.cfa_walk.proofs.CountLemmas.{acting_ends, count_stops}
+use Rattle.cfa_walk.proofs.VisitLemmas.{not_visited, teller_stops, skipped, call_stops, tell_stops, raise_stops, visit_done}
+use Rattle.cfa_walk.proofs.CallLemmas.{Begins, halted, no_acts, no_report, call_memory, call_deepest, call_missing, bundle_stops, call_done}
+use Rattle.cfa_walk.proofs.passing.+passes.Goals as goal
+
+pub go_through-returns-in_err-pass-clause-ends : goal.go_through-returns-in_err-pass-clause-ends
+go_through-returns-in_err-pass-clause-ends g t c =
+    let policy = tree_of c.args.scene.now.checked.now in
+    let ps = map seen_numbered c.args.promises.now in
+    on_stop (λ result. Ends g.T.Teller.teller g.T.Teller.agrees g.T.Teller.behind g.T.Teller.faults policy (passes_level c.args.scene.now.depth ps) (c.args.teller.now, (c.args.site.now, c.args.out.now)) (c.pass.new.teller, (c.pass.new.site, c.pass.new.out)) c.args.state.now c.pass.new.state c.args.activation.now c.pass.new.activation (g.P.Patterns.shown c.args.pats.now) (g.P.Patterns.shown c.pass.new.pats) result)
+    c.from_residual.result c.in_err-pass.field-0.0 c.from_residual.ensures.1
+    (first_stops g.T.Teller.teller g.T.Teller.agrees g.T.Teller.behind g.T.Teller.faults policy c.args.scene.now.depth ps (c.args.teller.now, (c.args.site.now, c.args.out.now)) (c.pass.new.teller, (c.pass.new.site, c.pass.new.out)) c.args.state.now c.pass.new.state c.args.activation.now c.pass.new.activation (g.P.Patterns.shown c.args.pats.now) (g.P.Patterns.shown c.pass.new.pats) c.in_err-pass.field-0.0 c.in_err-pass.ensures.ends)
+
+pub go_through-returns-in_err-pass-clause-path : goal.go_through-returns-in_err-pass-clause-path
+go_through-returns-in_err-pass-clause-path g t c =
+    no_path _ c.from_residual.result c.in_err-pass.field-0.0 c.from_residual.ensures.1
+
+pub go_through-returns-in_err-pass-2-clause-ends : goal.go_through-returns-in_err-pass-2-clause-ends
+go_through-returns-in_err-pass-2-clause-ends g t c =
+    let policy = tree_of c.args.scene.now.checked.now in
+    let ps = map seen_numbered c.args.promises.now in
+    on_stop (λ result. Ends g.T.Teller.teller g.T.Teller.agrees g.T.Teller.behind g.T.Teller.faults policy (passes_level c.args.scene.now.depth ps) (c.args.teller.now, (c.args.site.now, c.args.out.now)) (c.pass-2.new.teller, (c.pass-2.new.site, c.pass-2.new.out)) c.args.state.now c.pass-2.new.state c.args.activation.now c.pass-2.new.activation (g.P.Patterns.shown c.args.pats.now) (g.P.Patterns.shown c.pass-2.new.pats) result)
+    c.from_residual-in_err-pass-2.result c.in_err-pass-2.field-0.0 c.from_residual-in_err-pass-2.ensures.1
+    (second_stops g.T.Teller.teller g.T.Teller.agrees g.T.Teller.behind g.T.Teller.faults policy c.args.scene.now.depth ps (c.args.teller.now, (c.args.site.now, c.args.out.now)) (c.pass.new.teller, (c.pass.new.site, c.pass.new.out)) (c.pass-2.new.teller, (c.pass-2.new.site, c.pass-2.new.out)) c.args.state.now c.pass.new.state c.pass-2.new.state c.args.activation.now c.pass.new.activation c.pass-2.new.activation (g.P.Patterns.shown c.args.pats.now) (g.P.Patterns.shown c.pass.new.pats) (g.P.Patterns.shown c.pass-2.new.pats) c.in_err-pass-2.field-0.0 c.in_ok-pass.ensures.ends c.in_err-pass-2.ensures.ends)
+
+pub go_through-returns-in_err-pass-2-clause-path : goal.go_through-returns-in_err-pass-2-clause-path
+go_through-returns-in_err-pass-2-clause-path g t c =
+    no_path _ c.from_residual-in_err-pass-2.result c.in_err-pass-2.field-0.0 c.from_residual-in_err-pass-2.ensures.1
+
+pub go_through-returns-clause-ends : goal.go_through-returns-clause-ends
+go_through-returns-clause-ends g t c =
+    let policy = tree_of c.args.scene.now.checked.now in
+    let ps = map seen_numbered c.args.promises.now in
+    passes_end g.T.Teller.teller g.T.Teller.agrees g.T.Teller.behind g.T.Teller.faults policy c.args.scene.now.depth ps (c.args.teller.now, (c.args.site.now, c.args.out.now)) (c.pass.new.teller, (c.pass.new.site, c.pass.new.out)) (c.pass-2.new.teller, (c.pass-2.new.site, c.pass-2.new.out)) (c.pass-3.new.teller, (c.pass-3.new.site, c.pass-3.new.out)) c.args.state.now c.pass.new.state c.pass-2.new.state c.pass-3.new.state c.args.activation.now c.pass.new.activation c.pass-2.new.activation c.pass-3.new.activation (g.P.Patterns.shown c.args.pats.now) (g.P.Patterns.shown c.pass.new.pats) (g.P.Patterns.shown c.pass-2.new.pats) (g.P.Patterns.shown c.pass-3.new.pats) c.pass-3.result
+    c.in_ok-pass.ensures.ends c.in_ok-pass-2.ensures.ends c.pass-3.ensures.ends
+
+pub go_through-returns-clause-path : goal.go_through-returns-clause-path
+go_through-returns-clause-path g t c =
+    path_then _ _ _ c.pass-3.result c.pass-3.ensures.path (c.in_ok-pass-2.ensures.path ∙ c.in_ok-pass.ensures.path)
+
+pub pass-loop-promise_type-init : goal.pass-loop-promise_type-init
+pass-loop-promise_type-init g t c =
+    let policy = tree_of c.args.scene.now.checked.now in
+    let ps = map seen_numbered c.args.promises.now in
+    (loop_begins g.T.Teller.teller g.T.Teller.agrees g.T.Teller.behind g.T.Teller.faults policy (λ (x : PromiseType). type_level c.args.scene.now.depth ps x) (c.args.teller.now, (c.args.site.now, c.args.out.now)) c.args.state.now c.args.activation.now (g.P.Patterns.shown c.args.pats.now), (refl, refl))
+
+pub pass-loop-promise_type-preserved : goal.pass-loop-promise_type-preserved
+pass-loop-promise_type-preserved g t c =
+    let policy = tree_of c.args.scene.now.checked.now in
+    let ps = map seen_numbered c.args.promises.now in
+    let types = agent_types in
+    let i = c.loop-promise_type.promise_type-index in
+    let type = get_or types i Vars in
+    let one : take (i + 1) types ≡ take i types ++ type ∷ [] = take_more types i Vars c.loop-promise_type-test.true in (
+      loop_goes_on g.T.Teller.teller g.T.Teller.agrees g.T.Teller.behind g.T.Teller.faults policy (λ (x : PromiseType). type_level c.args.scene.now.depth ps x) (take (i + 1) types) (take i types) type (c.args.teller.now, (c.args.site.now, c.args.out.now)) (c.loop-promise_type.teller, (c.loop-promise_type.site, c.loop-promise_type.out)) (c.reach_type.new.teller, (c.reach_type.new.site, c.reach_type.new.out)) c.args.state.now c.loop-promise_type.state c.reach_type.new.state c.args.activation.now c.loop-promise_type.activation c.reach_type.new.activation (g.P.Patterns.shown c.args.pats.now) (g.P.Patterns.shown c.loop-promise_type.pats) (g.P.Patterns.shown c.reach_type.new.pats) (Ok tt)
+          one c.loop-promise_type.invariant.0 c.in_ok-reach_type.ensures.ends,
+      (c.in_ok-reach_type.ensures.path ∙ c.loop-promise_type.invariant.1.0, c.loop-promise_type.invariant.1.1),
+    )
+
+pub pass-returns-in_err-reach_type-clause-ends : goal.pass-returns-in_err-reach_type-clause-ends
+pass-returns-in_err-reach_type-clause-ends g t c =
+    let policy = tree_of c.args.scene.now.checked.now in
+    let ps = map seen_numbered c.args.promises.now in
+    let types = agent_types in
+    let i = c.loop-promise_type.promise_type-index in
+    let type = get_or types i Vars in
+    let one : take (i + 1) types ≡ take i types ++ type ∷ [] = take_more types i Vars c.loop-promise_type-test.true in
+    let stop = c.in_err-reach_type.field-0.0 in
+    on_stop (λ result. Ends g.T.Teller.teller g.T.Teller.agrees g.T.Teller.behind g.T.Teller.faults policy (pass_level c.args.scene.now.depth ps) (c.args.teller.now, (c.args.site.now, c.args.out.now)) (c.reach_type.new.teller, (c.reach_type.new.site, c.reach_type.new.out)) c.args.state.now c.reach_type.new.state c.args.activation.now c.reach_type.new.activation (g.P.Patterns.shown c.args.pats.now) (g.P.Patterns.shown c.reach_type.new.pats) result)
+    c.from_residual.result c.in_err-reach_type.field-0.0 c.from_residual.ensures.1
+    (loop_stops g.T.Teller.teller g.T.Teller.agrees g.T.Teller.behind g.T.Teller.faults policy (λ (x : PromiseType). type_level c.args.scene.now.depth ps x) agent_types (take (i + 1) types) (drop (i + 1) types) (c.args.teller.now, (c.args.site.now, c.args.out.now)) (c.reach_type.new.teller, (c.reach_type.new.site, c.reach_type.new.out)) c.args.state.now c.reach_type.new.state c.args.activation.now c.reach_type.new.activation (g.P.Patterns.shown c.args.pats.now) (g.P.Patterns.shown c.reach_type.new.pats) stop
+    (sym (take-append-drop (i + 1) types))
+    (loop_goes_on g.T.Teller.teller g.T.Teller.agrees g.T.Teller.behind g.T.Teller.faults policy (λ (x : PromiseType). type_level c.args.scene.now.depth ps x) (take (i + 1) types) (take i types) type (c.args.teller.now, (c.args.site.now, c.args.out.now)) (c.loop-promise_type.teller, (c.loop-promise_type.site, c.loop-promise_type.out)) (c.reach_type.new.teller, (c.reach_type.new.site, c.reach_type.new.out)) c.args.state.now c.loop-promise_type.state c.reach_type.new.state c.args.activation.now c.loop-promise_type.activation c.reach_type.new.activation (g.P.Patterns.shown c.args.pats.now) (g.P.Patterns.shown c.loop-promise_type.pats) (g.P.Patterns.shown c.reach_type.new.pats) (Err stop)
+    one c.loop-promise_type.invariant.0 c.in_err-reach_type.ensures.ends))
+
+pub pass-returns-in_err-reach_type-clause-path : goal.pass-returns-in_err-reach_type-clause-path
+pass-returns-in_err-reach_type-clause-path g t c =
+    no_path _ c.from_residual.result c.in_err-reach_type.field-0.0 c.from_residual.ensures.1
+
+pub pass-returns-clause-ends : goal.pass-returns-clause-ends
+pass-returns-clause-ends g t c =
+    let policy = tree_of c.args.scene.now.checked.now in
+    let ps = map seen_numbered c.args.promises.now in
+    subst (λ (x : List PromiseType). Ends g.T.Teller.teller g.T.Teller.agrees g.T.Teller.behind g.T.Teller.faults policy (types_level c.args.scene.now.depth ps x) (c.args.teller.now, (c.args.site.now, c.args.out.now)) (c.loop-promise_type.teller, (c.loop-promise_type.site, c.loop-promise_type.out)) c.args.state.now c.loop-promise_type.state c.args.activation.now c.loop-promise_type.activation (g.P.Patterns.shown c.args.pats.now) (g.P.Patterns.shown c.loop-promise_type.pats) (Ok tt))
+    (take_all c.loop-promise_type.promise_type-index agent_types c.loop-promise_type-test.false) c.loop-promise_type.invariant.0
+
+pub pass-returns-clause-path : goal.pass-returns-clause-path
+pass-returns-clause-path g t c =
+    c.loop-promise_type.invariant.1.0
+
+pub reach_type-loop-promise-init : goal.reach_type-loop-promise-init
+reach_type-loop-promise-init g t c =
+    let policy = tree_of c.args.scene.now.checked.now in
+    (type_begins g.T.Teller.teller g.T.Teller.agrees g.T.Teller.behind g.T.Teller.faults policy c.args.scene.now.depth c.args.promise_type (c.args.teller.now, (c.args.site.now, c.args.out.now)) c.args.state.now c.args.activation.now (g.P.Patterns.shown c.args.pats.now), refl)
+
+pub reach_type-loop-promise-preserved : goal.reach_type-loop-promise-preserved
+reach_type-loop-promise-preserved g t c =
+    let policy = tree_of c.args.scene.now.checked.now in
+    let found = c.args.promises.now in
+    let i = c.loop-promise.promise-index in
+    let p = c.promise-item.result in
+    let one = one_taken seen_numbered found i p c.loop-promise-test.true c.promise-item.is in
+    elim c.if-eq.branch [
+      | reach_type-then-eq+in_ok-reach w ↦
+          rw (w.state-is, w.activation-is, w.teller-is, w.site-is, w.out-is, w.pats-is) (
+            type_goes_on g.T.Teller.teller g.T.Teller.agrees g.T.Teller.behind g.T.Teller.faults policy c.args.scene.now.depth c.args.promise_type (map seen_numbered (take (i + 1) found)) (map seen_numbered (take i found)) (seen_numbered p) (c.args.teller.now, (c.args.site.now, c.args.out.now)) (c.loop-promise.teller, (c.loop-promise.site, c.loop-promise.out)) (w.reach.new.teller, (w.reach.new.site, w.reach.new.out)) c.args.state.now c.loop-promise.state w.reach.new.state c.args.activation.now c.loop-promise.activation w.reach.new.activation (g.P.Patterns.shown c.args.pats.now) (g.P.Patterns.shown c.loop-promise.pats) (g.P.Patterns.shown w.reach.new.pats) (Ok tt)
+                one (is_same_type c.args.promise_type (seen_numbered p).type (types_agree (seen_numbered p).type c.args.promise_type w.if-eq.ensures)) c.loop-promise.invariant.0 w.in_ok-reach.ensures.ends,
+            w.in_ok-reach.ensures.path ∙ c.loop-promise.invariant.1,
+          )
+      | reach_type-else-eq w ↦
+          rw (w.state-is, w.activation-is, w.teller-is, w.site-is, w.out-is, w.pats-is) (
+            type_leaves g.T.Teller.teller g.T.Teller.agrees g.T.Teller.behind g.T.Teller.faults policy c.args.scene.now.depth c.args.promise_type (map seen_numbered (take (i + 1) found)) (map seen_numbered (take i found)) (seen_numbered p) (c.args.teller.now, (c.args.site.now, c.args.out.now)) (c.loop-promise.teller, (c.loop-promise.site, c.loop-promise.out)) c.args.state.now c.loop-promise.state c.args.activation.now c.loop-promise.activation (g.P.Patterns.shown c.args.pats.now) (g.P.Patterns.shown c.loop-promise.pats)
+                one (is_other_type c.args.promise_type (seen_numbered p).type (types_differ (seen_numbered p).type c.args.promise_type w.if-eq.ensures)) c.loop-promise.invariant.0,
+            c.loop-promise.invariant.1,
+          )
+    ]
+
+pub reach_type-returns-in_err-reach-clause-ends : goal.reach_type-returns-in_err-reach-clause-ends
+reach_type-returns-in_err-reach-clause-ends g t c =
+    let policy = tree_of c.args.scene.now.checked.now in
+    let found = c.args.promises.now in
+    let i = c.loop-promise.promise-index in
+    let p = c.promise-item.result in
+    let one = one_taken seen_numbered found i p c.loop-promise-test.true c.promise-item.is in
+    let stop = c.in_err-reach.field-0.0 in
+    on_stop (λ result. Ends g.T.Teller.teller g.T.Teller.agrees g.T.Teller.behind g.T.Teller.faults policy (type_level c.args.scene.now.depth (map seen_numbered found) c.args.promise_type) (c.args.teller.now, (c.args.site.now, c.args.out.now)) (c.reach.new.teller, (c.reach.new.site, c.reach.new.out)) c.args.state.now c.reach.new.state c.args.activation.now c.reach.new.activation (g.P.Patterns.shown c.args.pats.now) (g.P.Patterns.shown c.reach.new.pats) result)
+    c.from_residual.result c.in_err-reach.field-0.0 c.from_residual.ensures.1
+    (type_stops g.T.Teller.teller g.T.Teller.agrees g.T.Teller.behind g.T.Teller.faults policy c.args.scene.now.depth c.args.promise_type (map seen_numbered found) (map seen_numbered (take (i + 1) found)) (map seen_numbered (drop (i + 1) found)) (c.args.teller.now, (c.args.site.now, c.args.out.now)) (c.reach.new.teller, (c.reach.new.site, c.reach.new.out)) c.args.state.now c.reach.new.state c.args.activation.now c.reach.new.activation (g.P.Patterns.shown c.args.pats.now) (g.P.Patterns.shown c.reach.new.pats) stop
+    (in_parts seen_numbered found (i + 1))
+    (type_goes_on g.T.Teller.teller g.T.Teller.agrees g.T.Teller.behind g.T.Teller.faults policy c.args.scene.now.depth c.args.promise_type (map seen_numbered (take (i + 1) found)) (map seen_numbered (take i found)) (seen_numbered p) (c.args.teller.now, (c.args.site.now, c.args.out.now)) (c.loop-promise.teller, (c.loop-promise.site, c.loop-promise.out)) (c.reach.new.teller, (c.reach.new.site, c.reach.new.out)) c.args.state.now c.loop-promise.state c.reach.new.state c.args.activation.now c.loop-promise.activation c.reach.new.activation (g.P.Patterns.shown c.args.pats.now) (g.P.Patterns.shown c.loop-promise.pats) (g.P.Patterns.shown c.reach.new.pats) (Err stop)
+    one (is_same_type c.args.promise_type (seen_numbered p).type (types_agree (seen_numbered p).type c.args.promise_type c.if-eq.ensures)) c.loop-promise.invariant.0 c.in_err-reach.ensures.ends))
+
+pub reach_type-returns-in_err-reach-clause-path : goal.reach_type-returns-in_err-reach-clause-path
+reach_type-returns-in_err-reach-clause-path g t c =
+    no_path _ c.from_residual.result c.in_err-reach.field-0.0 c.from_residual.ensures.1
+
+pub reach_type-returns-clause-ends : goal.reach_type-returns-clause-ends
+reach_type-returns-clause-ends g t c =
+    let policy = tree_of c.args.scene.now.checked.now in
+    subst (λ (x : List Held). Ends g.T.Teller.teller g.T.Teller.agrees g.T.Teller.behind g.T.Teller.faults policy (type_level c.args.scene.now.depth (map seen_numbered x) c.args.promise_type) (c.args.teller.now, (c.args.site.now, c.args.out.now)) (c.loop-promise.teller, (c.loop-promise.site, c.loop-promise.out)) c.args.state.now c.loop-promise.state c.args.activation.now c.loop-promise.activation (g.P.Patterns.shown c.args.pats.now) (g.P.Patterns.shown c.loop-promise.pats) (Ok tt))
+    (take_all c.loop-promise.promise-index c.args.promises.now c.loop-promise-test.false) c.loop-promise.invariant.0
+
+pub reach_type-returns-clause-path : goal.reach_type-returns-clause-path
+reach_type-returns-clause-path g t c =
+    c.loop-promise.invariant.1
+
+pub visit_each-loop-instance-init : goal.visit_each-loop-instance-init
+visit_each-loop-instance-init g t c =
+    let policy = tree_of c.args.scene.now.checked.now in
+    (loop_begins g.T.Teller.teller g.T.Teller.agrees g.T.Teller.behind g.T.Teller.faults policy (λ (x : Instance). visit_level c.args.scene.now.depth c.args.guard x) (c.args.teller.now, (c.args.site.now, c.args.out.now)) c.args.state.now c.args.activation.now (g.P.Patterns.shown c.args.pats.now), refl)
+
+pub visit_each-loop-instance-preserved : goal.visit_each-loop-instance-preserved
+visit_each-loop-instance-preserved g t c =
+    let policy = tree_of c.args.scene.now.checked.now in
+    let all = c.args.instances.now in
+    let i = c.loop-instance.instance-index in
+    let instance = c.instance-item.result in
+    let one : take (i + 1) all ≡ take i all ++ instance ∷ [] = take_more all i instance c.loop-instance-test.true ∙ ap (λ (x : Instance). take i all ++ x ∷ []) (sym c.instance-item.is) in (
+      loop_goes_on g.T.Teller.teller g.T.Teller.agrees g.T.Teller.behind g.T.Teller.faults policy (λ (x : Instance). visit_level c.args.scene.now.depth c.args.guard x) (take (i + 1) all) (take i all) instance (c.args.teller.now, (c.args.site.now, c.args.out.now)) (c.loop-instance.teller, (c.loop-instance.site, c.loop-instance.out)) (c.visit.new.teller, (c.visit.new.site, c.visit.new.out)) c.args.state.now c.loop-instance.state c.visit.new.state c.args.activation.now c.loop-instance.activation c.visit.new.activation (g.P.Patterns.shown c.args.pats.now) (g.P.Patterns.shown c.loop-instance.pats) (g.P.Patterns.shown c.visit.new.pats) (Ok tt)
+          one c.loop-instance.invariant.0 c.in_ok-visit.ensures.ends,
+      c.in_ok-visit.ensures.path ∙ c.loop-instance.invariant.1,
+    )
+
+pub visit_each-returns-in_err-visit-clause-ends : goal.visit_each-returns-in_err-visit-clause-ends
+visit_each-returns-in_err-visit-clause-ends g t c =
+    let policy = tree_of c.args.scene.now.checked.now in
+    let all = c.args.instances.now in
+    let i = c.loop-instance.instance-index in
+    let instance = c.instance-item.result in
+    let one : take (i + 1) all ≡ take i all ++ instance ∷ [] = take_more all i instance c.loop-instance-test.true ∙ ap (λ (x : Instance). take i all ++ x ∷ []) (sym c.instance-item.is) in
+    let stop = c.in_err-visit.field-0.0 in
+    on_stop (λ result. Ends g.T.Teller.teller g.T.Teller.agrees g.T.Teller.behind g.T.Teller.faults policy (instances_level c.args.scene.now.depth c.args.guard all) (c.args.teller.now, (c.args.site.now, c.args.out.now)) (c.visit.new.teller, (c.visit.new.site, c.visit.new.out)) c.args.state.now c.visit.new.state c.args.activation.now c.visit.new.activation (g.P.Patterns.shown c.args.pats.now) (g.P.Patterns.shown c.visit.new.pats) result)
+    c.from_residual.result c.in_err-visit.field-0.0 c.from_residual.ensures.1
+    (loop_stops g.T.Teller.teller g.T.Teller.agrees g.T.Teller.behind g.T.Teller.faults policy (λ (x : Instance). visit_level c.args.scene.now.depth c.args.guard x) all (take (i + 1) all) (drop (i + 1) all) (c.args.teller.now, (c.args.site.now, c.args.out.now)) (c.visit.new.teller, (c.visit.new.site, c.visit.new.out)) c.args.state.now c.visit.new.state c.args.activation.now c.visit.new.activation (g.P.Patterns.shown c.args.pats.now) (g.P.Patterns.shown c.visit.new.pats) stop
+    (sym (take-append-drop (i + 1) all))
+    (loop_goes_on g.T.Teller.teller g.T.Teller.agrees g.T.Teller.behind g.T.Teller.faults policy (λ (x : Instance). visit_level c.args.scene.now.depth c.args.guard x) (take (i + 1) all) (take i all) instance (c.args.teller.now, (c.args.site.now, c.args.out.now)) (c.loop-instance.teller, (c.loop-instance.site, c.loop-instance.out)) (c.visit.new.teller, (c.visit.new.site, c.visit.new.out)) c.args.state.now c.loop-instance.state c.visit.new.state c.args.activation.now c.loop-instance.activation c.visit.new.activation (g.P.Patterns.shown c.args.pats.now) (g.P.Patterns.shown c.loop-instance.pats) (g.P.Patterns.shown c.visit.new.pats) (Err stop)
+    one c.loop-instance.invariant.0 c.in_err-visit.ensures.ends))
+
+pub visit_each-returns-in_err-visit-clause-path : goal.visit_each-returns-in_err-visit-clause-path
+visit_each-returns-in_err-visit-clause-path g t c =
+    no_path _ c.from_residual.result c.in_err-visit.field-0.0 c.from_residual.ensures.1
+
+pub visit_each-returns-clause-ends : goal.visit_each-returns-clause-ends
+visit_each-returns-clause-ends g t c =
+    let policy = tree_of c.args.scene.now.checked.now in
+    subst (λ (x : List Instance). Ends g.T.Teller.teller g.T.Teller.agrees g.T.Teller.behind g.T.Teller.faults policy (instances_level c.args.scene.now.depth c.args.guard x) (c.args.teller.now, (c.args.site.now, c.args.out.now)) (c.loop-instance.teller, (c.loop-instance.site, c.loop-instance.out)) c.args.state.now c.loop-instance.state c.args.activation.now c.loop-instance.activation (g.P.Patterns.shown c.args.pats.now) (g.P.Patterns.shown c.loop-instance.pats) (Ok tt))
+    (take_all c.loop-instance.instance-index c.args.instances.now c.loop-instance-test.false) c.loop-instance.invariant.0
+
+pub visit_each-returns-clause-path : goal.visit_each-returns-clause-path
+visit_each-returns-clause-path g t c =
+    c.loop-instance.invariant.1
+
+pub reach_instances-returns-in_err-instances-clause-ends : goal.reach_instances-returns-in_err-instances-clause-ends
+reach_instances-returns-in_err-instances-clause-ends g t c =
+    let policy = tree_of c.args.scene.now.checked.now in
+    let p = seen_numbered c.args.promise.now in
+    on_stop (λ result. Ends g.T.Teller.teller g.T.Teller.agrees g.T.Teller.behind g.T.Teller.faults policy (acting_level c.args.scene.now.depth p c.args.guard) (c.args.teller.now, (c.args.site.now, c.args.out.now)) (c.args.teller.now, (c.args.site.now, c.args.out.now)) c.args.state.now c.count_instances.new.state c.args.activation.now c.args.activation.now (g.P.Patterns.shown c.args.pats.now) (g.P.Patterns.shown c.count_instances.new.pats) result)
+    c.from_residual.result c.in_err-instances.field-0.0 c.from_residual.ensures.1
+    (count_stops g.T.Teller.teller g.T.Teller.agrees g.T.Teller.behind g.T.Teller.faults policy c.args.scene.now.depth p c.args.guard (c.args.teller.now, (c.args.site.now, c.args.out.now)) c.args.state.now c.count_instances.new.state c.args.activation.now (g.P.Patterns.shown c.args.pats.now) (g.P.Patterns.shown c.count_instances.new.pats) c.in_err-instances.field-0.0
+    c.in_err-instances.ensures.counted c.in_err-instances.ensures.patterns)
+
+pub reach_instances-returns-in_err-instances-clause-path : goal.reach_instances-returns-in_err-instances-clause-path
+reach_instances-returns-in_err-instances-clause-path g t c =
+    no_path _ c.from_residual.result c.in_err-instances.field-0.0 c.from_residual.ensures.1
+
+pub reach_instances-returns-clause-ends : goal.reach_instances-returns-clause-ends
+reach_instances-returns-clause-ends g t c =
+    let policy = tree_of c.args.scene.now.checked.now in
+    let p = seen_numbered c.args.promise.now in
+    acting_ends g.T.Teller.teller g.T.Teller.agrees g.T.Teller.behind g.T.Teller.faults policy c.args.scene.now.depth p c.args.guard (c.args.teller.now, (c.args.site.now, c.args.out.now)) c.args.state.now c.count_instances.new.state c.args.activation.now (g.met.T.Teller.steady (c.args.teller.now, (c.args.site.now, c.args.out.now))) (c.visit_each.new.teller, (c.visit_each.new.site, c.visit_each.new.out)) c.visit_each.new.state c.visit_each.new.activation
+    c.in_ok-instances.instances (g.P.Patterns.shown c.args.pats.now) (g.P.Patterns.shown c.count_instances.new.pats) (g.P.Patterns.shown c.visit_each.new.pats) c.visit_each.result c.in_ok-instances.ensures.counted c.in_ok-instances.ensures.patterns
+    (subst (λ (x : List Instance). Ends g.T.Teller.teller g.T.Teller.agrees g.T.Teller.behind g.T.Teller.faults policy (instances_level c.args.scene.now.depth c.args.guard x) (c.args.teller.now, (c.args.site.now, c.args.out.now)) (c.visit_each.new.teller, (c.visit_each.new.site, c.visit_each.new.out)) c.count_instances.new.state c.visit_each.new.state c.args.activation.now c.visit_each.new.activation (g.P.Patterns.shown c.count_instances.new.pats) (g.P.Patterns.shown c.visit_each.new.pats) c.visit_each.result) c.as_slice.ensures c.visit_each.ensures.ends)
+
+pub reach_instances-returns-clause-path : goal.reach_instances-returns-clause-path
+reach_instances-returns-clause-path g t c =
+    c.visit_each.ensures.path
+
+pub reach-returns-then-eq-clause-ends : goal.reach-returns-then-eq-clause-ends
+reach-returns-then-eq-clause-ends g t c =
+    let policy = tree_of c.args.scene.now.checked.now in
+    let p = seen_numbered c.args.promise.now in
+    reached_unset g.T.Teller.teller g.T.Teller.agrees g.T.Teller.behind g.T.Teller.faults policy c.args.scene.now.depth p c.guard_status-guard.result c.args.state.now c.args.activation.now c.guard_status-guard.ensures (c.args.teller.now, (c.args.site.now, c.args.out.now)) c.pass_over.new.state c.args.activation.now (g.P.Patterns.shown c.args.pats.now) (g.P.Patterns.shown c.args.pats.now) c.pass_over.result (g.met.T.Teller.steady (c.args.teller.now, (c.args.site.now, c.args.out.now)))
+    (statuses_agree c.guard_status-guard.result No c.if-eq.ensures) (c.pass_over.ensures.done policy false) (c.pass_over.ensures.patterns (g.P.Patterns.shown c.args.pats.now))
+
+pub reach-returns-then-eq-clause-path : goal.reach-returns-then-eq-clause-path
+reach-returns-then-eq-clause-path g t c =
+    any_path _ c.pass_over.result refl
+
+pub reach-returns-in-Vars-clause-ends : goal.reach-returns-in-Vars-clause-ends
+reach-returns-in-Vars-clause-ends g t c =
+    let policy = tree_of c.args.scene.now.checked.now in
+    let p = seen_numbered c.args.promise.now in
+    reached_vars g.T.Teller.teller g.T.Teller.agrees g.T.Teller.behind g.T.Teller.faults policy c.args.scene.now.depth p c.guard_status-guard.result c.args.state.now c.args.activation.now c.guard_status-guard.ensures (c.args.teller.now, (c.args.site.now, c.args.out.now)) c.reach_vars.new.state c.reach_vars.new.activation (g.P.Patterns.shown c.args.pats.now) (g.P.Patterns.shown c.args.pats.now) c.reach_vars.result (g.met.T.Teller.steady (c.args.teller.now, (c.args.site.now, c.args.out.now)))
+    (statuses_differ c.guard_status-guard.result No c.if-eq.ensures) c.in-Vars.is (c.reach_vars.ensures.done policy false) (c.reach_vars.ensures.patterns (g.P.Patterns.shown c.args.pats.now))
+
+pub reach-returns-in-Vars-clause-path : goal.reach-returns-in-Vars-clause-path
+reach-returns-in-Vars-clause-path g t c =
+    c.reach_vars.ensures.path
+
+pub reach-returns-in-Classes-clause-ends : goal.reach-returns-in-Classes-clause-ends
+reach-returns-in-Classes-clause-ends g t c =
+    let policy = tree_of c.args.scene.now.checked.now in
+    let p = seen_numbered c.args.promise.now in
+    reached_classes g.T.Teller.teller g.T.Teller.agrees g.T.Teller.behind g.T.Teller.faults policy c.args.scene.now.depth p c.guard_status-guard.result c.args.state.now c.args.activation.now c.guard_status-guard.ensures (c.args.teller.now, (c.args.site.now, c.args.out.now)) c.reach_classes.new.state c.reach_classes.new.activation (g.P.Patterns.shown c.args.pats.now) (g.P.Patterns.shown c.reach_classes.new.pats) c.reach_classes.result (g.met.T.Teller.steady (c.args.teller.now, (c.args.site.now, c.args.out.now)))
+    (statuses_differ c.guard_status-guard.result No c.if-eq.ensures) c.in-Classes.is (c.reach_classes.ensures.done policy) c.reach_classes.ensures.patterns
+
+pub reach-returns-in-Classes-clause-path : goal.reach-returns-in-Classes-clause-path
+reach-returns-in-Classes-clause-path g t c =
+    c.reach_classes.ensures.path
+
+pub reach-returns-in-Files-clause-ends : goal.reach-returns-in-Files-clause-ends
+reach-returns-in-Files-clause-ends g t c =
+    let policy = tree_of c.args.scene.now.checked.now in
+    let p = seen_numbered c.args.promise.now in
+    reached_acting g.T.Teller.teller g.T.Teller.agrees g.T.Teller.behind g.T.Teller.faults policy c.args.scene.now.depth p c.guard_status-guard.result c.args.state.now c.args.activation.now c.guard_status-guard.ensures (c.args.teller.now, (c.args.site.now, c.args.out.now)) (c.reach_instances.new.teller, (c.reach_instances.new.site, c.reach_instances.new.out)) c.reach_instances.new.state c.reach_instances.new.activation (g.P.Patterns.shown c.args.pats.now) (g.P.Patterns.shown c.reach_instances.new.pats) c.reach_instances.result
+    (statuses_differ c.guard_status-guard.result No c.if-eq.ensures) (acting_type p.type c.in-Files.is) c.reach_instances.ensures.ends
+
+pub reach-returns-in-Files-clause-path : goal.reach-returns-in-Files-clause-path
+reach-returns-in-Files-clause-path g t c =
+    c.reach_instances.ensures.path
+
+pub reach-returns-in_default-clause-ends : goal.reach-returns-in_default-clause-ends
+reach-returns-in_default-clause-ends g t c =
+    let policy = tree_of c.args.scene.now.checked.now in
+    let p = seen_numbered c.args.promise.now in
+    reached_left g.T.Teller.teller g.T.Teller.agrees g.T.Teller.behind g.T.Teller.faults policy c.args.scene.now.depth p c.guard_status-guard.result c.args.state.now c.args.activation.now c.guard_status-guard.ensures (c.args.teller.now, (c.args.site.now, c.args.out.now)) (g.P.Patterns.shown c.args.pats.now) (statuses_differ c.guard_status-guard.result No c.if-eq.ensures) (left_type p.type c.in_default.not-Vars c.in_default.not-Classes c.in_default.not-Files c.in_default.not-Methods c.in_default.not-Services c.in_default.not-Reports)
+
+pub reach-returns-in_default-clause-path : goal.reach-returns-in_default-clause-path
+reach-returns-in_default-clause-path g t c =
+    refl
+
+pub visit-returns-then-eq-clause-ends : goal.visit-returns-then-eq-clause-ends
+visit-returns-then-eq-clause-ends g t c =
+    let policy = tree_of c.args.scene.now.checked.now in
+    not_visited g.T.Teller.teller g.T.Teller.agrees g.T.Teller.behind g.T.Teller.faults policy c.args.scene.now.depth c.args.guard c.args.instance.now c.args.state.now c.args.activation.now c.done-mark.result c.visit_status-status.result c.done-mark.ensures c.visit_status-status.ensures (c.args.teller.now, (c.args.site.now, c.args.out.now)) (g.P.Patterns.shown c.args.pats.now) (statuses_agree c.visit_status-status.result No c.if-eq.ensures)
+
+pub visit-returns-then-eq-clause-path : goal.visit-returns-then-eq-clause-path
+visit-returns-then-eq-clause-path g t c =
+    refl
+
+pub visit-returns-in_err-mark-clause-ends : goal.visit-returns-in_err-mark-clause-ends
+visit-returns-in_err-mark-clause-ends g t c =
+    let policy = tree_of c.args.scene.now.checked.now in
+    on_stop (λ result. Ends g.T.Teller.teller g.T.Teller.agrees g.T.Teller.behind g.T.Teller.faults policy (visit_level c.args.scene.now.depth c.args.guard c.args.instance.now) (c.args.teller.now, (c.args.site.now, c.args.out.now)) (c.args.teller.now, (c.args.site.now, c.args.out.now)) c.args.state.now c.mark.new.self c.args.activation.now c.args.activation.now (g.P.Patterns.shown c.args.pats.now) (g.P.Patterns.shown c.args.pats.now) result)
+    c.from_residual.result Memory c.from_residual.ensures.1
+    ((tt, (refl, refl)))
+
+pub visit-returns-in_err-mark-clause-path : goal.visit-returns-in_err-mark-clause-path
+visit-returns-in_err-mark-clause-path g t c =
+    no_path _ c.from_residual.result Memory c.from_residual.ensures.1
+
+pub visit-returns-in_err-visit-clause-ends : goal.visit-returns-in_err-visit-clause-ends
+visit-returns-in_err-visit-clause-ends g t c =
+    let policy = tree_of c.args.scene.now.checked.now in
+    on_stop (λ result. Ends g.T.Teller.teller g.T.Teller.agrees g.T.Teller.behind g.T.Teller.faults policy (visit_level c.args.scene.now.depth c.args.guard c.args.instance.now) (c.args.teller.now, (c.args.site.now, c.args.out.now)) (c.visit.new.self, (c.visit.new.site, c.visit.new.out)) c.args.state.now c.mark.new.self c.args.activation.now c.args.activation.now (g.P.Patterns.shown c.args.pats.now) (g.P.Patterns.shown c.args.pats.now) result)
+    c.from_residual-in_err-visit.result c.in_err-visit.field-0.0 c.from_residual-in_err-visit.ensures.1
+    (teller_stops g.T.Teller.teller g.T.Teller.agrees g.T.Teller.behind g.T.Teller.faults policy c.args.scene.now.depth c.args.guard c.args.instance.now c.args.state.now c.args.activation.now c.done-mark.result c.visit_status-status.result c.done-mark.ensures c.visit_status-status.ensures (c.args.teller.now, (c.args.site.now, c.args.out.now)) (c.visit.new.self, (c.visit.new.site, c.visit.new.out)) c.mark.new.self c.args.activation.now (g.P.Patterns.shown c.args.pats.now) (g.P.Patterns.shown c.args.pats.now) c.in_err-visit.field-0.0 c.in_err-visit.ensures.stopped c.in_err-visit.ensures.own refl)
+
+pub visit-returns-in_err-visit-clause-path : goal.visit-returns-in_err-visit-clause-path
+visit-returns-in_err-visit-clause-path g t c =
+    no_path _ c.from_residual-in_err-visit.result c.in_err-visit.field-0.0 c.from_residual-in_err-visit.ensures.1
+
+pub visit-returns-then-branch-clause-ends : goal.visit-returns-then-branch-clause-ends
+visit-returns-then-branch-clause-ends g t c =
+    let policy = tree_of c.args.scene.now.checked.now in
+    skipped g.T.Teller.teller g.T.Teller.agrees g.T.Teller.behind g.T.Teller.faults policy c.args.scene.now.depth c.args.guard c.args.instance.now c.args.state.now c.args.activation.now c.done-mark.result c.visit_status-status.result c.done-mark.ensures c.visit_status-status.ensures (c.args.teller.now, (c.args.site.now, c.args.out.now)) (statuses_differ c.visit_status-status.result No c.if-eq.ensures) c.requires.at c.mark.new.self c.in_ok-mark.ensures (c.visit.new.self, (c.visit.new.site, c.visit.new.out)) (g.P.Patterns.shown c.args.pats.now) (subst (λ (b : Bool). HasVisited g.T.Teller.teller g.T.Teller.agrees g.T.Teller.behind (c.args.teller.now, (c.args.site.now, c.args.out.now)) (c.visit.new.self, (c.visit.new.site, c.visit.new.out)) c.args.instance.now c.visit_status-status.result b) c.if-branch.true c.in_ok-visit.ensures.visited) c.in_ok-visit.ensures.later
+
+pub visit-returns-then-branch-clause-path : goal.visit-returns-then-branch-clause-path
+visit-returns-then-branch-clause-path g t c =
+    refl
+
+pub visit-returns-in_err-called-clause-ends : goal.visit-returns-in_err-called-clause-ends
+visit-returns-in_err-called-clause-ends g t c =
+    let policy = tree_of c.args.scene.now.checked.now in
+    on_stop (λ result. Ends g.T.Teller.teller g.T.Teller.agrees g.T.Teller.behind g.T.Teller.faults policy (visit_level c.args.scene.now.depth c.args.guard c.args.instance.now) (c.args.teller.now, (c.args.site.now, c.args.out.now)) (c.call.new.teller, (c.call.new.site, c.call.new.out)) c.args.state.now c.call.new.state c.args.activation.now c.args.activation.now (g.P.Patterns.shown c.args.pats.now) (g.P.Patterns.shown c.call.new.pats) result)
+    c.from_residual-in_err-called.result c.in_err-called.field-0.0 c.from_residual-in_err-called.ensures.1
+    (call_stops g.T.Teller.teller g.T.Teller.agrees g.T.Teller.behind g.T.Teller.faults policy c.args.scene.now.depth c.args.guard c.args.instance.now c.args.state.now c.args.activation.now c.done-mark.result c.visit_status-status.result c.done-mark.ensures c.visit_status-status.ensures (c.args.teller.now, (c.args.site.now, c.args.out.now)) (statuses_differ c.visit_status-status.result No c.if-eq.ensures) c.requires.at c.mark.new.self c.in_ok-mark.ensures (c.visit.new.self, (c.visit.new.site, c.visit.new.out)) (subst (λ (b : Bool). HasVisited g.T.Teller.teller g.T.Teller.agrees g.T.Teller.behind (c.args.teller.now, (c.args.site.now, c.args.out.now)) (c.visit.new.self, (c.visit.new.site, c.visit.new.out)) c.args.instance.now c.visit_status-status.result b) c.if-branch.false c.in_ok-visit.ensures.visited) c.in_ok-visit.ensures.later (c.call.new.teller, (c.call.new.site, c.call.new.out)) c.call.new.state (g.P.Patterns.shown c.args.pats.now) (g.P.Patterns.shown c.call.new.pats) c.in_err-called.field-0.0 c.in_err-called.ensures)
+
+pub visit-returns-in_err-called-clause-path : goal.visit-returns-in_err-called-clause-path
+visit-returns-in_err-called-clause-path g t c =
+    no_path _ c.from_residual-in_err-called.result c.in_err-called.field-0.0 c.from_residual-in_err-called.ensures.1
+
+pub visit-returns-in_err-outcome-clause-ends : goal.visit-returns-in_err-outcome-clause-ends
+visit-returns-in_err-outcome-clause-ends g t c =
+    let policy = tree_of c.args.scene.now.checked.now in
+    on_stop (λ result. Ends g.T.Teller.teller g.T.Teller.agrees g.T.Teller.behind g.T.Teller.faults policy (visit_level c.args.scene.now.depth c.args.guard c.args.instance.now) (c.args.teller.now, (c.args.site.now, c.args.out.now)) (c.tell.new.self, (c.tell.new.site, c.tell.new.out)) c.args.state.now c.call.new.state c.args.activation.now c.args.activation.now (g.P.Patterns.shown c.args.pats.now) (g.P.Patterns.shown c.call.new.pats) result)
+    c.from_residual-in_err-outcome.result c.in_err-outcome.field-0.0 c.from_residual-in_err-outcome.ensures.1
+    (tell_stops g.T.Teller.teller g.T.Teller.agrees g.T.Teller.behind g.T.Teller.faults policy c.args.scene.now.depth c.args.guard c.args.instance.now c.args.state.now c.args.activation.now c.done-mark.result c.visit_status-status.result c.done-mark.ensures c.visit_status-status.ensures (c.args.teller.now, (c.args.site.now, c.args.out.now)) (statuses_differ c.visit_status-status.result No c.if-eq.ensures) c.requires.at c.mark.new.self c.in_ok-mark.ensures (c.visit.new.self, (c.visit.new.site, c.visit.new.out)) (subst (λ (b : Bool). HasVisited g.T.Teller.teller g.T.Teller.agrees g.T.Teller.behind (c.args.teller.now, (c.args.site.now, c.args.out.now)) (c.visit.new.self, (c.visit.new.site, c.visit.new.out)) c.args.instance.now c.visit_status-status.result b) c.if-branch.false c.in_ok-visit.ensures.visited) c.in_ok-visit.ensures.later (c.call.new.teller, (c.call.new.site, c.call.new.out)) c.call.new.state (g.P.Patterns.shown c.args.pats.now) (g.P.Patterns.shown c.call.new.pats) c.in_ok-called.called c.in_ok-called.ensures (c.tell.new.self, (c.tell.new.site, c.tell.new.out)) c.args.activation.now c.in_err-outcome.field-0.0 c.in_err-outcome.ensures.stopped c.in_err-outcome.ensures.own)
+
+pub visit-returns-in_err-outcome-clause-path : goal.visit-returns-in_err-outcome-clause-path
+visit-returns-in_err-outcome-clause-path g t c =
+    no_path _ c.from_residual-in_err-outcome.result c.in_err-outcome.field-0.0 c.from_residual-in_err-outcome.ensures.1
+
+pub visit-returns-in_err-raise_outcome-clause-ends : goal.visit-returns-in_err-raise_outcome-clause-ends
+visit-returns-in_err-raise_outcome-clause-ends g t c =
+    let policy = tree_of c.args.scene.now.checked.now in
+    on_stop (λ result. Ends g.T.Teller.teller g.T.Teller.agrees g.T.Teller.behind g.T.Teller.faults policy (visit_level c.args.scene.now.depth c.args.guard c.args.instance.now) (c.args.teller.now, (c.args.site.now, c.args.out.now)) (c.tell.new.self, (c.tell.new.site, c.tell.new.out)) c.args.state.now c.raise_outcome.new.state c.args.activation.now c.note.new.self (g.P.Patterns.shown c.args.pats.now) (g.P.Patterns.shown c.call.new.pats) result)
+    c.from_residual-in_err-raise_outcome.result Memory c.from_residual-in_err-raise_outcome.ensures.1
+    (raise_stops g.T.Teller.teller g.T.Teller.agrees g.T.Teller.behind g.T.Teller.faults policy c.args.scene.now.depth c.args.guard c.args.instance.now c.args.state.now c.args.activation.now c.done-mark.result c.visit_status-status.result c.done-mark.ensures c.visit_status-status.ensures (c.args.teller.now, (c.args.site.now, c.args.out.now)) (statuses_differ c.visit_status-status.result No c.if-eq.ensures) c.requires.at c.mark.new.self c.in_ok-mark.ensures (c.visit.new.self, (c.visit.new.site, c.visit.new.out)) (subst (λ (b : Bool). HasVisited g.T.Teller.teller g.T.Teller.agrees g.T.Teller.behind (c.args.teller.now, (c.args.site.now, c.args.out.now)) (c.visit.new.self, (c.visit.new.site, c.visit.new.out)) c.args.instance.now c.visit_status-status.result b) c.if-branch.false c.in_ok-visit.ensures.visited) c.in_ok-visit.ensures.later (c.call.new.teller, (c.call.new.site, c.call.new.out)) c.call.new.state (g.P.Patterns.shown c.args.pats.now) (g.P.Patterns.shown c.call.new.pats) c.in_ok-called.called c.in_ok-called.ensures (c.tell.new.self, (c.tell.new.site, c.tell.new.out)) c.in_ok-outcome.outcome c.in_ok-outcome.ensures.told c.in_ok-outcome.ensures.later c.raise_outcome.new.state c.note.new.self)
+
+pub visit-returns-in_err-raise_outcome-clause-path : goal.visit-returns-in_err-raise_outcome-clause-path
+visit-returns-in_err-raise_outcome-clause-path g t c =
+    no_path _ c.from_residual-in_err-raise_outcome.result Memory c.from_residual-in_err-raise_outcome.ensures.1
+
+pub visit-returns-clause-ends : goal.visit-returns-clause-ends
+visit-returns-clause-ends g t c =
+    let policy = tree_of c.args.scene.now.checked.now in
+    visit_done g.T.Teller.teller g.T.Teller.agrees g.T.Teller.behind g.T.Teller.faults policy c.args.scene.now.depth c.args.guard c.args.instance.now c.args.state.now c.args.activation.now c.done-mark.result c.visit_status-status.result c.done-mark.ensures c.visit_status-status.ensures (c.args.teller.now, (c.args.site.now, c.args.out.now)) (statuses_differ c.visit_status-status.result No c.if-eq.ensures) c.requires.at c.mark.new.self c.in_ok-mark.ensures (c.visit.new.self, (c.visit.new.site, c.visit.new.out)) (subst (λ (b : Bool). HasVisited g.T.Teller.teller g.T.Teller.agrees g.T.Teller.behind (c.args.teller.now, (c.args.site.now, c.args.out.now)) (c.visit.new.self, (c.visit.new.site, c.visit.new.out)) c.args.instance.now c.visit_status-status.result b) c.if-branch.false c.in_ok-visit.ensures.visited) c.in_ok-visit.ensures.later (c.call.new.teller, (c.call.new.site, c.call.new.out)) c.call.new.state (g.P.Patterns.shown c.args.pats.now) (g.P.Patterns.shown c.call.new.pats) c.in_ok-called.called c.in_ok-called.ensures (c.tell.new.self, (c.tell.new.site, c.tell.new.out)) c.in_ok-outcome.outcome c.in_ok-outcome.ensures.told c.in_ok-outcome.ensures.later (g.met.T.Teller.steady (c.tell.new.self, (c.tell.new.site, c.tell.new.out))) c.raise_outcome.new.state c.note.new.self c.note.ensures.same c.note.ensures.keeps c.in_ok-raise_outcome.ensures
+
+pub visit-returns-clause-path : goal.visit-returns-clause-path
+visit-returns-clause-path g t c =
+    c.note.ensures.same.path
+
+pub visit-tell-requires : goal.visit-tell-requires
+visit-tell-requires g t c =
+    c.requires.source
+
+pub call-returns-in-Acts : goal.call-returns-in-Acts
+call-returns-in-Acts g t c =
+    let policy = tree_of c.args.scene.now.checked.now in
+    no_acts g.T.Teller.teller g.T.Teller.agrees g.T.Teller.behind g.T.Teller.faults policy c.args.instance.now c.args.status (c.args.teller.now, (c.args.site.now, c.args.out.now)) c.args.state.now (g.P.Patterns.shown c.args.pats.now) c.args.scene.now.depth c.in-Acts.field-0 c.in-Acts.is
+
+pub call-returns-in-Call : goal.call-returns-in-Call
+call-returns-in-Call g t c =
+    c.activate.ensures
+
+pub call-returns-in-Report : goal.call-returns-in-Report
+call-returns-in-Report g t c =
+    let policy = tree_of c.args.scene.now.checked.now in
+    no_report g.T.Teller.teller g.T.Teller.agrees g.T.Teller.behind g.T.Teller.faults policy c.args.instance.now c.args.status (c.args.teller.now, (c.args.site.now, c.args.out.now)) c.args.state.now (g.P.Patterns.shown c.args.pats.now) c.args.scene.now.depth c.in-Report.field-0 c.in-Report.is
+
+pub activate-returns-then-scene-eq0 : goal.activate-returns-then-scene-eq0
+activate-returns-then-scene-eq0 g t c =
+    let policy = tree_of c.args.scene.now.checked.now in
+    call_deepest g.T.Teller.teller g.T.Teller.agrees g.T.Teller.behind g.T.Teller.faults policy c.args.instance.now c.args.status (c.args.teller.now, (c.args.site.now, c.args.out.now)) c.args.state.now (g.P.Patterns.shown c.args.pats.now) c.args.name.now c.args.given.now c.requires.is_call c.requires.names (g.met.T.Teller.steady (c.args.teller.now, (c.args.site.now, c.args.out.now))) c.args.scene.now.depth c.if-scene-eq0.true
+
+pub activate-returns-in_err-path : goal.activate-returns-in_err-path
+activate-returns-in_err-path g t c =
+    let policy = tree_of c.args.scene.now.checked.now in
+    halted (λ result. CallEnds g.T.Teller.teller g.T.Teller.agrees g.T.Teller.behind g.T.Teller.faults policy c.args.scene.now.depth c.args.instance.now c.args.status (c.args.teller.now, (c.args.site.now, c.args.out.now)) (c.args.teller.now, (c.args.site.now, c.args.out.now)) c.args.state.now c.args.state.now (g.P.Patterns.shown c.args.pats.now) (g.P.Patterns.shown c.args.pats.now) result) c.from_residual.result Memory c.from_residual.ensures.1
+    (call_memory g.T.Teller.teller g.T.Teller.agrees g.T.Teller.behind g.T.Teller.faults policy c.args.instance.now c.args.status (c.args.teller.now, (c.args.site.now, c.args.out.now)) c.args.state.now (g.P.Patterns.shown c.args.pats.now) c.args.scene.now.depth c.args.state.now)
+
+pub activate-returns-in_err-activation : goal.activate-returns-in_err-activation
+activate-returns-in_err-activation g t c =
+    let policy = tree_of c.args.scene.now.checked.now in
+    halted (λ result. CallEnds g.T.Teller.teller g.T.Teller.agrees g.T.Teller.behind g.T.Teller.faults policy c.args.scene.now.depth c.args.instance.now c.args.status (c.args.teller.now, (c.args.site.now, c.args.out.now)) (c.args.teller.now, (c.args.site.now, c.args.out.now)) c.args.state.now c.args.state.now (g.P.Patterns.shown c.args.pats.now) (g.P.Patterns.shown c.args.pats.now) result) c.from_residual-in_err-activation.result Memory c.from_residual-in_err-activation.ensures.1
+    (call_memory g.T.Teller.teller g.T.Teller.agrees g.T.Teller.behind g.T.Teller.faults policy c.args.instance.now c.args.status (c.args.teller.now, (c.args.site.now, c.args.out.now)) c.args.state.now (g.P.Patterns.shown c.args.pats.now) c.args.scene.now.depth c.args.state.now)
+
+pub activate-returns-in_err-bind : goal.activate-returns-in_err-bind
+activate-returns-in_err-bind g t c =
+    let policy = tree_of c.args.scene.now.checked.now in
+    halted (λ result. CallEnds g.T.Teller.teller g.T.Teller.agrees g.T.Teller.behind g.T.Teller.faults policy c.args.scene.now.depth c.args.instance.now c.args.status (c.args.teller.now, (c.args.site.now, c.args.out.now)) (c.args.teller.now, (c.args.site.now, c.args.out.now)) c.args.state.now c.bind.new.state (g.P.Patterns.shown c.args.pats.now) (g.P.Patterns.shown c.args.pats.now) result) c.from_residual-in_err-bind.result Memory c.from_residual-in_err-bind.ensures.1
+    (call_memory g.T.Teller.teller g.T.Teller.agrees g.T.Teller.behind g.T.Teller.faults policy c.args.instance.now c.args.status (c.args.teller.now, (c.args.site.now, c.args.out.now)) c.args.state.now (g.P.Patterns.shown c.args.pats.now) c.args.scene.now.depth c.bind.new.state)
+
+pub activate-returns-in_err-promises : goal.activate-returns-in_err-promises
+activate-returns-in_err-promises g t c =
+    let policy = tree_of c.args.scene.now.checked.now in
+    halted (λ result. CallEnds g.T.Teller.teller g.T.Teller.agrees g.T.Teller.behind g.T.Teller.faults policy c.args.scene.now.depth c.args.instance.now c.args.status (c.args.teller.now, (c.args.site.now, c.args.out.now)) (c.args.teller.now, (c.args.site.now, c.args.out.now)) c.args.state.now c.bind.new.state (g.P.Patterns.shown c.args.pats.now) (g.P.Patterns.shown c.args.pats.now) result) c.from_residual-in_err-promises.result Memory c.from_residual-in_err-promises.ensures.1
+    (call_memory g.T.Teller.teller g.T.Teller.agrees g.T.Teller.behind g.T.Teller.faults policy c.args.instance.now c.args.status (c.args.teller.now, (c.args.site.now, c.args.out.now)) c.args.state.now (g.P.Patterns.shown c.args.pats.now) c.args.scene.now.depth c.bind.new.state)
+
+pub activate-returns-in_err-go_through : goal.activate-returns-in_err-go_through
+activate-returns-in_err-go_through g t c =
+    let policy = tree_of c.args.scene.now.checked.now in
+    let instance = c.args.instance.now in
+    let name = c.args.name.now in
+    let n = c.args.scene.now.depth - 1 in
+    let deep : c.args.scene.now.depth ≡ suc n = omega arith in
+    let a = c.in_ok-activation.activation in
+    let of : IsOf (inner_path instance) name c.args.status a = subst (λ (x : List ℕ). IsOf x name c.args.status a) c.in_ok-path.ensures c.in_ok-activation.ensures.is_of in
+    let begins : Begins (inner_path instance) a = subst (λ (x : List ℕ). Begins x a) c.in_ok-path.ensures c.in_ok-activation.ensures.stands in
+    let block = seen_bundle c.in-Some.bundle.now in
+    let ps = map seen_numbered c.deref.result.now in
+    let found : bundle_of policy name ≡ Some block = ap (bundle_of policy) (sym c.as_str.ensures) ∙ sym {a = Some block} {b = bundle_of policy c.as_str.result.now} c.in-Some.ensures in
+    let numbered : ps ≡ numbered_in block = ap (map seen_numbered) c.deref.ensures.value ∙ c.in_ok-promises.ensures in
+    let params = map plain_named c.as_slice.result.now in
+    let params_are : params ≡ params_of block = ap (map plain_named) c.as_slice.ensures in
+    let binds : (s : Setting) (h : History) → Stands s c.args.state.now a h → Stands s c.bind.new.state c.bind.new.activation (bind a.path params c.args.given.now h) =
+    subst (λ (x : List Datum). (s : Setting) (h : History) → Stands s c.args.state.now a h → Stands s c.bind.new.state c.bind.new.activation (bind a.path params x h)) c.as_slice-in-Some.ensures c.in_ok-bind.ensures.stands in
+    halted (λ result. CallEnds g.T.Teller.teller g.T.Teller.agrees g.T.Teller.behind g.T.Teller.faults policy c.args.scene.now.depth c.args.instance.now c.args.status (c.args.teller.now, (c.args.site.now, c.args.out.now)) (c.go_through.new.teller, (c.go_through.new.site, c.go_through.new.out)) c.args.state.now c.go_through.new.state (g.P.Patterns.shown c.args.pats.now) (g.P.Patterns.shown c.go_through.new.pats) result) c.from_residual-in_err-go_through.result c.in_err-go_through.field-0.0 c.from_residual-in_err-go_through.ensures.1
+    (bundle_stops g.T.Teller.teller g.T.Teller.agrees g.T.Teller.behind g.T.Teller.faults policy c.args.instance.now c.args.status (c.args.teller.now, (c.args.site.now, c.args.out.now)) c.args.state.now (g.P.Patterns.shown c.args.pats.now) c.args.name.now c.args.given.now c.requires.is_call c.requires.names (g.met.T.Teller.steady (c.args.teller.now, (c.args.site.now, c.args.out.now))) c.args.scene.now.depth n deep a of begins block params ps found (found_name policy name block found) params_are numbered c.bind.new.state c.bind.new.activation c.in_ok-bind.ensures.same binds (c.go_through.new.teller, (c.go_through.new.site, c.go_through.new.out)) c.go_through.new.state c.go_through.new.activation (g.P.Patterns.shown c.go_through.new.pats) c.in_err-go_through.field-0.0 c.in_err-go_through.ensures.ends)
+
+pub activate-returns : goal.activate-returns
+activate-returns g t c =
+    let policy = tree_of c.args.scene.now.checked.now in
+    let instance = c.args.instance.now in
+    let name = c.args.name.now in
+    let n = c.args.scene.now.depth - 1 in
+    let deep : c.args.scene.now.depth ≡ suc n = omega arith in
+    let a = c.in_ok-activation.activation in
+    let of : IsOf (inner_path instance) name c.args.status a = subst (λ (x : List ℕ). IsOf x name c.args.status a) c.in_ok-path.ensures c.in_ok-activation.ensures.is_of in
+    let begins : Begins (inner_path instance) a = subst (λ (x : List ℕ). Begins x a) c.in_ok-path.ensures c.in_ok-activation.ensures.stands in
+    elim c.match-bundle.branch [
+      | activate-in-Some+in_ok-bind+in_ok-promises+in_ok-go_through w ↦
+          let block = seen_bundle w.in-Some.bundle.now in
+          let ps = map seen_numbered w.deref.result.now in
+          let found : bundle_of policy name ≡ Some block = ap (bundle_of policy) (sym c.as_str.ensures) ∙ sym {a = Some block} {b = bundle_of policy c.as_str.result.now} w.in-Some.ensures in
+          let numbered : ps ≡ numbered_in block = ap (map seen_numbered) w.deref.ensures.value ∙ w.in_ok-promises.ensures in
+          let params = map plain_named w.as_slice.result.now in
+          let params_are : params ≡ params_of block = ap (map plain_named) w.as_slice.ensures in
+          let binds : (s : Setting) (h : History) → Stands s c.args.state.now a h → Stands s w.bind.new.state w.bind.new.activation (bind a.path params c.args.given.now h) =
+          subst (λ (x : List Datum). (s : Setting) (h : History) → Stands s c.args.state.now a h → Stands s w.bind.new.state w.bind.new.activation (bind a.path params x h)) w.as_slice-in-Some.ensures w.in_ok-bind.ensures.stands in
+          rw (w.state-is, w.teller-is, w.site-is, w.out-is, w.pats-is, w.activation-is)
+          (call_done g.T.Teller.teller g.T.Teller.agrees g.T.Teller.behind g.T.Teller.faults policy c.args.instance.now c.args.status (c.args.teller.now, (c.args.site.now, c.args.out.now)) c.args.state.now (g.P.Patterns.shown c.args.pats.now) c.args.name.now c.args.given.now c.requires.is_call c.requires.names (g.met.T.Teller.steady (c.args.teller.now, (c.args.site.now, c.args.out.now))) c.args.scene.now.depth n deep a of begins block params ps found (found_name policy name block found) params_are numbered w.bind.new.state w.bind.new.activation w.in_ok-bind.ensures.same binds (w.go_through.new.teller, (w.go_through.new.site, w.go_through.new.out)) w.go_through.new.state w.go_through.new.activation (g.P.Patterns.shown w.go_through.new.pats) w.in_ok-go_through.ensures.ends)
+      | activate-in_default w ↦
+          let missing : bundle_of policy name ≡ None = ap (bundle_of policy) (sym c.as_str.ensures) ∙ sym {a = None} {b = bundle_of policy c.as_str.result.now} w.in_default.ensures in
+          rw (w.state-is, w.teller-is, w.site-is, w.out-is, w.pats-is, w.activation-is)
+          (call_missing g.T.Teller.teller g.T.Teller.agrees g.T.Teller.behind g.T.Teller.faults policy c.args.instance.now c.args.status (c.args.teller.now, (c.args.site.now, c.args.out.now)) c.args.state.now (g.P.Patterns.shown c.args.pats.now) c.args.name.now c.args.given.now c.requires.is_call c.requires.names (g.met.T.Teller.steady (c.args.teller.now, (c.args.site.now, c.args.out.now))) c.args.scene.now.depth n deep a of begins missing)
+    ]
+
+pub activate-go_through-requires : goal.activate-go_through-requires
+activate-go_through-requires g t c κs within =
+    let policy = tree_of c.args.scene.now.checked.now in
+    let instance = c.args.instance.now in
+    let name = c.args.name.now in
+    let block = seen_bundle c.in-Some.bundle.now in
+    let ps = map seen_numbered c.deref.result.now in
+    let found : bundle_of policy name ≡ Some block = ap (bundle_of policy) (sym c.as_str.ensures) ∙ sym {a = Some block} {b = bundle_of policy c.as_str.result.now} c.in-Some.ensures in
+    let numbered : ps ≡ numbered_in block = ap (map seen_numbered) c.deref.ensures.value ∙ c.in_ok-promises.ensures in
+    (search rules, (within.0, (within.1.0, (within.1.1.0, (within.1.1.1, (c.requires.names, subst AreCounted (sym numbered) (c.ids_are_counted.ensures name block found)))))))
+
+pub call-activate-requires : goal.call-activate-requires
+call-activate-requires g t c κs within =
+    (search rules, (within.0, (within.1.0, (within.1.1.0, (within.1.1.1, (c.requires.names, c.in-Call.is))))))
+
+pub go_through-pass-requires : goal.go_through-pass-requires
+go_through-pass-requires g t c κs within =
+    (search rules, (within.0, (within.1.0, (within.1.1.0, (within.1.1.1, (c.requires.names, c.requires.ids))))))
+
+pub go_through-pass-requires-2 : goal.go_through-pass-requires-2
+go_through-pass-requires-2 g t c κs within =
+    (search rules, (within.0, (within.1.0, (within.1.1.0, (within.1.1.1, (c.requires.names, c.requires.ids))))))
+
+pub go_through-pass-requires-3 : goal.go_through-pass-requires-3
+go_through-pass-requires-3 g t c κs within =
+    (search rules, (within.0, (within.1.0, (within.1.1.0, (within.1.1.1, (c.requires.names, c.requires.ids))))))
+
+pub pass-reach_type-requires : goal.pass-reach_type-requires
+pass-reach_type-requires g t c κs within =
+    (search rules, (within.0, (within.1.0, (within.1.1.0, (within.1.1.1, (c.requires.names, c.requires.ids))))))
+
+pub reach-reach_instances-requires : goal.reach-reach_instances-requires
+reach-reach_instances-requires g t c κs within =
+    (search rules, (within.0, (within.1.0, (within.1.1.0, (within.1.1.1, (c.requires.names, (c.requires.id, acting_type c.args.promise.now.promise_type c.in-Files.is)))))))
+
+pub reach_instances-visit_each-requires : goal.reach_instances-visit_each-requires
+reach_instances-visit_each-requires g t c κs within =
+    (search rules, (within.0, (within.1.0, (within.1.1.0, (within.1.1.1, (c.requires.names, subst (λ (x : List Instance). All (IsAt c.args.activation.now.path) x) (sym c.as_slice.ensures) c.in_ok-instances.ensures.at))))))
+
+pub reach_type-reach-requires : goal.reach_type-reach-requires
+reach_type-reach-requires g t c κs within =
+    (search rules, (within.0, (within.1.0, (within.1.1.0, (within.1.1.1, (c.requires.names, of_item (λ (x : Held). IsCounted x.id) c.args.promises.now c.loop-promise.promise-index c.promise-item.result c.loop-promise-test.true c.promise-item.is (all_held seen_numbered (λ (x : Numbered). IsCounted x.id) c.args.promises.now c.requires.ids)))))))
+
+pub visit-call-requires : goal.visit-call-requires
+visit-call-requires g t c κs within =
+    (search rules, (within.0, (within.1.0, (within.1.1.0, (within.1.1.1, c.requires.names)))))
+
+pub visit_each-visit-requires : goal.visit_each-visit-requires
+visit_each-visit-requires g t c κs within =
+    let at = of_item (IsAt c.args.activation.now.path) c.args.instances.now c.loop-instance.instance-index c.instance-item.result c.loop-instance-test.true c.instance-item.is c.requires.at in
+    (search rules, (within.0, (within.1.0, (within.1.1.0, (within.1.1.1, (c.requires.names, (at.1, at.0 ∙ sym c.loop-instance.invariant.1)))))))
+
+pub activate-overflow_sub-inner : goal.activate-overflow_sub-inner
+activate-overflow_sub-inner g t c =
+    omega arith
+
+pub activate-bundle-requires-text-name : goal.activate-bundle-requires-text-name
+activate-bundle-requires-text-name g t c κs =
+    c.as_str.utf8
+
+pub reach_instances-count_instances-requires-clause-acting : goal.reach_instances-count_instances-requires-clause-acting
+reach_instances-count_instances-requires-clause-acting g t c =
+    c.requires.acting
+
+pub reach_instances-count_instances-requires-clause-id : goal.reach_instances-count_instances-requires-clause-id
+reach_instances-count_instances-requires-clause-id g t c =
+    c.requires.id
+
+pub pass-loop-promise_type-smaller : goal.pass-loop-promise_type-smaller
+pass-loop-promise_type-smaller g t c =
+    search rules
+
+pub reach_type-loop-promise-smaller : goal.reach_type-loop-promise-smaller
+reach_type-loop-promise-smaller g t c =
+    search rules
+
+pub visit_each-loop-instance-smaller : goal.visit_each-loop-instance-smaller
+visit_each-loop-instance-smaller g t c =
+    search rules
+
+pub reach_type-offset_bounds-promises-promise-index : goal.reach_type-offset_bounds-promises-promise-index
+reach_type-offset_bounds-promises-promise-index g t c =
+    search rules
+
+pub visit_each-offset_bounds-instances-instance-index : goal.visit_each-offset_bounds-instances-instance-index
+visit_each-offset_bounds-instances-instance-index g t c =
+    search rules

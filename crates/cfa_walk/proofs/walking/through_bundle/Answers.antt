@@ -1,0 +1,38 @@
+use Rattle.std.proofs.Common.{◌≡◌, ◌∙◌, [], ◌∷◌, map, subst, ap, sym}
+use Rattle.cfa_schema.specs.Seen.{tree_of}
+use Rattle.cfa_walk.specs.Bundles.{seen_bundle}
+use Rattle.cfa_classes.specs.declared.levels.Status.TheVariants.{Yes}
+use Rattle.cfa_walk.specs.History.{History, Begun}
+use Rattle.cfa_walk.specs.Kept.{Keeps, Stands, IsOf}
+use Rattle.cfa_walk.specs.Views.{Setting}
+use Rattle.cfa_walk.specs.Numbered.{numbered_in}
+use Rattle.cfa_walk.specs.SeenNumbered.{seen_numbered}
+use Rattle.cfa_walk.specs.Steps.{AreCounted}
+use Rattle.cfa_walk.proofs.CommonLemmas.{of_some}
+use Rattle.cfa_walk.proofs.ServedLemmas.{found_name}
+use Rattle.cfa_walk.proofs.WalkLemmas.{agent_gone}
+use Rattle.cfa_walk.proofs.walking.through_bundle.Goals as goal
+
+pub go_through-requires-clause-ids : goal.go_through-requires-clause-ids
+go_through-requires-clause-ids g c =
+    let block = seen_bundle c.args.bundle.now in
+    let is : map seen_numbered c.as_slice-promises.result.now ≡ numbered_in block = ap (map seen_numbered) c.as_slice-promises.ensures.value ∙ c.in_ok-numbered-in-Some.ensures in
+    subst AreCounted (sym is) (c.ids_are_counted.ensures c.args.name.now block c.requires.found)
+
+pub returns-in_ok-numbered-in-Some : goal.returns-in_ok-numbered-in-Some
+returns-in_ok-numbered-in-Some g c =
+    let policy = tree_of c.args.scene.now.checked.now in
+    let name = c.args.name.now in
+    let block = seen_bundle c.args.bundle.now in
+    let ps = map seen_numbered c.as_slice-promises.result.now in
+    let is : ps ≡ numbered_in block = ap (map seen_numbered) c.as_slice-promises.ensures.value ∙ c.in_ok-numbered-in-Some.ensures in
+    let a = c.in-Some.made in (
+      agent_gone g.T.Teller.teller g.T.Teller.agrees g.T.Teller.behind policy name block ps c.args.scene.now.depth
+          (found_name policy name block c.requires.found) is c.requires.depth (c.args.teller.now, (c.args.site.now, c.args.out.now))
+          (g.met.T.Teller.steady (c.args.teller.now, (c.args.site.now, c.args.out.now))) (c.go_through.new.teller, (c.go_through.new.site, c.go_through.new.out))
+          c.args.state.now c.of_sequence.new.state c.go_through.new.state a
+          c.go_through.new.activation c.go_through.result (of_some (IsOf name name Yes) c.in_ok-of_sequence.field-0 a c.in-Some.is c.in_ok-of_sequence.ensures.is_of)
+          (of_some (λ m. (s : Setting) (h : History) → Keeps s c.args.state.now h → Stands s c.of_sequence.new.state m (Begun name [] ∷ h)) c.in_ok-of_sequence.field-0 a c.in-Some.is
+          c.in_ok-of_sequence.ensures.stands) c.go_through.ensures.ends.0,
+      c.go_through.ensures.ends.1,
+    )

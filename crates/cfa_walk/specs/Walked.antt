@@ -1,0 +1,20 @@
+-- What came of a run, as far as it was made: its history is that of its definition, told by each teller with which who tells it
+-- agrees afterwards.
+use Rattle.std.specs.Prelude.{[], ⊤, Result, Ok, Err}
+use Rattle.cfa_output.specs.declared.ends.Stop.{Stop}
+use Rattle.cfa_output.specs.declared.ends.Stop.TheVariants.{Outside, Memory, Visits, Pattern}
+use Rattle.cfa_walk.specs.History.{History}
+use Rattle.cfa_walk.specs.Levels.{GoesTo, IsTooLarge}
+use Rattle.cfa_walk.specs.Passes.{run}
+use Rattle.cfa_walk.specs.Tellers.{Teller}
+use Rattle.cfa_walk.specs.Views.{Setting}
+
+module _ {W X : Type 0} (teller : X → Teller) (agrees : W → X → Type 0) (behind : W → X → History → Type 0) (s : Setting) where
+  abbrev pub HasRun : (w w' : W) → Result (Unit {0}) Stop → Type 0
+  HasRun w w' (Ok done) =
+      (x : X) → agrees w' x →
+      agrees w x × (behind w x [] → GoesTo (run s (teller x)) (λ k. behind w' x k))
+  HasRun w w' (Err (Outside object)) = ⊤
+  HasRun w w' (Err Memory) = ⊤
+  HasRun w w' (Err Visits) = (x : X) → agrees w' x → agrees w x × (behind w x [] → IsTooLarge (run s (teller x)))
+  HasRun w w' (Err (Pattern text)) = ⊤

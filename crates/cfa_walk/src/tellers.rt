@@ -1,0 +1,69 @@
+// Who tells how instances end.
+ghost use Rattle.std.specs.Prelude.{◌∷◌, IfErr, IfOk, IsTrue};
+ghost use Rattle.cfa_schema.specs.Laws.{IsCounted};
+ghost use Rattle.cfa_walk.specs.History.{History, Event};
+ghost use Rattle.cfa_walk.specs.Levels.{HasVisited, HasTold, Faults, Later, Stops, IsTellersStop, is_quiet};
+ghost use Rattle.cfa_walk.specs.Tellers as tellers;
+
+use cfa_classes::Status;
+use cfa_outcomes::Outcome;
+use cfa_output::Stop;
+use cfa_resolve::Instance;
+use std::alloc::Global;
+
+/// Who tells which visits are skipped and how instances end. It stands on a site and a sink, or on whatever else it was made
+/// for.
+pub trait Teller<S, O> {
+    /// What a teller of the definition is made of.
+    ghost given: { Type 0 };
+
+    ghost teller: { given → tellers.Teller };
+
+    /// It agrees with a teller of the definition as far as it was asked.
+    ghost agrees: { Self × (S × O) → given → Type 0 };
+
+    /// It stands behind a history that a teller of the definition tells.
+    ghost behind: { Self × (S × O) → given → History → Type 0 };
+
+    /// How often a call on the site failed, and how often one on the sink did.
+    ghost faults: { Self × (S × O) → Faults };
+
+    /// Hears of a visit of an instance, and answers whether it is skipped.
+    fn visit(
+        &mut self,
+        alloc: Global,
+        instance: &Instance,
+        status: Status,
+        site: &mut S,
+        out: &mut O,
+    ) -> Result<bool, Stop>
+        ensures visited { IfOk result (HasVisited teller agrees behind (self.old, (site.old, out.old))
+            (self.new, (site.new, out.new)) instance.now status) }
+        ensures later { IfOk result (λ skipped. Later (faults (self.old, (site.old, out.old)))
+            (faults (self.new, (site.new, out.new)))) }
+        ensures stopped { IfErr result (Stops (faults (self.old, (site.old, out.old)))
+            (faults (self.new, (site.new, out.new)))) }
+        ensures own { IfErr result IsTellersStop };
+
+    /// Makes an instance end, and answers how. Of a call it is handed the worst outcome in its bundle.
+    fn tell(
+        &mut self,
+        alloc: Global,
+        instance: &Instance,
+        called: Outcome,
+        site: &mut S,
+        out: &mut O,
+    ) -> Result<Outcome, Stop>
+        requires { IsCounted instance.now.source }
+        ensures told { IfOk result (HasTold teller agrees behind (self.old, (site.old, out.old))
+            (self.new, (site.new, out.new)) instance.now called) }
+        ensures later { IfOk result (λ outcome. Later (faults (self.old, (site.old, out.old)))
+            (faults (self.new, (site.new, out.new)))) }
+        ensures stopped { IfErr result (Stops (faults (self.old, (site.old, out.old)))
+            (faults (self.new, (site.new, out.new)))) }
+        ensures own { IfErr result IsTellersStop };
+
+    /// Other events than visits and endings leave it as it is.
+    ghost steady: { (w : Self × (S × O)) (x : given) (event : Event) (h : History)
+        → IsTrue (is_quiet event) → behind w x h → behind w x (event ∷ h) };
+}

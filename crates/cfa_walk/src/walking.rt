@@ -1,0 +1,264 @@
+// The history of a whole run.
+ghost use Rattle.std.specs.Prelude.{◌≡◌, [], ◌∷◌, ℕ, All, IsTrue, Some, length, map, true};
+ghost use Rattle.cfa_schema.specs.Seen.{tree_of};
+ghost use Rattle.cfa_schema.specs.Served.{bundle_of};
+ghost use Rattle.cfa_tree.specs.Tree.{PolicyTree};
+ghost use Rattle.cfa_walk.specs.Bundles.{is_in_common, seen_bundle, IsShared, QuietWalkDone, WalkEnds, common_walk, commons_walk, passes_walk, agent_walk, bundle_walk, sequence_walk};
+ghost use Rattle.cfa_walk.specs.Levels.{FaultsAre, PatternsAre, QuietDone};
+ghost use Rattle.cfa_walk.specs.SeenNumbered.{seen_numbered};
+ghost use Rattle.cfa_walk.specs.Settings.{setting_of};
+ghost use Rattle.cfa_walk.specs.Steps.{common_type_level};
+ghost use Rattle.cfa_walk.specs.Walked.{HasRun};
+
+use crate::activations::{Activation, guard_status};
+use crate::defining::{pass_over, reach_classes, reach_vars};
+use crate::facts::{ids_are_counted, names_are_plain};
+use crate::numbered::{Numbered, numbered_in};
+use crate::passing::{Scene, go_through};
+use crate::states::State;
+use crate::{Context, Teller};
+use cfa_base::{Name, Patterns};
+use cfa_classes::Status;
+use cfa_kinds::{BundleType, PromiseType, bundle_type};
+use cfa_output::Stop;
+use cfa_schema::Checked;
+use cfa_tree::Bundle;
+use std::alloc::Global;
+
+// Reaches a promise of a common bundle, where it is one of this type.
+fn reach_common<P: Patterns>(
+    alloc: Global,
+    promise: &Numbered<'_>,
+    promise_type: PromiseType,
+    state: &mut State,
+    activation: &mut Activation,
+    pats: &mut P,
+) -> Result<(), Stop>
+    requires common { IsTrue (is_in_common promise_type) }
+    ensures done { (policy : PolicyTree) (depth : ℕ) → QuietDone policy true
+        (common_type_level depth (seen_numbered promise.now ∷ []) promise_type)
+        state.old state.new activation.old activation.new result }
+    ensures patterns { PatternsAre result (P.shown pats.old) (P.shown pats.new) }
+{
+    if promise.promise_type != promise_type {
+        return Ok(());
+    }
+    let guard = guard_status(state, activation, &promise.promise.guard);
+    if guard == Status::No {
+        return pass_over(promise, state, activation);
+    }
+    if promise_type == PromiseType::Vars {
+        return reach_vars(alloc, promise, guard, state, activation);
+    }
+    reach_classes(alloc, promise, guard, true, state, activation, pats)
+}
+
+// Reaches the promises of one type of a common bundle one after the other.
+fn reach_common_type<P: Patterns>(
+    alloc: Global,
+    promises: &[Numbered<'_>],
+    promise_type: PromiseType,
+    state: &mut State,
+    activation: &mut Activation,
+    pats: &mut P,
+) -> Result<(), Stop>
+    requires common { IsTrue (is_in_common promise_type) }
+    ensures done { (policy : PolicyTree) (depth : ℕ) → QuietDone policy true
+        (common_type_level depth (map seen_numbered promises.now) promise_type)
+        state.old state.new activation.old activation.new result }
+    ensures patterns { PatternsAre result (P.shown pats.old) (P.shown pats.new) }
+{
+    for promise in promises {
+        reach_common(alloc, promise, promise_type, state, activation, pats)?;
+    }
+    Ok(())
+}
+
+// Goes through a common bundle: its vars, and then its classes.
+fn through_common<P: Patterns>(
+    alloc: Global,
+    bundle: &Bundle,
+    state: &mut State,
+    pats: &mut P,
+) -> Result<(), Stop>
+    ensures done { (policy : PolicyTree) → IsShared policy bundle.now.name.name
+        → QuietWalkDone policy (common_walk (seen_bundle bundle.now)) state.old state.new result }
+    ensures patterns { PatternsAre result (P.shown pats.old) (P.shown pats.new) }
+{
+    match Activation::of_common(alloc, state, &bundle.name.name)? {
+        None => Ok(()),
+        Some(mut made) => {
+            let numbered = numbered_in(alloc, bundle)?;
+            let promises = numbered.as_slice();
+            let activation = &mut made;
+            reach_common_type(alloc, promises, PromiseType::Vars, state, activation, pats)?;
+            reach_common_type(
+                alloc,
+                promises,
+                PromiseType::Classes,
+                state,
+                activation,
+                pats,
+            )
+        }
+    }
+}
+
+// Goes through common bundles one after the other.
+fn through_each<P: Patterns>(
+    alloc: Global,
+    bundles: &[&Bundle],
+    state: &mut State,
+    pats: &mut P,
+) -> Result<(), Stop>
+    ensures done { (policy : PolicyTree)
+        → All (λ bundle. IsShared policy bundle.now.name.name) bundles.now
+        → QuietWalkDone policy (commons_walk (map (λ bundle. seen_bundle bundle.now) bundles.now))
+        state.old state.new result }
+    ensures patterns { PatternsAre result (P.shown pats.old) (P.shown pats.new) }
+{
+    for bundle in bundles {
+        through_common(alloc, bundle, state, pats)?;
+    }
+    Ok(())
+}
+
+// Goes through the common bundles of a policy three times.
+fn through_commons<P: Patterns>(
+    alloc: Global,
+    checked: &Checked,
+    state: &mut State,
+    pats: &mut P,
+) -> Result<(), Stop>
+    ensures done { QuietWalkDone (tree_of checked.now) passes_walk state.old state.new result }
+    ensures patterns { PatternsAre result (P.shown pats.old) (P.shown pats.new) }
+{
+    let bundles = checked.common_bundles(alloc)?;
+    let bundles = bundles.as_slice();
+    through_each(alloc, bundles, state, pats)?;
+    through_each(alloc, bundles, state, pats)?;
+    through_each(alloc, bundles, state, pats)
+}
+
+// Activates an agent bundle of the sequence, and goes through it.
+fn through_bundle<S, O, T: Teller<S, O>, P: Patterns>(
+    scene: &Scene<'_>,
+    name: &Name,
+    bundle: &Bundle,
+    state: &mut State,
+    teller: &mut T,
+    site: &mut S,
+    out: &mut O,
+    pats: &mut P,
+) -> Result<(), Stop>
+    requires depth { scene.now.depth ≡ length (tree_of scene.now.checked.now) }
+    requires shared { IsShared (tree_of scene.now.checked.now) name.now }
+    requires found { bundle_of (tree_of scene.now.checked.now) name.now
+        ≡ Some (seen_bundle bundle.now) }
+    ensures { WalkEnds T.teller T.agrees T.behind T.faults (tree_of scene.now.checked.now)
+        (agent_walk name.now (seen_bundle bundle.now))
+        (teller.old, (site.old, out.old)) (teller.new, (site.new, out.new))
+        state.old state.new (P.shown pats.old) (P.shown pats.new) result }
+{
+    match Activation::of_sequence(scene.alloc, state, name)? {
+        None => Ok(()),
+        Some(mut made) => {
+            let numbered = numbered_in(scene.alloc, bundle)?;
+            names_are_plain(scene.checked);
+            ids_are_counted(scene.checked);
+            let promises = numbered.as_slice();
+            go_through(scene, promises, state, &mut made, teller, site, out, pats)
+        }
+    }
+}
+
+// Goes through a bundle of the sequence. A common bundle isn't gone through again.
+fn through_named<S, O, T: Teller<S, O>, P: Patterns>(
+    scene: &Scene<'_>,
+    name: &Name,
+    state: &mut State,
+    teller: &mut T,
+    site: &mut S,
+    out: &mut O,
+    pats: &mut P,
+) -> Result<(), Stop>
+    requires depth { scene.now.depth ≡ length (tree_of scene.now.checked.now) }
+    requires shared { IsShared (tree_of scene.now.checked.now) name.now }
+    ensures { WalkEnds T.teller T.agrees T.behind T.faults (tree_of scene.now.checked.now)
+        (bundle_walk name.now)
+        (teller.old, (site.old, out.old)) (teller.new, (site.new, out.new))
+        state.old state.new (P.shown pats.old) (P.shown pats.new) result }
+{
+    match scene.checked.bundle(name.as_str()) {
+        None => Ok(()),
+        Some(bundle) => match bundle_type(bundle.kind.name.as_str()) {
+            Some(BundleType::Agent) => {
+                through_bundle(scene, name, bundle, state, teller, site, out, pats)
+            }
+            _ => Ok(()),
+        },
+    }
+}
+
+// Goes through bundles of the sequence one after the other.
+fn through_sequence<S, O, T: Teller<S, O>, P: Patterns>(
+    scene: &Scene<'_>,
+    names: &[Name],
+    state: &mut State,
+    teller: &mut T,
+    site: &mut S,
+    out: &mut O,
+    pats: &mut P,
+) -> Result<(), Stop>
+    requires depth { scene.now.depth ≡ length (tree_of scene.now.checked.now) }
+    requires shared { All (IsShared (tree_of scene.now.checked.now)) names.now }
+    ensures { WalkEnds T.teller T.agrees T.behind T.faults (tree_of scene.now.checked.now)
+        (sequence_walk names.now)
+        (teller.old, (site.old, out.old)) (teller.new, (site.new, out.new))
+        state.old state.new (P.shown pats.old) (P.shown pats.new) result }
+{
+    for name in names {
+        through_named(scene, name, state, teller, site, out, pats)?;
+    }
+    Ok(())
+}
+
+/// Makes the history of a run of a policy in a context, under who tells how its instances end: the common bundles three
+/// times, and then each agent bundle of the sequence in three passes.
+///
+/// `Visits` comes exactly where more visits are needed than `MOST_VISITS`; what stands before the promise with which they
+/// would be passed is done.
+pub fn run<S, O, T: Teller<S, O>, P: Patterns>(
+    alloc: Global,
+    checked: &Checked,
+    context: &Context,
+    teller: &mut T,
+    site: &mut S,
+    out: &mut O,
+    pats: &mut P,
+) -> Result<(), Stop>
+    ensures ran { HasRun T.teller T.agrees T.behind (setting_of checked.now context.now)
+        (teller.old, (site.old, out.old)) (teller.new, (site.new, out.new)) result }
+    ensures faults { FaultsAre (T.faults (teller.old, (site.old, out.old)))
+        (T.faults (teller.new, (site.new, out.new))) result }
+    ensures patterns { PatternsAre result (P.shown pats.old) (P.shown pats.new) }
+{
+    let mut state = State::new(alloc, checked, &context.classes)?;
+    through_commons(alloc, checked, &mut state, pats)?;
+    let depth = checked.policy().blocks.as_slice().len();
+    let scene = Scene {
+        alloc,
+        checked,
+        depth,
+    };
+    let names = checked.sequence(alloc)?;
+    through_sequence(
+        &scene,
+        names.as_slice(),
+        &mut state,
+        teller,
+        site,
+        out,
+        pats,
+    )
+}
