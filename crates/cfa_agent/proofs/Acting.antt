@@ -1,5 +1,5 @@
 -- An actuation that has come to some act.
-use Rattle.std.proofs.Common.{◌≡◌, ℕ, zero, suc, ◌+◌, ◌<◌, ◌≤◌, Bool, true, false, ◌||◌, nat_lt, List, [], ◌∷◌, ◌++◌, length, get_or, take, drop, map, Some, None, Option, option_map, IfSome, refl, sym, ap, subst, ◌∙◌, arith, append-nil, append_assoc, length-append}
+use Rattle.std.proofs.Common.{◌≡◌, ℕ, suc, ◌+◌, ◌<◌, ◌≤◌, Bool, true, false, ◌||◌, nat_lt, List, [], ◌∷◌, ◌++◌, length, get_or, take, drop, Some, None, Option, IfSome, refl, sym, ap, subst, ◌∙◌, arith, append-nil, append_assoc, length-append}
 use Rattle.std.specs.Prelude.{if◌then◌else◌}
 use Rattle.std.proofs.lemmas.Bool.{lt-ltb}
 use Rattle.std.proofs.lemmas.List.{at_drop_more, at_drop_all}
@@ -19,15 +19,15 @@ use Rattle.cfa_acts.specs.declared.acts.Decision.{Decision}
 use Rattle.cfa_acts.specs.declared.acts.Decision.TheVariants as decisions
 use Rattle.cfa_acts.specs.Acts.{decision}
 use Rattle.cfa_resolve.specs.declared.instances.Instance.{Instance}
-use Rattle.cfa_walk.specs.Tellers.{Actuated, actuated, actuated_by, changing, no_more}
+use Rattle.cfa_walk.specs.Tellers.{Actuated, actuated, actuated_by, changing}
 use Rattle.cfa_agent.specs.declared.actuating.Actuation.{Actuation}
 use Rattle.cfa_agent.specs.declared.actuating.Step.TheVariants as steps
 use Rattle.cfa_agent.specs.declared.recording.Heading.{Heading}
-use Rattle.cfa_agent.specs.Actuations.{Done, done_by, is_change, is_some_change, changed, refused_entry}
+use Rattle.cfa_agent.specs.Actuations.{done_by, is_change, is_some_change, changed}
 use Rattle.cfa_agent.specs.Recording.{opening, opening_at}
-use Rattle.cfa_agent.specs.Actuating.{Takes, refused_entries, DoesActs, mark_by, acted_by, acted}
+use Rattle.cfa_agent.specs.Actuating.{Takes, refused_entries, DoesActs, mark_by, acted}
 use Rattle.cfa_agent.proofs.Logs.{some_weaker, each_some, after_both, adds_both, adds_none}
-use Rattle.cfa_agent.proofs.Hosts.{SameHost, same_after, same_opened, actuated_same}
+use Rattle.cfa_agent.proofs.Hosts.{same_after, same_opened, actuated_same}
 
 -- some changes, and then what acts do
 abbrev pub behind : List Change → Actuated → Actuated

@@ -1,5 +1,5 @@
 -- What an actuation writes up to its last change and behind it is all that it writes.
-use Rattle.std.proofs.Common.{◌≡◌, ◌≤◌, ℕ, zero, suc, Bool, true, false, ◌||◌, nat_lt, List, [], ◌∷◌, ◌++◌, length, take, Some, None, Option, IfSome, option_map, refl, sym, ap, subst, ◌∙◌, append_assoc, append-nil}
+use Rattle.std.proofs.Common.{◌≡◌, ◌≤◌, ℕ, ◌||◌, List, [], ◌∷◌, ◌++◌, length, take, Some, None, Option, IfSome, option_map, refl, sym, ap, subst, ◌∙◌, append_assoc}
 use Rattle.std.specs.Prelude.{if◌then◌else◌}
 use Rattle.cfa_base.specs.Causes.{Rose}
 use Rattle.cfa_base.specs.Shown.{Shown, Follows}
@@ -18,7 +18,7 @@ use Rattle.cfa_resolve.specs.declared.instances.Instance.{Instance}
 use Rattle.cfa_walk.specs.Tellers.{Actuated, actuated}
 use Rattle.cfa_agent.specs.declared.actuating.Actuation.{Actuation}
 use Rattle.cfa_agent.specs.declared.recording.Heading.{Heading}
-use Rattle.cfa_agent.specs.Actuations.{Done, done_by, is_change, is_some_change, changed, refused_entry, appended, closing_record, run_record, entries_of}
+use Rattle.cfa_agent.specs.Actuations.{done_by, is_change, is_some_change, changed, appended, closing_record, run_record, entries_of}
 use Rattle.cfa_agent.specs.Recording.{opening, closing, closing_by, closing_failed}
 use Rattle.cfa_agent.specs.Actuating.{FaultsBy, DoesActs, done_met, mark_by, acted}
 use Rattle.cfa_agent.proofs.Acting.{some_made}

@@ -7,3 +7,10 @@ pub mod Opened
 pub mod Closing
 pub mod MarkLemmas
 pub mod Planned
+pub mod Agreeing
+pub mod Records
+pub mod Behind
+pub mod TellLemmas
+pub mod ActsTold
+pub mod Stopping
+pub mod RunTold

@@ -1,5 +1,5 @@
 -- Entries that are added to a log one after the other.
-use Rattle.std.proofs.Common.{◌≡◌, ℕ, ◌≤◌, List, [], ◌∷◌, ◌++◌, Some, None, Option, option_map, Result, Ok, Err, OnOk, IfErr, IfOk, IfSome, refl, sym, ap, subst, ◌∙◌, arith, append-nil, append_assoc}
+use Rattle.std.proofs.Common.{◌≡◌, ◌≤◌, List, [], ◌∷◌, ◌++◌, Some, None, Option, option_map, Result, Ok, Err, IfSome, refl, sym, ap, subst, ◌∙◌, append-nil, append_assoc}
 use Rattle.cfa_base.specs.Causes.{Rose}
 use Rattle.cfa_base.specs.Shown.{Shown, followed, Follows}
 use Rattle.cfa_outside.specs.declared.worlds.World.{World}

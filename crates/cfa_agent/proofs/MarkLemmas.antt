@@ -1,10 +1,9 @@
 -- What the marks of a log are after more was added to it.
-use Rattle.std.proofs.Common.{◌≡◌, ◌≢◌, ⊎_elim, ℕ, zero, suc, ◌+◌, ◌<◌, ◌≤◌, ◌^◌, Bool, true, false, ◌||◌, ◌==◌, List, [], ◌∷◌, ◌++◌, length, take, All, Some, None, Option, IfSome, codes, refl, sym, ap, subst, ◌∙◌, arith, append-nil, append_assoc}
-use Rattle.std.specs.Prelude.{if◌then◌else◌, find}
+use Rattle.std.proofs.Common.{◌≡◌, ◌≢◌, ⊎_elim, ℕ, suc, ◌+◌, ◌<◌, ◌≤◌, ◌^◌, Bool, true, false, ◌||◌, ◌==◌, List, [], ◌∷◌, ◌++◌, length, take, All, Some, None, Option, codes, refl, sym, ap, subst, ◌∙◌, arith, append-nil, append_assoc}
+use Rattle.std.specs.Prelude.{if◌then◌else◌}
 use Rattle.std.specs.Fmt.{decimal}
 use Rattle.std.specs.List.{slice_split}
 use Rattle.std.specs.Option.{option_or}
-use Rattle.std.specs.Str.{bytes_eq}
 use Rattle.std.specs.Str.Parse.{digits_value}
 use Rattle.std.proofs.lemmas.Bool.{eq-eqb}
 use Rattle.std.proofs.lemmas.Bool.Decides.{eqb_tells}
@@ -17,10 +16,8 @@ use Rattle.cfa_base.specs.declared.places.PromiseId.{PromiseId}
 use Rattle.cfa_rows.specs.Cuts.{Lacks}
 use Rattle.cfa_rows.specs.lemmas.Cuts.{Lacks-from_test}
 use Rattle.cfa_rows.specs.lemmas.Numbers.{decimal-lacks, numerals}
-use Rattle.cfa_outside.specs.declared.worlds.World.{World}
 use Rattle.cfa_outside.specs.declared.sites.Call.{Call}
 use Rattle.cfa_outside.specs.declared.sites.Change.{Change}
-use Rattle.cfa_outside.specs.declared.sites.Change.TheVariants as changes
 use Rattle.cfa_outside.specs.declared.sites.Change.TheVariants.{Append, PutLock}
 use Rattle.cfa_outside.specs.declared.sites.Entry.{Entry}
 use Rattle.cfa_outside.specs.declared.sites.Entry.TheVariants.{Did, Refused}
@@ -32,9 +29,10 @@ use Rattle.cfa_acts.specs.declared.acts.Reason.TheVariants.{Fault}
 use Rattle.cfa_locks.specs.Locks.{key_of}
 use Rattle.cfa_resolve.specs.declared.instances.Instance.{Instance}
 use Rattle.cfa_walk.specs.Tellers.{Actuated}
-use Rattle.cfa_agent.specs.Actuations.{Mark, Done, mark_of, done_by, number_of, appended, changed, refused_entry, run_record, closing_record, is_change, is_some_change, entries_of}
+use Rattle.cfa_agent.specs.Actuations.{Mark, Done, mark_of, done_by, number_of, appended, changed, run_record, closing_record, is_change, is_some_change, entries_of}
 use Rattle.cfa_agent.specs.Locking.{lock_entries}
-use Rattle.cfa_agent.specs.Marks.{is_closing, closed_by, closed_in, closed_at, is_of_act, first_closed, counted_on, mark_closed, marks_behind, marks_of}
+use Rattle.cfa_agent.specs.Marks.{is_closing, closed_by, closed_in, is_of_act, first_closed, counted_on, mark_closed, marks_behind, marks_of}
+use Rattle.cfa_agent.specs.WholeLogs.{Gives, IsWholeLog}
 
 -- ---- what a record closes
 
@@ -103,10 +101,6 @@ closes_closing n changes None small = closes_repaired n changes small
 closes_closing n changes (Some reason) small = closes_failed n (number_of reason) small
 
 -- ---- marks of a log that goes on
-
--- all these marks are of these entries, whatever is added
-pub record Gives (log : List Entry) (marks : List Mark) : Type 0 where
-  pub before : (more : List Entry) → marks_of (log ++ more) ≡ marks ++ marks_of more
 
 gives_none : Gives [] []
 gives_none = record { before = λ more. refl }
@@ -224,12 +218,7 @@ gives_entries moment n instance has_record planned (Some mark) small plain could
 
 -- ---- whole logs
 
--- the log is closed: whatever is added, its marks stay, and none of them has a number above this one
-pub record IsWhole (n : ℕ) (log : List Entry) : Type 0 where
-  pub gives : Gives log (marks_of log)
-  pub within : All (λ (m : Mark). m.instance ≤ n) (marks_of log)
-
-pub whole_none : IsWhole 0 []
+pub whole_none : IsWholeLog 0 []
 whole_none = record { gives = gives_none; within = All-nil (λ (m : Mark). m.instance ≤ 0) }
 
 gives_locks : (moment : ℕ) (has_locks : Bool) (instance : Instance) → Gives (lock_entries moment has_locks instance) []
@@ -262,7 +251,7 @@ within_in n planned (Some mark) could =
     let same : mark.instance ≡ n = could.0 in
     All-cons (λ (m : Mark). m.instance ≤ n) mark [] (omega arith) (All-nil (λ (m : Mark). m.instance ≤ n))
 
-whole_both : (n k : ℕ) (log more : List Entry) (marks : List Mark) → n ≤ k → IsWhole n log → Gives more marks → All (λ (m : Mark). m.instance ≤ k) marks → IsWhole k (log ++ more)
+whole_both : (n k : ℕ) (log more : List Entry) (marks : List Mark) → n ≤ k → IsWholeLog n log → Gives more marks → All (λ (m : Mark). m.instance ≤ k) marks → IsWholeLog k (log ++ more)
 whole_both n k log more marks le whole gives within =
     let e = marks_both log more marks whole.gives gives in
     let P : List Mark → Type 0 = λ all. Gives (log ++ more) all in
@@ -273,19 +262,19 @@ whole_both n k log more marks le whole gives within =
     }
 
 -- the next instance leaves the log whole
-pub whole_next : (n moment : ℕ) (log : List Entry) (instance : Instance) (has_record has_locks : Bool) (planned : Actuated) (m : Option Mark) → suc n < 2 ^ 64 → IsWhole n log → AreOfActs planned.changes → CouldMeet (suc n) planned m →
-    IsWhole (suc n) (log ++ added moment (suc n) instance (done_by planned m) has_record has_locks)
+pub whole_next : (n moment : ℕ) (log : List Entry) (instance : Instance) (has_record has_locks : Bool) (planned : Actuated) (m : Option Mark) → suc n < 2 ^ 64 → IsWholeLog n log → AreOfActs planned.changes → CouldMeet (suc n) planned m →
+    IsWholeLog (suc n) (log ++ added moment (suc n) instance (done_by planned m) has_record has_locks)
 whole_next n moment log instance has_record has_locks planned m small whole plain could =
     whole_both n (suc n) log _ (marks_in m) (omega arith) whole (gives_added moment (suc n) instance has_record has_locks planned m small plain could) (within_in (suc n) planned m could)
 
 -- so does a lock alone, which has no mark
-pub whole_lock : (n moment : ℕ) (log : List Entry) (instance : Instance) (has_locks : Bool) → IsWhole n log → IsWhole n (log ++ lock_entries moment has_locks instance)
+pub whole_lock : (n moment : ℕ) (log : List Entry) (instance : Instance) (has_locks : Bool) → IsWholeLog n log → IsWholeLog n (log ++ lock_entries moment has_locks instance)
 whole_lock n moment log instance has_locks whole = whole_both n n log _ [] (omega arith) whole (gives_locks moment has_locks instance) (All-nil (λ (m : Mark). m.instance ≤ n))
 
-pub marks_lock : (n moment : ℕ) (log : List Entry) (instance : Instance) (has_locks : Bool) → IsWhole n log → marks_of (log ++ lock_entries moment has_locks instance) ≡ marks_of log
+pub marks_lock : (n moment : ℕ) (log : List Entry) (instance : Instance) (has_locks : Bool) → IsWholeLog n log → marks_of (log ++ lock_entries moment has_locks instance) ≡ marks_of log
 marks_lock n moment log instance has_locks whole = marks_both log _ [] whole.gives (gives_locks moment has_locks instance) ∙ append-nil (marks_of log)
 
-pub marks_next : (n moment : ℕ) (log : List Entry) (instance : Instance) (has_record has_locks : Bool) (planned : Actuated) (m : Option Mark) → suc n < 2 ^ 64 → IsWhole n log → AreOfActs planned.changes → CouldMeet (suc n) planned m →
+pub marks_next : (n moment : ℕ) (log : List Entry) (instance : Instance) (has_record has_locks : Bool) (planned : Actuated) (m : Option Mark) → suc n < 2 ^ 64 → IsWholeLog n log → AreOfActs planned.changes → CouldMeet (suc n) planned m →
     marks_of (log ++ added moment (suc n) instance (done_by planned m) has_record has_locks) ≡ marks_of log ++ marks_in m
 marks_next n moment log instance has_record has_locks planned m small whole plain could =
     marks_both log _ (marks_in m) whole.gives (gives_added moment (suc n) instance has_record has_locks planned m small plain could)
@@ -314,7 +303,7 @@ found_other n k planned (Some mark) lt could =
     ap (λ b. if b then Some mark else None) (other_mark mark.instance k other)
 
 -- the marks of earlier instances stay
-pub mark_before : (n k moment : ℕ) (log : List Entry) (instance : Instance) (has_record has_locks : Bool) (planned : Actuated) (m : Option Mark) → suc n < 2 ^ 64 → k ≤ n → IsWhole n log → AreOfActs planned.changes → CouldMeet (suc n) planned m →
+pub mark_before : (n k moment : ℕ) (log : List Entry) (instance : Instance) (has_record has_locks : Bool) (planned : Actuated) (m : Option Mark) → suc n < 2 ^ 64 → k ≤ n → IsWholeLog n log → AreOfActs planned.changes → CouldMeet (suc n) planned m →
     mark_of (marks_of (log ++ added moment (suc n) instance (done_by planned m) has_record has_locks)) k ≡ mark_of (marks_of log) k
 mark_before n k moment log instance has_record has_locks planned m small le whole plain could =
     ap (λ marks. mark_of marks k) (marks_next n moment log instance has_record has_locks planned m small whole plain could)
@@ -326,7 +315,7 @@ mark_before n k moment log instance has_record has_locks planned m small le whol
       or_none (Some m) = refl
 
 -- and the next instance has the mark that it met
-pub mark_next : (n moment : ℕ) (log : List Entry) (instance : Instance) (has_record has_locks : Bool) (planned : Actuated) (m : Option Mark) → suc n < 2 ^ 64 → IsWhole n log → AreOfActs planned.changes → CouldMeet (suc n) planned m →
+pub mark_next : (n moment : ℕ) (log : List Entry) (instance : Instance) (has_record has_locks : Bool) (planned : Actuated) (m : Option Mark) → suc n < 2 ^ 64 → IsWholeLog n log → AreOfActs planned.changes → CouldMeet (suc n) planned m →
     mark_of (marks_of (log ++ added moment (suc n) instance (done_by planned m) has_record has_locks)) (suc n) ≡ m
 mark_next n moment log instance has_record has_locks planned m small whole plain could =
     ap (λ marks. mark_of marks (suc n)) (marks_next n moment log instance has_record has_locks planned m small whole plain could)

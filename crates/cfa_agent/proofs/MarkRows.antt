@@ -4,7 +4,6 @@ use Rattle.cfa_outside.specs.declared.sites.Call.TheVariants as calls
 use Rattle.cfa_outside.specs.declared.sites.Change.TheVariants.{PutFile, PutDir, PutLock, Append}
 use Rattle.cfa_outside.specs.declared.sites.Entry.{Entry}
 use Rattle.cfa_outside.specs.declared.sites.Entry.TheVariants.{Did, Refused}
-use Rattle.cfa_agent.specs.Actuations.{Mark}
 use Rattle.cfa_agent.specs.Marks.{closed_in, marks_of}
 
 abbrev written : List ℕ → Entry

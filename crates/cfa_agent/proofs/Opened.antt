@@ -1,5 +1,5 @@
 -- A change that fits a world still fits it behind the records that stand before the first change.
-use Rattle.std.proofs.Common.{◌≡◌, ℕ, List, Some, None, Option, option_map, IfSome, IsTrue, sym, subst, ap}
+use Rattle.std.proofs.Common.{ℕ, List, Some, None, Option, option_map, IfSome, IsTrue, sym, subst, ap}
 use Rattle.cfa_base.specs.Shown.{Shown, Follows}
 use Rattle.cfa_outside.specs.declared.sites.Change.{Change}
 use Rattle.cfa_outside.specs.declared.sites.Entry.{Entry}
@@ -7,7 +7,7 @@ use Rattle.cfa_outside.specs.Sites.{Told, fits, adds, after}
 use Rattle.cfa_resolve.specs.declared.instances.Instance.{Instance}
 use Rattle.cfa_agent.specs.declared.recording.Heading.{Heading}
 use Rattle.cfa_agent.specs.Recording.{opening_at}
-use Rattle.cfa_agent.proofs.Hosts.{SameHost, same_back, same_opened, fits_same}
+use Rattle.cfa_agent.proofs.Hosts.{same_back, same_opened, fits_same}
 
 along : (told : Option Told) (P Q : Told → Type 0) (entries : List Entry) → ((t : Told) → P t → Q (adds entries t)) → IfSome told P → IfSome (option_map (adds entries) told) Q
 along None P Q entries f h = tt

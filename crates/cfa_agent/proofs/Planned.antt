@@ -1,5 +1,5 @@
 -- The changes that acts need are no records and no locks, and a mark that an actuation met is one that could be met.
-use Rattle.std.proofs.Common.{◌≡◌, ℕ, ◌≤◌, Bool, true, false, List, [], ◌∷◌, ◌++◌, length, take, All, Some, None, Option, Result, Ok, Err, refl, sym, ap, subst, ◌∙◌, arith}
+use Rattle.std.proofs.Common.{◌≡◌, ℕ, Bool, true, false, List, [], ◌∷◌, length, Some, None, Option, Result, Ok, Err, refl, arith}
 use Rattle.std.specs.Prelude.{if◌then◌else◌}
 use Rattle.std.specs.FinMap as map
 use Rattle.std.specs.Str.{is_utf8}
@@ -12,7 +12,6 @@ use Rattle.cfa_outside.specs.declared.worlds.ServiceRow.{ServiceRow}
 use Rattle.cfa_outside.specs.declared.worlds.World.{World}
 use Rattle.cfa_outside.specs.declared.sites.Call.{Call}
 use Rattle.cfa_outside.specs.declared.sites.Change.{Change}
-use Rattle.cfa_outside.specs.declared.sites.Change.TheVariants.{PutFile, PutDir, Remove, SetPerms, PutService}
 use Rattle.cfa_outside.specs.declared.sites.Look.{Look}
 use Rattle.cfa_outside.specs.Worlds.{perms_in}
 use Rattle.cfa_outside.specs.Sites.{look_of, after_change}
@@ -30,7 +29,7 @@ use Rattle.cfa_acts.specs.Acts.{decision, post, needed, copies, sets_perms, puts
 use Rattle.cfa_acts.specs.Settling.{is_short, puts_text, puts_lines, edits}
 use Rattle.cfa_walk.specs.Tellers.{Actuated, actuated, actuated_by}
 use Rattle.cfa_agent.specs.declared.actuating.Actuation.{Actuation}
-use Rattle.cfa_agent.specs.Actuations.{Mark, done_by}
+use Rattle.cfa_agent.specs.Actuations.{done_by}
 use Rattle.cfa_agent.specs.Marks.{is_of_act}
 use Rattle.cfa_agent.specs.Actuating.{mark_by, mark_met, done_met}
 use Rattle.cfa_agent.proofs.MarkLemmas.{CouldMeet, AreOfActs}

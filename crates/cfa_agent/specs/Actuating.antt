@@ -21,9 +21,8 @@ use Rattle.cfa_walk.specs.Tellers.{actuated}
 use Rattle.cfa_agent.specs.declared.actuating.Actuation.{Actuation}
 use Rattle.cfa_agent.specs.declared.actuating.Step.{Step}
 use Rattle.cfa_agent.specs.declared.actuating.Step.TheVariants as steps
-use Rattle.cfa_agent.specs.declared.recording.Heading.{Heading}
 use Rattle.cfa_agent.specs.Actuations.{Mark, Done, is_change, done_by, entries_of, changed, refused_entry}
-use Rattle.cfa_agent.specs.Recording.{HasFault, StopsBySite, opening}
+use Rattle.cfa_agent.specs.Recording.{HasFault, StopsBySite}
 
 -- ---- one act
 

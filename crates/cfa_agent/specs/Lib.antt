@@ -1,6 +1,11 @@
 pub mod Actuations
 pub mod Marks
 pub mod Runs
+pub mod Ran
 pub mod Recording
 pub mod Actuating
 pub mod Locking
+pub mod WholeLogs
+pub mod Standing
+pub mod Ending
+pub mod Steady

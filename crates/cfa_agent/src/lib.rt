@@ -1,6 +1,12 @@
-//! The agent: what a run writes in a host's log, puts as lines, and counts.
+//! The agent: runs a policy on a host, writes its journal, and puts what became of its promises.
 #![tactic(auto)]
 
 mod actuating;
 mod locking;
+mod progress;
+mod putting;
 mod recording;
+mod running;
+mod telling;
+
+pub use running::{Tally, run};

@@ -52,7 +52,8 @@ pub fn number_of(reason: Reason) -> u8
     }
 }
 
-fn copy_id(alloc: Global, id: &PromiseId) -> Result<PromiseId, NoMemory>
+/// An equal id of its own.
+pub fn copy_id(alloc: Global, id: &PromiseId) -> Result<PromiseId, NoMemory>
     ensures { IfOk result (λ copy. copy ≡ id.now) }
 {
     Ok(PromiseId {

@@ -1,4 +1,4 @@
-use Rattle.std.proofs.Common.{◌≡◌, ◌≤◌, drop, IfSome}
+use Rattle.std.proofs.Common.{◌≡◌, drop, IfSome}
 use Rattle.cfa_agent.proofs.Acting.{SoFar}
 use Rattle.cfa_agent.proofs.actuating.run_acts.Given as goal
 

@@ -1,0 +1,138 @@
+-- What a whole run came to.
+use Rattle.std.proofs.Common.{◌≡◌, ℕ, Bool, List, [], Option, Some, Ok, Err, sym, ap, subst, ◌∙◌}
+use Rattle.cfa_base.specs.Causes.{Rose}
+use Rattle.cfa_base.specs.Shown.{Shown, Follows}
+use Rattle.cfa_outside.specs.Sites.{Told, adds}
+use Rattle.cfa_outside.specs.Sinks.{adds_bytes}
+use Rattle.cfa_output.specs.Puts.{puts_nothing, puts_then}
+use Rattle.cfa_output.specs.declared.ends.Object.TheVariants.{Inputs, Site, Sink}
+use Rattle.cfa_output.specs.declared.ends.Stop.{Stop}
+use Rattle.cfa_output.specs.declared.ends.Stop.TheVariants.{Outside, Memory, Visits, Pattern}
+use Rattle.cfa_walk.specs.Levels.{GoesTo, IsTooLarge, Stops, PatternsAre}
+use Rattle.cfa_walk.specs.Passes.{Course, goes, too_large, run}
+use Rattle.cfa_walk.specs.Views.{Setting}
+use Rattle.cfa_walk.specs.Walked.{HasRun}
+use Rattle.cfa_agent.specs.declared.progress.Running.{Running}
+use Rattle.cfa_agent.specs.Actuations.{mark_of}
+use Rattle.cfa_agent.specs.Ending.{StopsPut}
+use Rattle.cfa_agent.specs.Marks.{marks_of}
+use Rattle.cfa_agent.specs.Ran.{started, counts_of, IsWhole, IsCutOff, RunsAs, IfBothTold, StopsRun, Refuses, text_too_big}
+use Rattle.cfa_agent.specs.Runs.{Counts, real, run_of, log_of, lines_of, tally_of, history_of, last_line, log_in, tally_in}
+use Rattle.cfa_agent.specs.Standing.{Given, Standing, IsBehind, Agrees, teller_of, IsFirst, since, text_in}
+use Rattle.cfa_agent.specs.WholeLogs.{IsWholeLog}
+use Rattle.cfa_agent.proofs.Logs.{adds_none, each_some}
+use Rattle.cfa_agent.proofs.MarkLemmas.{whole_none}
+
+abbrev given_by : (moment : ℕ) → (locks : Bool) → (before after : Told) → (out : Shown (List ℕ)) → Given
+given_by moment locks before after out = record { start = started moment locks before after; log = before.log; out = out }
+
+some_same : {A : Type 0} (o : Option A) (x y : A) → o ≡ Some x → o ≡ Some y → x ≡ y
+some_same o x y e f = cc
+
+-- a run agrees with the marks of all that it added
+agrees_with_all : (moment : ℕ) (locks : Bool) (w : Standing) (before after : Told) (out : Shown (List ℕ)) → w.1.0.told ≡ Some after → Agrees w (given_by moment locks before after out)
+agrees_with_all moment locks w before after out is t told on k le =
+    let g : Given = given_by moment locks before after out in
+    ap (λ (t : Told). mark_of (marks_of (since g t)) k) (some_same w.1.0.told after t is told)
+
+-- a run that begins has done nothing
+begins_behind : (moment : ℕ) (locks : Bool) (r : Running) (site : Shown Told) (before after : Told) (out : Shown (List ℕ)) → IsFirst moment locks r → site.told ≡ Some before →
+    IsBehind (r, (site, out)) (given_by moment locks before after out) []
+begins_behind moment locks r site before after out first is = let P : ℕ → Type 0 = λ n. IsWholeLog n [] in record {
+  moment_is = first.moment_is;
+  locks_are = first.locks_are;
+  number_is = first.number_is;
+  has_record_is = first.has_record_is;
+  counts_are = first.counts_are;
+  whole = subst P (sym first.number_is) whole_none;
+  told_is = is ∙ ap Some (sym (adds_none before));
+  out_is = puts_nothing out;
+}
+
+-- ---- a run that ended
+
+ended_by : (w : Standing) (g : Given) (course : Course) → GoesTo course (λ k. IsBehind w g k) → IsWhole course × IsBehind w g (history_of course)
+ended_by w g (goes h) behind = (tt, behind)
+ended_by w g (too_large h) behind = absurd behind
+
+runs_as : (setting : Setting) (moment : ℕ) (locks : Bool) (w : Standing) (before after : Told) (out out' : Shown (List ℕ)) → w.1.0.told ≡ Some after →
+    GoesTo (run setting (real (started moment locks before after))) (λ k. IsBehind w (given_by moment locks before after out) k) →
+    Follows (adds_bytes (last_line (counts_of w.0.tally))) w.1.1 out' →
+    RunsAs setting (started moment locks before after) before after out out' w.0.tally
+unfolding run_of log_of lines_of tally_of
+runs_as setting moment locks w before after out out' is went put =
+    let g : Given = given_by moment locks before after out in
+    let ended : IsWhole (run setting (real g.start)) × IsBehind w g (history_of (run setting (real g.start))) = ended_by w g (run setting (real g.start)) went in
+    let behind : IsBehind w g (history_of (run setting (real g.start))) = ended.1 in
+    let told : w.1.0.told ≡ Some (adds (log_in g.start (history_of (run setting (real g.start)))) before) = behind.told_is in
+    let P : Counts → Type 0 = λ counts. Follows (adds_bytes (last_line counts)) w.1.1 out' in
+    record {
+      is_whole = ended.0;
+      site_is = some_same w.1.0.told after (adds (log_in g.start (history_of (run setting (real g.start)))) before) is told;
+      out_is =
+          puts_then (text_in g.start (history_of (run setting (real g.start)))) (last_line (tally_in (history_of (run setting (real g.start))))) out w.1.1 out'
+          behind.out_is (subst P behind.counts_are put);
+      tally_is = behind.counts_are;
+    }
+
+pub run_ran : (setting : Setting) (moment : ℕ) (locks : Bool) (first r : Running) (site site' : Shown Told) (out out1 out' : Shown (List ℕ)) → IsFirst moment locks first →
+    HasRun teller_of Agrees IsBehind setting (first, (site, out)) (r, (site', out1)) (Ok tt) →
+    Follows (adds_bytes (last_line (counts_of r.tally))) out1 out' →
+    IfBothTold (λ before after. RunsAs setting (started moment locks before after) before after out out' r.tally) site site'
+run_ran setting moment locks first r site site' out out1 out' begins ran put =
+    each_some site.told _ (λ before is. each_some site'.told _ (λ after is'.
+    let g : Given = given_by moment locks before after out in
+    runs_as setting moment locks (r, (site', out1)) before after out out' is'
+    ((ran g (agrees_with_all moment locks (r, (site', out1)) before after out is')).1 (begins_behind moment locks first site before after out begins is)) put))
+
+-- ---- a run that was stopped
+
+cut_off : (course : Course) → IsTooLarge course → IsCutOff course
+cut_off (goes h) large = large
+cut_off (too_large h) large = large
+
+large_of : (setting : Setting) (moment : ℕ) (locks : Bool) (before after : Told) → IsTooLarge (run setting (real (started moment locks before after))) → IsCutOff (run_of setting (started moment locks before after))
+unfolding run_of
+large_of setting moment locks before after large = cut_off (run setting (real (started moment locks before after))) large
+
+-- by too many visits
+pub run_large : (setting : Setting) (moment : ℕ) (locks : Bool) (first r : Running) (site site' : Shown Told) (out out' : Shown (List ℕ)) (stop : Stop) → IsFirst moment locks first → stop ≡ Visits →
+    HasRun teller_of Agrees IsBehind setting (first, (site, out)) (r, (site', out')) (Err stop) →
+    IfBothTold (λ before after. IsCutOff (run_of setting (started moment locks before after))) site site'
+run_large setting moment locks first r site site' out out' stop begins is_visits ran =
+    let P : Stop → Type 0 = λ stop. HasRun teller_of Agrees IsBehind setting (first, (site, out)) (r, (site', out')) (Err stop) in
+    let ran' : P Visits = subst P is_visits ran in
+    each_some site.told _ (λ before is. each_some site'.told _ (λ after is'.
+    let g : Given = given_by moment locks before after out in
+    large_of setting moment locks before after
+    ((ran' g (agrees_with_all moment locks (r, (site', out')) before after out is')).1 (begins_behind moment locks first site before after out begins is))))
+
+-- in the walk
+pub walk_stops : (site site' : Shown Told) (out out' : Shown (List ℕ)) (stop : Stop) → Stops (site.faults, out.faults) (site'.faults, out'.faults) stop → StopsRun site site' out out' stop
+walk_stops site site' out out' (Outside Inputs) h = h
+walk_stops site site' out out' (Outside Site) h = h
+walk_stops site site' out out' (Outside Sink) h = h
+walk_stops site site' out out' Memory h = h
+walk_stops site site' out out' Visits h = h
+walk_stops site site' out out' (Pattern text) h = h
+
+pub walk_refuses : (stop : Stop) (pats pats' : Shown (List (List ℕ))) → PatternsAre (Err stop) pats pats' → Refuses (text_too_big (Err stop)) pats pats'
+walk_refuses (Outside object) pats pats' h = h
+walk_refuses Memory pats pats' h = h
+walk_refuses Visits pats pats' h = h
+walk_refuses (Pattern text) pats pats' h = h
+
+-- at the line of the total
+pub total_stops : (site site' : Shown Told) (out out1 out' : Shown (List ℕ)) (stop : Stop) → out1.faults ≡ out.faults → StopsPut out1 out' stop → StopsRun site site' out out' stop
+total_stops site site' out out1 out' (Outside Inputs) same h = h
+total_stops site site' out out1 out' (Outside Site) same h = absurd h
+total_stops site site' out out1 out' (Outside Sink) same h = let P : ℕ → Type 0 = λ count. Rose count out'.faults in subst P same h
+total_stops site site' out out1 out' Memory same h = h ∙ same
+total_stops site site' out out1 out' Visits same h = absurd h
+total_stops site site' out out1 out' (Pattern text) same h = absurd h
+
+pub total_refuses : (out1 out' : Shown (List ℕ)) (stop : Stop) (pats pats' : Shown (List (List ℕ))) → StopsPut out1 out' stop → pats' ≡ pats → Refuses (text_too_big (Err stop)) pats pats'
+total_refuses out1 out' (Outside object) pats pats' h same = same
+total_refuses out1 out' Memory pats pats' h same = same
+total_refuses out1 out' Visits pats pats' h same = same
+total_refuses out1 out' (Pattern text) pats pats' h same = absurd h

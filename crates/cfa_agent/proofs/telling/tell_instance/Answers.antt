@@ -1,0 +1,26 @@
+use Rattle.std.proofs.Common.{[], arith}
+use Rattle.cfa_output.specs.Puts.{puts_nothing}
+use Rattle.cfa_agent.specs.Locking.{lock_entries}
+use Rattle.cfa_agent.proofs.Stopping.{later_told}
+use Rattle.cfa_agent.proofs.TellLemmas.{call_told}
+use Rattle.cfa_agent.proofs.telling.tell_instance.Goals as goal
+
+pub returns-in-Acts : goal.returns-in-Acts
+returns-in-Acts g c = c.tell_acts.ensures c.args.called
+
+pub returns-in_ok-settle-in-Call : goal.returns-in_ok-settle-in-Call
+returns-in_ok-settle-in-Call g c =
+    let site = g.S.Site.shown in
+    let out = g.O.Sink.shown c.args.out.now in
+    let run = c.args.running.now in
+    let instance = c.args.instance.now in
+    record {
+      told = call_told run c.settle.new.running (site c.args.site.now) (site c.settle.new.site) out instance c.args.called c.in-Call.field-0 c.in-Call.field-1
+          c.in-Call.is c.in_ok-settle-in-Call.ensures.locked c.in_ok-settle-in-Call.ensures.counted;
+      later = later_told (site c.args.site.now) (site c.args.site.now) (site c.settle.new.site) out out
+          (lock_entries run.moment run.locks instance) [] (omega arith) c.in_ok-settle-in-Call.ensures.locked (puts_nothing out);
+      stopped = tt;
+    }
+
+pub returns-in-Report : goal.returns-in-Report
+returns-in-Report g c = c.tell_report.ensures c.args.called

@@ -1,0 +1,85 @@
+-- Of the code alone: with what a run on a site agrees as far as it was made, and what it came to.
+--
+-- Which calls of the site fail is known of the entries alone that the run has added so far. So it agrees with each run of the
+-- definition that meets their marks, up to the instance that was actuated last.
+use Rattle.std.specs.Prelude.{ℕ, ◌≡◌, ◌≤◌, Bool, false, List, length, drop, flat_map, Some}
+use Rattle.cfa_base.specs.Shown.{Shown, Follows}
+use Rattle.cfa_outside.specs.declared.sites.Entry.{Entry}
+use Rattle.cfa_outside.specs.Sites.{Told, adds}
+use Rattle.cfa_outside.specs.Sinks.{adds_bytes}
+use Rattle.cfa_walk.specs.History.{History}
+use Rattle.cfa_walk.specs.Levels.{Faults}
+use Rattle.cfa_walk.specs.Tellers.{Teller}
+use Rattle.cfa_agent.specs.declared.progress.Running.{Running}
+use Rattle.cfa_agent.specs.Actuations.{Mark, mark_of}
+use Rattle.cfa_agent.specs.Marks.{marks_of}
+use Rattle.cfa_agent.specs.Ran.{counts_of}
+use Rattle.cfa_agent.specs.Runs.{Start, Counts, no_counts, real, actuations_in, has_record, log_in, lines_in, tally_in}
+use Rattle.cfa_agent.specs.WholeLogs.{IsWholeLog}
+
+-- a run's start, what happened on its site before it, and what its sink showed
+pub record Given : Type 0 where
+  pub start : Start
+  pub log : List Entry
+  pub out : Shown (List ℕ)
+
+-- who tells how instances end, with what its site and its sink show
+abbrev pub Standing : Type 0
+Standing = Running × (Shown Told × Shown (List ℕ))
+
+abbrev pub teller_of : Given → Teller
+teller_of g = real g.start
+
+abbrev pub faults_of : Standing → Faults
+faults_of w = (w.1.0.faults, w.1.1.faults)
+
+-- ---- with what it agrees
+
+-- what was added to the log since the start
+abbrev pub since : Given → Told → List Entry
+since g t = drop (length g.log) t.log
+
+-- the log goes on from that of the start by whole entries
+pub record GoesOn (number : ℕ) (g : Given) (t : Told) : Type 0 where
+  pub longer : length g.log ≤ length t.log
+  pub whole : IsWholeLog number (since g t)
+
+-- the same marks of the instances up to a number
+abbrev pub SameMarks : (number : ℕ) → (marks marks' : List Mark) → Type 0
+SameMarks number marks marks' = (k : ℕ) → k ≤ number → mark_of marks k ≡ mark_of marks' k
+
+abbrev pub Agrees : Standing → Given → Type 0
+Agrees w g =
+    (t : Told) → w.1.0.told ≡ Some t → GoesOn w.0.number g t →
+    SameMarks w.0.number g.start.marks (marks_of (since g t))
+
+-- ---- what it came to
+
+-- a run that begins has actuated, written and counted nothing
+pub record IsFirst (moment : ℕ) (locks : Bool) (r : Running) : Type 0 where
+  pub moment_is : r.moment ≡ moment
+  pub locks_are : r.locks ≡ locks
+  pub number_is : r.number ≡ 0
+  pub has_record_is : r.has_record ≡ false
+  pub counts_are : counts_of r.tally ≡ no_counts
+
+abbrev pub first_told : Given → Told
+first_told g = record { world = g.start.world; log = g.log }
+
+-- this was written, put and counted, of so many instances with acts
+pub record CameTo (w : Standing) (g : Given) (log : List Entry) (number : ℕ) (text : List ℕ) (counts : Counts) : Type 0 where
+  pub moment_is : w.0.moment ≡ g.start.moment
+  pub locks_are : w.0.locks ≡ g.start.has_locks
+  pub number_is : w.0.number ≡ number
+  pub has_record_is : w.0.has_record ≡ has_record log
+  pub counts_are : counts_of w.0.tally ≡ counts
+  pub whole : IsWholeLog w.0.number log
+  pub told_is : w.1.0.told ≡ Some (adds log (first_told g))
+  pub out_is : Follows (adds_bytes text) g.out w.1.1
+
+-- the lines of a history, one after the other
+abbrev pub text_in : Start → History → List ℕ
+text_in s h = flat_map (λ line. line) (lines_in s h)
+
+abbrev pub IsBehind : Standing → Given → History → Type 0
+IsBehind w g h = CameTo w g (log_in g.start h) (actuations_in h) (text_in g.start h) (tally_in h)

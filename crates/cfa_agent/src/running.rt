@@ -1,0 +1,79 @@
+// A run of a policy on a host.
+ghost use Rattle.std.specs.Prelude.{◌≡◌, ◌≤◌, IfErr, IfOk, IsErrOf, OnOk};
+ghost use Rattle.cfa_walk.specs.Settings.{setting_of};
+ghost use Rattle.cfa_agent.specs.Runs.{run_of};
+ghost use Rattle.cfa_agent.specs.Standing.{IsFirst};
+ghost use Rattle.cfa_agent.specs.Ran.{started, IsCutOff, RunsAs, IfBothTold, text_too_big, StopsRun, Refuses};
+
+use crate::progress::Running;
+use crate::putting::put_total;
+use cfa_base::{LAST_MOMENT, Patterns};
+use cfa_output::Stop;
+use cfa_outside::{Sink, Site};
+use cfa_schema::Checked;
+use cfa_walk::Context;
+use std::alloc::Global;
+
+/// How many instances were kept, repaired, failed and skipped.
+#[derive(Clone, Copy, Debug, PartialEq, Eq)]
+pub struct Tally {
+    pub kept: u64,
+    pub repaired: u64,
+    pub failed: u64,
+    pub skipped: u64,
+}
+
+// A run that begins.
+fn begin(moment: u64, locks: bool) -> Running
+    requires { moment ≤ LAST_MOMENT }
+    ensures { IsFirst moment locks result }
+{
+    Running {
+        moment,
+        locks,
+        number: 0,
+        has_record: false,
+        tally: Tally {
+            kept: 0,
+            repaired: 0,
+            failed: 0,
+            skipped: 0,
+        },
+    }
+}
+
+/// Runs a policy: its common bundles, and then each bundle of its sequence in three passes. Each line is put as soon as it
+/// stands, and the line of the total at the end.
+///
+/// With `locks` an instance whose lock was last set too few minutes ago is skipped, and each other one sets its lock when it
+/// has ended. `moment` is the time in seconds since 1970-01-01T00:00:00Z.
+pub fn run<S: Site, O: Sink, P: Patterns>(
+    alloc: Global,
+    checked: &Checked,
+    context: &Context,
+    moment: u64,
+    locks: bool,
+    site: &mut S,
+    out: &mut O,
+    pats: &mut P,
+) -> Result<Tally, Stop>
+    requires { moment ≤ LAST_MOMENT }
+    // A run that ended did, put and counted what its definition says, and no put failed.
+    ensures ran { IfOk result (λ tally. IfBothTold (λ before after.
+        RunsAs (setting_of checked.now context.now) (started moment locks before after) before after
+        (O.shown out.old) (O.shown out.new) tally) (S.shown site.old) (S.shown site.new)) }
+    ensures calm { OnOk result ((O.shown out.new).faults ≡ (O.shown out.old).faults) }
+    // A run is stopped by too many visits only where its definition has too many.
+    ensures too_large { IsErrOf result Stop.Visits → IfBothTold (λ before after.
+        IsCutOff (run_of (setting_of checked.now context.now) (started moment locks before after)))
+        (S.shown site.old) (S.shown site.new) }
+    ensures stopped { IfErr result
+        (StopsRun (S.shown site.old) (S.shown site.new) (O.shown out.old) (O.shown out.new)) }
+    ensures patterns { Refuses (text_too_big result) (P.shown pats.old) (P.shown pats.new) }
+{
+    let mut running = begin(moment, locks);
+    cfa_walk::run(alloc, checked, context, &mut running, site, out, pats)?;
+    let tally = running.tally;
+    put_total(alloc, tally, out)?;
+    Ok(tally)
+}

@@ -1,0 +1,249 @@
+// Who tells how the instances of a run end: its site.
+ghost use Rattle.std.specs.Prelude.{◌≡◌, ◌+◌, All, IfOk, OnOk, suc};
+ghost use Rattle.cfa_acts.specs.Acts.{IsAct};
+ghost use Rattle.cfa_schema.specs.Laws.{IsCounted};
+ghost use Rattle.cfa_resolve.specs.declared.instances.Work.TheVariants as Work;
+ghost use Rattle.cfa_outcomes.specs.declared.outcomes.Outcome.{Outcome as AnyOutcome};
+ghost use Rattle.cfa_agent.specs.Ending.{outcome_ended, is_recorded, one_ended, tallied, heard, acted_on, Hears, ActsNext, Settles, Tells};
+
+use crate::actuating::{Actuation, actuate};
+use crate::locking::{is_skipped, set_lock};
+use crate::progress::Running;
+use crate::putting::{put_ended, put_report};
+use crate::running::Tally;
+use cfa_acts::Act;
+use cfa_base::{Name, NoMemory};
+use cfa_classes::Status;
+use cfa_outcomes::Outcome;
+use cfa_output::Stop;
+use cfa_outside::{Sink, Site};
+use cfa_resolve::{Instance, Work};
+use cfa_walk::Teller;
+use std::alloc::Global;
+
+// ---- counts
+
+// So many instances that they can't be counted don't fit in any memory.
+fn one_more(count: u64) -> Result<u64, NoMemory>
+    ensures { IfOk result (λ more. more ≡ count + 1) }
+{
+    count.checked_add(1).ok_or(NoMemory)
+}
+
+// The number of the next instance with acts.
+fn next_number(number: u32) -> Result<u32, NoMemory>
+    ensures { IfOk result (λ next. next ≡ suc number) }
+{
+    number.checked_add(1).ok_or(NoMemory)
+}
+
+fn count_ended(tally: Tally, outcome: Outcome) -> Result<Tally, NoMemory>
+    ensures { IfOk result (λ counted. counted ≡ one_ended outcome tally) }
+{
+    match outcome {
+        Outcome::Kept => Ok(Tally {
+            kept: one_more(tally.kept)?,
+            ..tally
+        }),
+        Outcome::Repaired => Ok(Tally {
+            repaired: one_more(tally.repaired)?,
+            ..tally
+        }),
+        Outcome::Failed => Ok(Tally {
+            failed: one_more(tally.failed)?,
+            ..tally
+        }),
+    }
+}
+
+// Counts a visit where it is skipped.
+fn count_visit(running: &mut Running, skipped: bool) -> Result<(), NoMemory>
+    ensures { OnOk result (running.new ≡ heard skipped running.old) }
+{
+    if !skipped {
+        return Ok(());
+    }
+    running.tally.skipped = one_more(running.tally.skipped)?;
+    Ok(())
+}
+
+fn outcome_of(ended: Actuation) -> Outcome
+    ensures { result ≡ outcome_ended ended }
+{
+    match ended.failure {
+        Some(_) => Outcome::Failed,
+        None if ended.changes > 0 => Outcome::Repaired,
+        None => Outcome::Kept,
+    }
+}
+
+// Whether a record tells it.
+fn is_recorded(outcome: Outcome) -> bool
+    ensures { result ≡ is_recorded outcome }
+{
+    match outcome {
+        Outcome::Kept => false,
+        Outcome::Repaired => true,
+        Outcome::Failed => true,
+    }
+}
+
+// ---- one instance
+
+// Hears of a visit.
+fn hear<S: Site>(
+    alloc: Global,
+    running: &mut Running,
+    instance: &Instance,
+    site: &mut S,
+) -> Result<bool, Stop>
+    ensures { Hears running.old running.new instance.now
+        (S.shown site.old) (S.shown site.new) result }
+{
+    let skipped = is_skipped(alloc, running.moment, running.locks, instance, site)?;
+    count_visit(running, skipped)?;
+    Ok(skipped)
+}
+
+// Actuates the next instance with acts.
+fn act<S: Site>(
+    alloc: Global,
+    running: &mut Running,
+    instance: &Instance,
+    acts: &[Act],
+    site: &mut S,
+) -> Result<Actuation, Stop>
+    requires acts { All IsAct acts.now }
+    requires source { IsCounted instance.now.source }
+    ensures { ActsNext running.old running.new instance.now acts.now
+        (S.shown site.old) (S.shown site.new) result }
+{
+    let number = next_number(running.number)?;
+    let moment = running.moment;
+    let has_record = running.has_record;
+    let ended = actuate(alloc, moment, number, instance, acts, has_record, site)?;
+    running.number = number;
+    running.has_record = has_record || is_recorded(outcome_of(ended));
+    Ok(ended)
+}
+
+// Sets the lock of an instance that has ended, and counts it.
+fn settle<S: Site>(
+    alloc: Global,
+    running: &mut Running,
+    instance: &Instance,
+    outcome: Outcome,
+    site: &mut S,
+) -> Result<(), Stop>
+    ensures { Settles running.old running.new instance.now outcome
+        (S.shown site.old) (S.shown site.new) result }
+{
+    set_lock(alloc, running.moment, running.locks, instance, site)?;
+    running.tally = count_ended(running.tally, outcome)?;
+    Ok(())
+}
+
+// ---- by what an instance asks for
+
+fn tell_acts<S: Site, O: Sink>(
+    alloc: Global,
+    running: &mut Running,
+    instance: &Instance,
+    acts: &[Act],
+    site: &mut S,
+    out: &mut O,
+) -> Result<Outcome, Stop>
+    requires asked { instance.now.work ≡ Work.Acts acts.now }
+    requires acts { All IsAct acts.now }
+    requires source { IsCounted instance.now.source }
+    ensures { (called : AnyOutcome) →
+        Tells (running.old, (S.shown site.old, O.shown out.old))
+        (running.new, (S.shown site.new, O.shown out.new)) instance.now called result }
+{
+    let ended = act(alloc, running, instance, acts, site)?;
+    let outcome = outcome_of(ended);
+    settle(alloc, running, instance, outcome, site)?;
+    put_ended(alloc, &instance.source, ended, out)?;
+    Ok(outcome)
+}
+
+fn tell_report<S: Site, O: Sink>(
+    alloc: Global,
+    running: &mut Running,
+    instance: &Instance,
+    text: &Name,
+    site: &mut S,
+    out: &mut O,
+) -> Result<Outcome, Stop>
+    requires { instance.now.work ≡ Work.Report text.now }
+    ensures { (called : AnyOutcome) →
+        Tells (running.old, (S.shown site.old, O.shown out.old))
+        (running.new, (S.shown site.new, O.shown out.new)) instance.now called result }
+{
+    settle(alloc, running, instance, Outcome::Kept, site)?;
+    put_report(alloc, text, out)?;
+    Ok(Outcome::Kept)
+}
+
+// Makes an instance end. A call has ended with its bundle, and a report is kept.
+fn tell_instance<S: Site, O: Sink>(
+    alloc: Global,
+    running: &mut Running,
+    instance: &Instance,
+    called: Outcome,
+    site: &mut S,
+    out: &mut O,
+) -> Result<Outcome, Stop>
+    requires { IsCounted instance.now.source }
+    ensures { Tells (running.old, (S.shown site.old, O.shown out.old))
+        (running.new, (S.shown site.new, O.shown out.new)) instance.now called result }
+{
+    match &instance.work {
+        Work::Acts(acts) => tell_acts(alloc, running, instance, acts.as_slice(), site, out),
+        Work::Call(_, _) => {
+            settle(alloc, running, instance, called, site)?;
+            Ok(called)
+        }
+        Work::Report(text) => tell_report(alloc, running, instance, text, site, out),
+    }
+}
+
+impl<S: Site, O: Sink> Teller<S, O> for Running {
+    ghost use Rattle.cfa_agent.specs.Standing.{Given, teller_of, faults_of, Agrees, IsBehind};
+    ghost use Rattle.cfa_agent.specs.Steady.{stays_behind};
+
+    ghost given = { Given };
+
+    ghost teller = { teller_of };
+
+    ghost agrees = { λ w g. Agrees (w.0, (S.shown w.1.0, O.shown w.1.1)) g };
+
+    ghost behind = { λ w g h. IsBehind (w.0, (S.shown w.1.0, O.shown w.1.1)) g h };
+
+    ghost faults = { λ w. faults_of (w.0, (S.shown w.1.0, O.shown w.1.1)) };
+
+    ghost steady = { λ w g event h quiet b.
+        stays_behind (w.0, (S.shown w.1.0, O.shown w.1.1)) g event h quiet b };
+
+    fn visit(
+        &mut self,
+        alloc: Global,
+        instance: &Instance,
+        _status: Status,
+        site: &mut S,
+        _out: &mut O,
+    ) -> Result<bool, Stop> {
+        hear(alloc, self, instance, site)
+    }
+
+    fn tell(
+        &mut self,
+        alloc: Global,
+        instance: &Instance,
+        called: Outcome,
+        site: &mut S,
+        out: &mut O,
+    ) -> Result<Outcome, Stop> {
+        tell_instance(alloc, self, instance, called, site, out)
+    }
+}
