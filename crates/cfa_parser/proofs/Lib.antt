@@ -1,5 +1,4 @@
 pub mod BundleRest
-pub mod FirstFormLemmas
 pub mod Limits
 pub mod PolicyRest
 pub mod PolicyRuns

@@ -1,5 +1,3 @@
-pub mod FirstForm
-pub mod FirstReading
 pub mod Laws
 pub mod Machine
 pub mod Reading

@@ -3,7 +3,6 @@
 
 mod bundles;
 mod errors;
-mod first;
 mod headings;
 mod laws;
 mod promises;
@@ -13,6 +12,5 @@ mod texts;
 mod values;
 
 pub use errors::ParseErr;
-pub use first::{FirstErr, FirstPromise, read_first};
 pub use laws::reading_is_unique;
 pub use reader::parse;

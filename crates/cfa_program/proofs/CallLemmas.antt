@@ -13,19 +13,22 @@ use Rattle.cfa_output.specs.declared.ends.Stop.{Stop}
 use Rattle.cfa_output.specs.declared.ends.Stop.TheVariants.{Outside, Memory, Visits, Pattern}
 use Rattle.cfa_output.specs.declared.ends.Failure.{Failure}
 use Rattle.cfa_output.specs.declared.ends.Failure.TheVariants.{Refused, Stopped}
-use Rattle.cfa_output.specs.Lines.{words_line, moment_line, memory_line, pattern_line, stop_line}
+use Rattle.cfa_output.specs.Lines.{words_line, moment_line, memory_line, stop_line}
+use Rattle.cfa_agent.specs.Actuations.{Mark}
+use Rattle.cfa_agent.specs.Marks.{marks_of}
+use Rattle.cfa_agent.specs.Ran.{added, IfBothTold, started, StopsRun}
 use Rattle.cfa_program.specs.declared.ends.End.{End}
 use Rattle.cfa_program.specs.declared.ends.End.TheVariants.{Ended, PromiseFailed}
 use Rattle.cfa_program.specs.declared.work.Work.{Work}
 use Rattle.cfa_program.specs.declared.work.Work.TheVariants.{Run, Show, Check}
 use Rattle.cfa_program.specs.Calls as calls
-use Rattle.cfa_program.specs.Calls.{Does, RefusesRequest, TakesRequest, TakenIsNotRefused, done_by}
+use Rattle.cfa_program.specs.Calls.{Does, RefusesRequest, TakesRequest, TakenIsNotRefused, NeedsTooMany, ran}
 use Rattle.cfa_program.specs.Done.{IsDone, IsPut, Stands, Puts, HasFault, refused_with, status_of}
-use Rattle.cfa_program.specs.Ends.{IsEnd, IsStop, IsNotDone, AsksRun, AsksNoRun, AsksRefused, RefusesCall, of_words, of_moment, of_request, PutsRefusal, IsUnread, ReadsInTurn, StopsReading, RefusesText}
+use Rattle.cfa_program.specs.Ends.{IsEnd, IsStop, IsNotDone, AsksRun, AsksNoRun, AsksRefused, RefusesCall, of_words, of_moment, of_request, PutsRefusal, IsUnread, ReadsInTurn, PutsLast, StopsReading, StopsAtSite, RefusesText, StopsAtPattern, of_policy, of_run, StopsAtVisits}
 use Rattle.cfa_program.specs.Lines.{valid_line}
-use Rattle.cfa_program.specs.Stages.{RunsPromises, IsAsked, OnlyRefused, Prepared, Performed, TextPut, PutsLast, PutsStop, status_of_stop, Called, not_prepared, ended, stopped_at_work}
-use Rattle.cfa_program.specs.Steps.{StopsRun}
-use Rattle.cfa_program.proofs.Faults.{some_weaker, each_some, some_injective, fault_along, fault_before, calm_so, follows_none}
+use Rattle.cfa_program.specs.Stages.{RunsPolicy, setting_in, task_of, IsAsked, OnlyRefused, Prepared, Performed, PutsEnd, PutsStop, status_of_stop, Called, not_prepared, ended, stopped_at_work}
+use Rattle.cfa_program.proofs.Told.{some_weaker, each_some, some_injective, untouched_both, both_weaker, both, adds_none, fault_along, fault_before}
+use Rattle.cfa_program.proofs.WorkLemmas.{text_done, text_put, IsNoSink, work_stop, runs_by_stop, patterns_by_stop, patterns_at_end, untouched_without_run, failed_runs}
 
 -- ---- statuses
 
@@ -41,10 +44,6 @@ high n (inr (inr e)) = omega (arith, e)
 
 no_end : (n : ℕ) → IsStop n → IsEnd n → ⊥
 no_end n s e = omega (arith, high n s, low n e)
-
-ended_is : (end : End) → (status_of end ≡ 0) ⊎ (status_of end ≡ 2)
-ended_is Ended = inl refl
-ended_is PromiseFailed = inr refl
 
 is_end : (end : End) (n : ℕ) → n ≡ status_of end → IsEnd n
 is_end Ended n e = inl e
@@ -68,76 +67,20 @@ stop_is Visits out out' n (inr h) = inl h.0
 stop_is (Pattern text) out out' n (inl h) = inr (inr h.0)
 stop_is (Pattern text) out out' n (inr h) = inl h.0
 
-zero_two : ◌≡◌ {A = ℕ} 0 2 → ⊥
-zero_two e = omega (arith, e)
-
 one_request : {o : Option Request} {a b : Request} → o ≡ Some a → o ≡ Some b → a ≡ b
 one_request {o} {a} {b} first second = some_injective a b (sym first ∙ second)
 
--- ---- the work
-
-text_done : (text : List ℕ) (site site' : Shown Told) (out out' : Shown (List ℕ)) (end : End) → Untouched site site' → TextPut text out out' (Ok end) → IsDone (calls.shown text) site site' out out' (status_of end)
-text_done text site site' out out' end un t = record {
-  logged = un ∙ follows_none site;
-  put = t.put.1 ∙ ap (λ bs. followed (adds_bytes bs) out) (sym (append-nil text));
-  status_is = ap status_of t.put.0;
-}
-
-text_put : (text : List ℕ) (out out' : Shown (List ℕ)) (end : End) → TextPut text out out' (Ok end) → IsPut (calls.shown text) out out' (status_of end)
-text_put text out out' end t = record {
-  no_entry = refl;
-  put = t.put.1 ∙ ap (λ bs. followed (adds_bytes bs) out) (sym (append-nil text));
-  status_is = ap status_of t.put.0;
-}
-
-work_is_done : (work : Work) (end : End) (site site' : Shown Told) (out out' : Shown (List ℕ)) → Performed work site site' out out' (Ok end) → ¬ HasFault site site' → IfSome site.told (λ t. IsDone (done_by work t.world) site site' out out' (status_of end))
-work_is_done (Run promises) end site site' out out' p calm = calm_so _ site site' p.done calm
-work_is_done (Show text) end site site' out out' p calm = each_some site.told _ (λ t _. text_done text site site' out out' end p.0 p.1)
-work_is_done Check end site site' out out' p calm = each_some site.told _ (λ t _. text_done valid_line site site' out out' end p.0 p.1)
-
-work_is_put : (work : Work) (end : End) (site site' : Shown Told) (out out' : Shown (List ℕ)) → Performed work site site' out out' (Ok end) → ¬ RunsPromises work → (w : World) → IsPut (done_by work w) out out' (status_of end)
-work_is_put (Run promises) end site site' out out' p no_run w = absurd (no_run tt)
-work_is_put (Show text) end site site' out out' p no_run w = text_put text out out' end p.1
-work_is_put Check end site site' out out' p no_run w = text_put valid_line out out' end p.1
-
-work_untouched : (work : Work) (result : Result End Stop) (site site' : Shown Told) (out out' : Shown (List ℕ)) → Performed work site site' out out' result → ¬ RunsPromises work → Untouched site site'
-work_untouched (Run promises) result site site' out out' p no_run = absurd (no_run tt)
-work_untouched (Show text) result site site' out out' p no_run = p.0
-work_untouched Check result site site' out out' p no_run = p.0
-
-failed_runs : (work : Work) (end : End) (site site' : Shown Told) (out out' : Shown (List ℕ)) → Performed work site site' out out' (Ok end) → status_of end ≡ 2 → RunsPromises work
-failed_runs (Run promises) end site site' out out' p two = tt
-failed_runs (Show text) end site site' out out' p two = absurd (zero_two (sym (ap status_of p.1.put.0) ∙ two))
-failed_runs Check end site site' out out' p two = absurd (zero_two (sym (ap status_of p.1.put.0) ∙ two))
-
-sink_stop : (stop : Stop) (out mid : Shown (List ℕ)) → (stop ≡ Outside Sink) × HasFault out mid → StopsRun out mid stop
-sink_stop stop out mid h = subst (StopsRun out mid) (sym h.0) h.1
-
-work_stop : (work : Work) (stop : Stop) (site site' : Shown Told) (out mid : Shown (List ℕ)) → Performed work site site' out mid (Err stop) → StopsRun out mid stop
-work_stop (Run promises) stop site site' out mid p = p.stopped
-work_stop (Show text) stop site site' out mid p = sink_stop stop out mid p.1.sink_failed
-work_stop Check stop site site' out mid p = sink_stop stop out mid p.1.sink_failed
-
--- work that isn't a run doesn't want memory
-memory_status : (stop : Stop) (mid out' : Shown (List ℕ)) (n : ℕ) → stop ≡ Outside Sink → PutsStop (stop_line stop) (status_of_stop stop) mid out' n → n ≡ 4
-memory_status stop mid out' n is puts = (subst (λ (s : Stop). PutsStop (stop_line s) (status_of_stop s) mid out' n) is puts).0
-
-sink_status : (work : Work) (stop : Stop) (site site' : Shown Told) (out mid out' : Shown (List ℕ)) (n : ℕ) → Performed work site site' out mid (Err stop) → ¬ RunsPromises work → PutsStop (stop_line stop) (status_of_stop stop) mid out' n → n ≡ 4
-sink_status (Run promises) stop site site' out mid out' n p no_run puts = absurd (no_run tt)
-sink_status (Show text) stop site site' out mid out' n p no_run puts = memory_status stop mid out' n p.1.sink_failed.0 puts
-sink_status Check stop site site' out mid out' n p no_run puts = memory_status stop mid out' n p.1.sink_failed.0 puts
-
 -- ---- refusals
 
-does_refused : (words : List (List ℕ)) (moment : ℕ) (told : Option Library) (lib : Library) (line : List ℕ) (w : World) → told ≡ Some lib → RefusesCall words moment told line → Does words moment lib.texts w (refused_with line)
-does_refused words moment told lib _ w is (of_words none) = calls.words_refused none
-does_refused words moment told lib _ w is (of_moment asks late) = calls.moment_refused asks late
-does_refused words moment told lib _ w is (of_request {request = r} {line = l} asks in_time refuses) =
+does_refused : (words : List (List ℕ)) (moment : ℕ) (told : Option Library) (lib : Library) (line : List ℕ) (w : World) (marks : List Mark) → told ≡ Some lib → RefusesCall words moment told line → Does words moment lib.texts w marks (refused_with line)
+does_refused words moment told lib _ w marks is (of_words none) = calls.words_refused none
+does_refused words moment told lib _ w marks is (of_moment asks late) = calls.moment_refused asks late
+does_refused words moment told lib _ w marks is (of_request {request = r} {line = l} asks in_time refuses) =
     calls.request_refused asks in_time (subst (λ (o : Option Library). IfSome o (λ l2. RefusesRequest l2.texts r l)) is refuses)
 
-refused_done : (line : List ℕ) (site site' : Shown Told) (out out' : Shown (List ℕ)) (n : ℕ) → Untouched site site' → n ≡ 1 → Follows (adds_bytes line) out out' → IsDone (refused_with line) site site' out out' n
-refused_done line site site' out out' n un is put = record {
-  logged = un ∙ follows_none site;
+refused_done : (line : List ℕ) (t : Told) (out out' : Shown (List ℕ)) (n : ℕ) → n ≡ 1 → Follows (adds_bytes line) out out' → IsDone (refused_with line) t t out out' n
+refused_done line t out out' n is put = record {
+  logged = adds_none t;
   put = put ∙ ap (λ bs. followed (adds_bytes bs) out) (sym (append-nil line));
   status_is = is;
 }
@@ -149,11 +92,59 @@ refused_put line out out' n is put = record {
   status_is = is;
 }
 
-taken_at : (told : Option Library) (lib : Library) (request : Request) (work : Work) → told ≡ Some lib → IfSome told (λ l. TakesRequest l.texts request work) → TakesRequest lib.texts request work
-taken_at told lib request work is h = subst (λ (o : Option Library). IfSome o (λ l. TakesRequest l.texts request work)) is h
+-- ---- work
 
-no_run : (words : List (List ℕ)) (moment : ℕ) (told : Option Library) (work : Work) → IsAsked words moment told work → AsksNoRun words → ¬ RunsPromises work
+taken_at : (told : Option Library) (lib : Library) (moment : ℕ) (request : Request) (work : Work) → told ≡ Some lib → IfSome told (λ l. TakesRequest l.texts moment request (task_of work)) → TakesRequest lib.texts moment request (task_of work)
+taken_at told lib moment request work is h = subst (λ (o : Option Library). IfSome o (λ l. TakesRequest l.texts moment request (task_of work))) is h
+
+no_run : (words : List (List ℕ)) (moment : ℕ) (told : Option Library) (work : Work) → IsAsked words moment told work → AsksNoRun words → ¬ RunsPolicy work
 no_run words moment told work a idle runs = idle (a.request, a.asked_is, a.is_work.runs runs)
+
+asks_run : (words : List (List ℕ)) (moment : ℕ) (told : Option Library) (work : Work) → IsAsked words moment told work → RunsPolicy work → AsksRun words
+asks_run words moment told work a runs = (a.request, a.asked_is, a.is_work.runs runs)
+
+module _ (words : List (List ℕ)) (moment : ℕ) (lib : Library) (request : Request) (asks : asked words ≡ Some request) (in_time : moment ≤ LAST_MOMENT)
+    (site site' : Shown Told) (out out' : Shown (List ℕ)) (pats pats' : Shown (List (List ℕ))) where
+  -- work that was done is what its call does
+  work_stands : (work : Work) (end : End) (n : ℕ) → n ≡ status_of end → Performed work moment site site' out out' pats pats' (Ok end) → TakesRequest lib.texts moment request (task_of work) →
+      IfBothTold (λ before after. Stands (Does words moment lib.texts before.world (marks_of (added before after))) before after out out' n) site site'
+  work_stands (Run order) end n is p taken = both _ _ _ site site' (λ before after whole d. (
+    ran (setting_in order) (started moment order.locks before after),
+    calls.work_done (task_of (Run order)) asks in_time taken (whole, refl),
+    record { logged = d.logged; put = d.put; status_is = is ∙ d.status_is },
+  )) p.whole p.done
+  work_stands (Show text) end n is p taken = untouched_both _ site site' p.site_is (λ t. (
+    calls.shown text,
+    calls.work_done (task_of (Show text)) asks in_time taken refl,
+    text_done text t out out' end n is p.puts,
+  ))
+  work_stands Check end n is p taken = untouched_both _ site site' p.site_is (λ t. (
+    calls.shown valid_line,
+    calls.work_done (task_of Check) asks in_time taken refl,
+    text_done valid_line t out out' end n is p.puts,
+  ))
+
+  -- so is work that is no run, whatever the site tells
+  work_puts : (work : Work) (end : End) (n : ℕ) → n ≡ status_of end → Performed work moment site site' out out' pats pats' (Ok end) → TakesRequest lib.texts moment request (task_of work) → ¬ RunsPolicy work →
+      (w : World) (marks : List Mark) → Puts (Does words moment lib.texts w marks) out out' n
+  work_puts (Run order) end n is p taken no_run w marks = absurd (no_run tt)
+  work_puts (Show text) end n is p taken no_run w marks = (calls.shown text, calls.work_done (task_of (Show text)) asks in_time taken refl, text_put text out out' end n is p.puts)
+  work_puts Check end n is p taken no_run w marks = (calls.shown valid_line, calls.work_done (task_of Check) asks in_time taken refl, text_put valid_line out out' end n is p.puts)
+
+  -- a run that stops at too many visits needs too many
+  work_too_large : (work : Work) → Performed work moment site site' out out' pats pats' (Err Visits) → TakesRequest lib.texts moment request (task_of work) →
+      IfBothTold (λ before after. NeedsTooMany words moment lib.texts before.world (marks_of (added before after))) site site'
+  work_too_large (Run order) p taken = both_weaker _ _ site site' (λ before after cut. record {
+    request = request;
+    setting = setting_in order;
+    has_locks = order.locks;
+    asked_is = asks;
+    in_time = in_time;
+    takes = taken;
+    cut_off = cut;
+  }) (p.too_large refl)
+  work_too_large (Show text) p taken = absurd (runs_by_stop moment site site' out out' pats pats' (Show text) Visits p tt)
+  work_too_large Check p taken = absurd (runs_by_stop moment site site' out out' pats pats' Check Visits p tt)
 
 -- ---- the call
 
@@ -161,30 +152,30 @@ module _ (words : List (List ℕ)) (moment : ℕ) (inputs inputs' : Shown Librar
   abbrev CalledHere : Type 0
   CalledHere = Called words moment inputs inputs' site site' out out' pats pats' status
 
-  pub exact : CalledHere → IsEnd status → ¬ HasFault site site' → IfSome inputs.told (λ lib. IfSome site.told (λ t. Stands (Does words moment lib.texts t.world) site site' out out' status))
-  exact (not_prepared {failure = Refused line} p un (inl (is, put))) end calm = each_some inputs.told _ (λ lib told. each_some site.told _ (λ t _.
-      (refused_with line, does_refused words moment inputs.told lib line t.world told p.refused, refused_done line site site' out out' status un is put)))
-  exact (not_prepared {failure = Refused line} p un (inr (is, short))) end calm = absurd (no_end status (inl is) end)
-  exact (not_prepared {failure = Stopped stop} p un puts) end calm = absurd (no_end status (stop_is stop out out' status puts) end)
-  exact (stopped_at_work stop mid p performed puts) end calm = absurd (no_end status (stop_is stop mid out' status puts) end)
-  exact (ended {work = work} by p performed is) end calm = some_weaker inputs.told _ _ (λ lib told taken. some_weaker site.told _ _ (λ t _ d.
-      (done_by work t.world, calls.work_done work p.work.asked_is p.work.in_time taken, record { logged = d.logged; put = d.put; status_is = is ∙ d.status_is })) (work_is_done work by site site' out out' performed calm)) p.work.is_work.taken
+  pub exact : CalledHere → IsEnd status → IfSome inputs.told (λ lib. IfBothTold (λ before after.
+      Stands (Does words moment lib.texts before.world (marks_of (added before after))) before after out out' status) site site')
+  exact (not_prepared {failure = Refused line} p un (inl (is, put))) end = each_some inputs.told _ (λ lib told. untouched_both _ site site' un (λ t.
+      (refused_with line, does_refused words moment inputs.told lib line t.world (marks_of (added t t)) told p.refused, refused_done line t out out' status is put)))
+  exact (not_prepared {failure = Refused line} p un (inr (is, short))) end = absurd (no_end status (inl is) end)
+  exact (not_prepared {failure = Stopped stop} p un puts) end = absurd (no_end status (stop_is stop out out' status puts) end)
+  exact (stopped_at_work stop mid p performed puts) end = absurd (no_end status (stop_is stop mid out' status puts) end)
+  exact (ended {work = work} by p performed is) end = some_weaker inputs.told _ _ (λ lib told taken.
+      work_stands words moment lib p.work.request p.work.asked_is p.work.in_time site site' out out' pats pats' work by status is performed taken) p.work.is_work.taken
 
-  pub without_site : CalledHere → AsksNoRun words → IsEnd status → IfSome inputs.told (λ lib. (w : World) → Puts (Does words moment lib.texts w) out out' status)
-  without_site (not_prepared {failure = Refused line} p un (inl (is, put))) idle end = each_some inputs.told _ (λ lib told w.
-      (refused_with line, does_refused words moment inputs.told lib line w told p.refused, refused_put line out out' status is put))
+  pub without_site : CalledHere → AsksNoRun words → IsEnd status → IfSome inputs.told (λ lib. (w : World) (marks : List Mark) → Puts (Does words moment lib.texts w marks) out out' status)
+  without_site (not_prepared {failure = Refused line} p un (inl (is, put))) idle end = each_some inputs.told _ (λ lib told w marks.
+      (refused_with line, does_refused words moment inputs.told lib line w marks told p.refused, refused_put line out out' status is put))
   without_site (not_prepared {failure = Refused line} p un (inr (is, short))) idle end = absurd (no_end status (inl is) end)
   without_site (not_prepared {failure = Stopped stop} p un puts) idle end = absurd (no_end status (stop_is stop out out' status puts) end)
   without_site (stopped_at_work stop mid p performed puts) idle end = absurd (no_end status (stop_is stop mid out' status puts) end)
-  without_site (ended {work = work} by p performed is) idle end = some_weaker inputs.told _ _ (λ lib told taken w.
-      let d = work_is_put work by site site' out out' performed (no_run words moment inputs.told work p.work idle) w in
-      (done_by work w, calls.work_done work p.work.asked_is p.work.in_time taken, record { no_entry = d.no_entry; put = d.put; status_is = is ∙ d.status_is })) p.work.is_work.taken
+  without_site (ended {work = work} by p performed is) idle end = some_weaker inputs.told _ _ (λ lib told taken.
+      work_puts words moment lib p.work.request p.work.asked_is p.work.in_time site site' out out' pats pats' work by status is performed taken (no_run words moment inputs.told work p.work idle)) p.work.is_work.taken
 
   pub site_untouched : CalledHere → AsksNoRun words → Untouched site site'
   site_untouched (not_prepared {failure = Refused line} p un puts) idle = un
   site_untouched (not_prepared {failure = Stopped stop} p un puts) idle = un
-  site_untouched (ended {work = work} by p performed is) idle = work_untouched work (Ok by) site site' out out' performed (no_run words moment inputs.told work p.work idle)
-  site_untouched (stopped_at_work {work = work} stop mid p performed puts) idle = work_untouched work (Err stop) site site' out mid performed (no_run words moment inputs.told work p.work idle)
+  site_untouched (ended {work = work} by p performed is) idle = untouched_without_run moment site site' out out' pats pats' work (Ok by) performed (no_run words moment inputs.told work p.work idle)
+  site_untouched (stopped_at_work {work = work} stop mid p performed puts) idle = untouched_without_run moment site site' out mid pats pats' work (Err stop) performed (no_run words moment inputs.told work p.work idle)
 
   pub range : CalledHere → IsEnd status ⊎ IsStop status
   range (not_prepared {failure = Refused line} p un (inl (is, put))) = inl (inr (inl is))
@@ -216,21 +207,21 @@ module _ (words : List (List ℕ)) (moment : ℕ) (inputs inputs' : Shown Librar
   unread_stop line Memory told (inl (is, put)) un = record { is_refusal = inr (inr is); put = λ one. absurd (omega (arith, is, one)); unread = un }
   unread_stop line Memory told (inr (is, short)) un = record { is_refusal = inr (inl is); put = λ one. absurd (omega (arith, is, one)); unread = un }
 
-  unread_line : (line told : List ℕ) → told ≡ line → PutsLast told 1 out out' status → Untouched inputs inputs' → IsUnread line inputs inputs' out out' status
+  unread_line : (line told : List ℕ) → told ≡ line → PutsEnd told 1 out out' status → Untouched inputs inputs' → IsUnread line inputs inputs' out out' status
   unread_line line told same (inl (is, put)) un = record { is_refusal = inl is; put = λ one. subst (λ l. Follows (adds_bytes l) out out') same put; unread = un }
   unread_line line told same (inr (is, short)) un = record { is_refusal = inr (inl is); put = λ one. absurd (omega (arith, is, one)); unread = un }
 
-  unread : (line : List ℕ) → ((result : Result Work Failure) → Prepared words moment inputs inputs' pats pats' result → OnlyRefused line result × Untouched inputs inputs') → CalledHere → IsUnread line inputs inputs' out out' status × Untouched site site'
-  unread line only (not_prepared {failure = Refused told} p un puts) = (unread_line line told (only (Err (Refused told)) p).0 puts (only (Err (Refused told)) p).1, un)
-  unread line only (not_prepared {failure = Stopped stop} p un puts) = (unread_stop line stop (only (Err (Stopped stop)) p).0 puts (only (Err (Stopped stop)) p).1, un)
-  unread line only (ended {work = work} by p performed is) = absurd (only (Ok work) p).0
-  unread line only (stopped_at_work {work = work} stop mid p performed puts) = absurd (only (Ok work) p).0
+  unread : (line : List ℕ) → ((kept : Shown (List (List ℕ))) (result : Result Work Failure) → Prepared words moment inputs inputs' pats kept result → OnlyRefused line result × Untouched inputs inputs') → CalledHere → IsUnread line inputs inputs' out out' status × Untouched site site'
+  unread line only (not_prepared {failure = Refused told} p un puts) = (unread_line line told (only pats' (Err (Refused told)) p).0 puts (only pats' (Err (Refused told)) p).1, un)
+  unread line only (not_prepared {failure = Stopped stop} p un puts) = (unread_stop line stop (only pats' (Err (Stopped stop)) p).0 puts (only pats' (Err (Stopped stop)) p).1, un)
+  unread line only (ended {work = work} by p performed is) = absurd (only pats (Ok work) p).0
+  unread line only (stopped_at_work {work = work} stop mid p performed puts) = absurd (only pats (Ok work) p).0
 
   pub words_refused : CalledHere → asked words ≡ None → IsUnread words_line inputs inputs' out out' status × Untouched site site'
-  words_refused called none = unread words_line (λ result p. p.words_refused none) called
+  words_refused called none = unread words_line (λ kept result p. p.words_refused none) called
 
   pub moment_refused : CalledHere → asked words ≢ None → LAST_MOMENT < moment → IsUnread moment_line inputs inputs' out out' status × Untouched site site'
-  moment_refused called some late = unread moment_line (λ result p. p.moment_refused some late) called
+  moment_refused called some late = unread moment_line (λ kept result p. p.moment_refused some late) called
 
   not_done : IsStop status → IsNotDone status
   not_done (inl is) = inl (inr (inl is))
@@ -240,7 +231,7 @@ module _ (words : List (List ℕ)) (moment : ℕ) (inputs inputs' : Shown Librar
   taken_refused : TakenIsNotRefused → (work : Work) → IsAsked words moment inputs.told work → (lib : Library) → inputs.told ≡ Some lib → AsksRefused words lib.texts → ⊥
   taken_refused never work a lib told r =
       let same : r.0 ≡ a.request = one_request (r.1) a.asked_is in
-      never lib.texts a.request work r.2.0 (taken_at inputs.told lib a.request work told a.is_work.taken) (subst (λ (q : Request). RefusesRequest lib.texts q r.2.0) same r.2.1)
+      never lib.texts moment a.request (task_of work) r.2.0 (taken_at inputs.told lib moment a.request work told a.is_work.taken) (subst (λ (q : Request). RefusesRequest lib.texts q r.2.0) same r.2.1)
 
   pub request_refused : TakenIsNotRefused → CalledHere → IfSome inputs.told (λ lib. AsksRefused words lib.texts → IsNotDone status × Untouched site site')
   request_refused never (not_prepared {failure = Refused line} p un (inl (is, put))) = each_some inputs.told _ (λ lib told r. (inl (inl is), un))
@@ -253,11 +244,16 @@ module _ (words : List (List ℕ)) (moment : ℕ) (inputs inputs' : Shown Librar
   failed (not_prepared {failure = Refused line} p un (inl (is, put))) two = absurd (omega (arith, is, two))
   failed (not_prepared {failure = Refused line} p un (inr (is, short))) two = absurd (omega (arith, is, two))
   failed (not_prepared {failure = Stopped stop} p un puts) two = absurd (no_end status (stop_is stop out out' status puts) (inr (inr two)))
-  failed (ended {work = work} by p performed is) two = (p.work.request, p.work.asked_is, p.work.is_work.runs (failed_runs work by site site' out out' performed (sym is ∙ two)))
+  failed (ended {work = work} by p performed is) two = asks_run words moment inputs.told work p.work (failed_runs moment site site' out out' pats pats' work by performed (sym is ∙ two))
   failed (stopped_at_work stop mid p performed puts) two = absurd (no_end status (stop_is stop mid out' status puts) (inr (inr two)))
 
-  stopped_reading : (stop : Stop) → Prepared words moment inputs inputs' pats pats' (Err (Stopped stop)) → Untouched site site' → PutsStop (stop_line stop) (status_of_stop stop) out out' status → status ≡ 4 → HasFault out out' ⊎ StopsReading words inputs inputs' site site' out out'
-  stopped_reading (Outside Inputs) p un (inl (is, put)) four = inr (record { failed = p.inputs_are; untouched = un; put = put })
+  -- ---- by an object of the outside
+
+  abbrev StopsOutside : Type 0
+  StopsOutside = HasFault out out' ⊎ (StopsReading words inputs inputs' site site' out out' ⊎ StopsAtSite words site site' out')
+
+  stopped_reading : (stop : Stop) → Prepared words moment inputs inputs' pats pats' (Err (Stopped stop)) → Untouched site site' → PutsStop (stop_line stop) (status_of_stop stop) out out' status → status ≡ 4 → StopsOutside
+  stopped_reading (Outside Inputs) p un (inl (is, put)) four = inr (inl (record { failed = p.inputs_are; untouched = un; put = put }))
   stopped_reading (Outside Inputs) p un (inr (is, short)) four = inl short.failed.rose
   stopped_reading (Outside Site) p un puts four = absurd p.inputs_are
   stopped_reading (Outside Sink) p un puts four = absurd p.inputs_are
@@ -267,21 +263,29 @@ module _ (words : List (List ℕ)) (moment : ℕ) (inputs inputs' : Shown Librar
   stopped_reading (Pattern text) p un (inl (is, put)) four = absurd (omega (arith, is, four))
   stopped_reading (Pattern text) p un (inr (is, short)) four = inl short.failed.rose
 
-  stopped_working : (stop : Stop) (mid : Shown (List ℕ)) → StopsRun out mid stop → PutsStop (stop_line stop) (status_of_stop stop) mid out' status → status ≡ 4 → HasFault out out'
-  stopped_working (Outside Inputs) mid idle puts four = absurd idle
-  stopped_working (Outside Site) mid idle puts four = absurd idle
-  stopped_working (Outside Sink) mid fault puts four = fault_before out mid out' fault (ap (λ (s : Shown (List ℕ)). s.faults) puts.1)
-  stopped_working Memory mid same (inl (is, put)) four = absurd (omega (arith, is, four))
-  stopped_working Memory mid same (inr (is, short)) four = fault_along out mid out' same short.failed.rose
-  stopped_working Visits mid idle puts four = absurd idle
-  stopped_working (Pattern text) mid idle puts four = absurd idle
+  stopped_working : (stop : Stop) (mid : Shown (List ℕ)) → StopsRun site site' out mid stop → (IsNoSink stop → AsksRun words) → PutsStop (stop_line stop) (status_of_stop stop) mid out' status → status ≡ 4 → StopsOutside
+  stopped_working (Outside Inputs) mid idle asks puts four = absurd idle
+  stopped_working (Outside Site) mid (rose, same) asks (inl (is, put)) four = inr (inr (record { asks_run = asks tt; rose = rose; put = (mid, put) }))
+  stopped_working (Outside Site) mid (rose, same) asks (inr (is, short)) four = inl (fault_along out mid out' same short.failed.rose)
+  stopped_working (Outside Sink) mid fault asks puts four = inl (fault_before out mid out' fault (ap (λ (s : Shown (List ℕ)). s.faults) puts.1))
+  stopped_working Memory mid same asks (inl (is, put)) four = absurd (omega (arith, is, four))
+  stopped_working Memory mid same asks (inr (is, short)) four = inl (fault_along out mid out' same short.failed.rose)
+  stopped_working Visits mid same asks (inl (is, put)) four = absurd (omega (arith, is, four))
+  stopped_working Visits mid same asks (inr (is, short)) four = inl (fault_along out mid out' same short.failed.rose)
+  stopped_working (Pattern text) mid same asks (inl (is, put)) four = absurd (omega (arith, is, four))
+  stopped_working (Pattern text) mid same asks (inr (is, short)) four = inl (fault_along out mid out' same short.failed.rose)
 
-  pub outside : CalledHere → status ≡ 4 → HasFault out out' ⊎ StopsReading words inputs inputs' site site' out out'
+  -- what is stopped otherwise than by the sink is a run
+  asks_by_stop : (work : Work) (stop : Stop) (mid : Shown (List ℕ)) → Prepared words moment inputs inputs' pats pats (Ok work) → Performed work moment site site' out mid pats pats' (Err stop) → IsNoSink stop → AsksRun words
+  asks_by_stop work stop mid p performed other = asks_run words moment inputs.told work p.work (runs_by_stop moment site site' out mid pats pats' work stop performed other)
+
+  pub outside : CalledHere → status ≡ 4 → StopsOutside
   outside (not_prepared {failure = Refused line} p un (inl (is, put))) four = absurd (omega (arith, is, four))
   outside (not_prepared {failure = Refused line} p un (inr (is, short))) four = inl short.failed.rose
   outside (not_prepared {failure = Stopped stop} p un puts) four = stopped_reading stop p un puts four
   outside (ended by p performed is) four = absurd (no_end status (inl four) (is_end by status is))
-  outside (stopped_at_work {work = work} stop mid p performed puts) four = inl (stopped_working stop mid (work_stop work stop site site' out mid performed) puts four)
+  outside (stopped_at_work {work = work} stop mid p performed puts) four =
+      stopped_working stop mid (work_stop moment site site' out mid pats pats' work stop performed) (asks_by_stop work stop mid p performed) puts four
 
   read_by : (stop : Stop) → Prepared words moment inputs inputs' pats pats' (Err (Stopped stop)) → ReadsInTurn words inputs inputs'
   read_by (Outside Inputs) p = inr (inr p.inputs_are)
@@ -297,64 +301,116 @@ module _ (words : List (List ℕ)) (moment : ℕ) (inputs inputs' : Shown Librar
   names (ended by p performed is) = inl p.inputs_are
   names (stopped_at_work stop mid p performed puts) = inl p.inputs_are
 
-  memory_put : (stop : Stop) → PutsStop (stop_line stop) (status_of_stop stop) out out' status → status ≡ 5 → Follows (adds_bytes memory_line) out out'
-  memory_put (Outside Inputs) (inl (is, put)) five = absurd (omega (arith, is, five))
-  memory_put (Outside Inputs) (inr (is, short)) five = absurd (omega (arith, is, five))
-  memory_put (Outside Site) (inl (is, put)) five = absurd (omega (arith, is, five))
-  memory_put (Outside Site) (inr (is, short)) five = absurd (omega (arith, is, five))
-  memory_put (Outside Sink) (is, un) five = absurd (omega (arith, is, five))
-  memory_put Memory (inl (is, put)) five = put
-  memory_put Memory (inr (is, short)) five = absurd (omega (arith, is, five))
-  memory_put Visits (inl (is, put)) five = absurd (omega (arith, is, five))
-  memory_put Visits (inr (is, short)) five = absurd (omega (arith, is, five))
-  memory_put (Pattern text) (inl (is, put)) five = absurd (omega (arith, is, five))
-  memory_put (Pattern text) (inr (is, short)) five = absurd (omega (arith, is, five))
+  -- ---- by want of memory
+
+  memory_put : (stop : Stop) (mid : Shown (List ℕ)) → PutsStop (stop_line stop) (status_of_stop stop) mid out' status → status ≡ 5 → Follows (adds_bytes memory_line) mid out'
+  memory_put (Outside Inputs) mid (inl (is, put)) five = absurd (omega (arith, is, five))
+  memory_put (Outside Inputs) mid (inr (is, short)) five = absurd (omega (arith, is, five))
+  memory_put (Outside Site) mid (inl (is, put)) five = absurd (omega (arith, is, five))
+  memory_put (Outside Site) mid (inr (is, short)) five = absurd (omega (arith, is, five))
+  memory_put (Outside Sink) mid (is, un) five = absurd (omega (arith, is, five))
+  memory_put Memory mid (inl (is, put)) five = put
+  memory_put Memory mid (inr (is, short)) five = absurd (omega (arith, is, five))
+  memory_put Visits mid (inl (is, put)) five = absurd (omega (arith, is, five))
+  memory_put Visits mid (inr (is, short)) five = absurd (omega (arith, is, five))
+  memory_put (Pattern text) mid (inl (is, put)) five = absurd (omega (arith, is, five))
+  memory_put (Pattern text) mid (inr (is, short)) five = absurd (omega (arith, is, five))
+
+  five_is_no_sink : (stop : Stop) (mid : Shown (List ℕ)) → PutsStop (stop_line stop) (status_of_stop stop) mid out' status → status ≡ 5 → IsNoSink stop
+  five_is_no_sink (Outside Inputs) mid puts five = tt
+  five_is_no_sink (Outside Site) mid puts five = tt
+  five_is_no_sink (Outside Sink) mid (is, un) five = absurd (omega (arith, is, five))
+  five_is_no_sink Memory mid puts five = tt
+  five_is_no_sink Visits mid puts five = tt
+  five_is_no_sink (Pattern text) mid puts five = tt
 
   pub memory : CalledHere → status ≡ 5 → AsksNoRun words → Follows (adds_bytes memory_line) out out'
   memory (not_prepared {failure = Refused line} p un (inl (is, put))) five idle = absurd (omega (arith, is, five))
   memory (not_prepared {failure = Refused line} p un (inr (is, short))) five idle = absurd (omega (arith, is, five))
-  memory (not_prepared {failure = Stopped stop} p un puts) five idle = memory_put stop puts five
+  memory (not_prepared {failure = Stopped stop} p un puts) five idle = memory_put stop out puts five
   memory (ended by p performed is) five idle = absurd (no_end status (inr (inl five)) (is_end by status is))
-  memory (stopped_at_work {work = work} stop mid p performed puts) five idle =
-      let four : status ≡ 4 = sink_status work stop site site' out mid out' status performed (no_run words moment inputs.told work p.work idle) puts in
-      absurd (omega (arith, four, five))
+  memory (stopped_at_work {work = work} stop mid p performed puts) five idle = absurd (idle (asks_by_stop work stop mid p performed (five_is_no_sink stop mid puts five)))
 
-  pattern_put : (stop : Stop) → Prepared words moment inputs inputs' pats pats' (Err (Stopped stop)) → PutsStop (stop_line stop) (status_of_stop stop) out out' status → status ≡ 6 → RefusesText words inputs.told pats pats' × Follows (adds_bytes pattern_line) out out'
-  pattern_put (Outside Inputs) p (inl (is, put)) six = absurd (omega (arith, is, six))
-  pattern_put (Outside Inputs) p (inr (is, short)) six = absurd (omega (arith, is, six))
-  pattern_put (Outside Site) p puts six = absurd p.inputs_are
-  pattern_put (Outside Sink) p (is, un) six = absurd (omega (arith, is, six))
-  pattern_put Memory p (inl (is, put)) six = absurd (omega (arith, is, six))
-  pattern_put Memory p (inr (is, short)) six = absurd (omega (arith, is, six))
-  pattern_put Visits p puts six = absurd p.inputs_are
-  pattern_put (Pattern text) p (inl (is, put)) six = (record { text = text; builds = p.patterns_are.0; refused = p.patterns_are.1 }, put)
-  pattern_put (Pattern text) p (inr (is, short)) six = absurd (omega (arith, is, six))
+  pub memory_told : CalledHere → status ≡ 5 → PutsLast memory_line out'
+  memory_told (not_prepared {failure = Refused line} p un (inl (is, put))) five = absurd (omega (arith, is, five))
+  memory_told (not_prepared {failure = Refused line} p un (inr (is, short))) five = absurd (omega (arith, is, five))
+  memory_told (not_prepared {failure = Stopped stop} p un puts) five = (out, memory_put stop out puts five)
+  memory_told (ended by p performed is) five = absurd (no_end status (inr (inl five)) (is_end by status is))
+  memory_told (stopped_at_work stop mid p performed puts) five = (mid, memory_put stop mid puts five)
 
-  not_six : (stop : Stop) (mid : Shown (List ℕ)) → StopsRun out mid stop → PutsStop (stop_line stop) (status_of_stop stop) mid out' status → status ≡ 6 → ⊥
-  not_six (Outside Inputs) mid idle puts six = idle
-  not_six (Outside Site) mid idle puts six = idle
-  not_six (Outside Sink) mid fault (is, un) six = omega (arith, is, six)
-  not_six Memory mid same (inl (is, put)) six = omega (arith, is, six)
-  not_six Memory mid same (inr (is, short)) six = omega (arith, is, six)
-  not_six Visits mid idle puts six = idle
-  not_six (Pattern text) mid idle puts six = idle
+  -- ---- by a limit
 
-  pub pattern : CalledHere → status ≡ 6 → RefusesText words inputs.told pats pats' × Follows (adds_bytes pattern_line) out out'
-  pattern (not_prepared {failure = Refused line} p un (inl (is, put))) six = absurd (omega (arith, is, six))
-  pattern (not_prepared {failure = Refused line} p un (inr (is, short))) six = absurd (omega (arith, is, six))
-  pattern (not_prepared {failure = Stopped stop} p un puts) six = pattern_put stop p puts six
-  pattern (ended by p performed is) six = absurd (no_end status (inr (inr six)) (is_end by status is))
-  pattern (stopped_at_work {work = work} stop mid p performed puts) six = absurd (not_six stop mid (work_stop work stop site site' out mid performed) puts six)
+  abbrev StopsAtLimit : Type 0
+  StopsAtLimit =
+      StopsAtPattern words inputs.told site site' out out' pats pats' ⊎
+      StopsAtVisits words moment inputs.told site site' out' pats pats'
 
-  kept_by : (stop : Stop) → Prepared words moment inputs inputs' pats pats' (Err (Stopped stop)) → PutsStop (stop_line stop) (status_of_stop stop) out out' status → status ≢ 6 → Untouched pats pats' ⊎ ((status ≡ 4) × HasFault out out' × RefusesText words inputs.told pats pats')
-  kept_by (Outside object) p puts idle = inl p.patterns_are
-  kept_by Memory p puts idle = inl p.patterns_are
-  kept_by Visits p puts idle = inl p.patterns_are
-  kept_by (Pattern text) p (inl (is, put)) idle = absurd (idle is)
-  kept_by (Pattern text) p (inr (is, short)) idle = inr (is, short.failed.rose, record { text = text; builds = p.patterns_are.0; refused = p.patterns_are.1 })
+  limit_of_reading : (stop : Stop) → Prepared words moment inputs inputs' pats pats' (Err (Stopped stop)) → Untouched site site' → PutsStop (stop_line stop) (status_of_stop stop) out out' status → status ≡ 6 → StopsAtLimit
+  limit_of_reading (Outside Inputs) p un (inl (is, put)) six = absurd (omega (arith, is, six))
+  limit_of_reading (Outside Inputs) p un (inr (is, short)) six = absurd (omega (arith, is, six))
+  limit_of_reading (Outside Site) p un puts six = absurd p.inputs_are
+  limit_of_reading (Outside Sink) p un puts six = absurd p.inputs_are
+  limit_of_reading Memory p un (inl (is, put)) six = absurd (omega (arith, is, six))
+  limit_of_reading Memory p un (inr (is, short)) six = absurd (omega (arith, is, six))
+  limit_of_reading Visits p un puts six = absurd p.inputs_are
+  limit_of_reading (Pattern text) p un (inl (is, put)) six = inl (of_policy p.patterns_are.0 p.patterns_are.1 un put)
+  limit_of_reading (Pattern text) p un (inr (is, short)) six = absurd (omega (arith, is, six))
 
-  pub patterns_kept : CalledHere → status ≢ 6 → Untouched pats pats' ⊎ ((status ≡ 4) × HasFault out out' × RefusesText words inputs.told pats pats')
+  limit_of_work : (work : Work) (stop : Stop) (mid : Shown (List ℕ)) → Prepared words moment inputs inputs' pats pats (Ok work) → Performed work moment site site' out mid pats pats' (Err stop) → PutsStop (stop_line stop) (status_of_stop stop) mid out' status → status ≡ 6 → StopsAtLimit
+  limit_of_work work (Outside Inputs) mid p performed (inl (is, put)) six = absurd (omega (arith, is, six))
+  limit_of_work work (Outside Inputs) mid p performed (inr (is, short)) six = absurd (omega (arith, is, six))
+  limit_of_work work (Outside Site) mid p performed (inl (is, put)) six = absurd (omega (arith, is, six))
+  limit_of_work work (Outside Site) mid p performed (inr (is, short)) six = absurd (omega (arith, is, six))
+  limit_of_work work (Outside Sink) mid p performed (is, un) six = absurd (omega (arith, is, six))
+  limit_of_work work Memory mid p performed (inl (is, put)) six = absurd (omega (arith, is, six))
+  limit_of_work work Memory mid p performed (inr (is, short)) six = absurd (omega (arith, is, six))
+  limit_of_work work Visits mid p performed (inl (is, put)) six = inr (record {
+    asks_run = asks_by_stop work Visits mid p performed tt;
+    too_many = some_weaker inputs.told _ _ (λ lib told taken.
+        work_too_large words moment lib p.work.request p.work.asked_is p.work.in_time site site' out mid pats pats' work performed taken) p.work.is_work.taken;
+    no_pattern = patterns_by_stop moment site site' out mid pats pats' work Visits performed;
+    put = (mid, put);
+  })
+  limit_of_work work Visits mid p performed (inr (is, short)) six = absurd (omega (arith, is, six))
+  limit_of_work work (Pattern text) mid p performed (inl (is, put)) six =
+      inl (of_run (asks_by_stop work (Pattern text) mid p performed tt) (patterns_by_stop moment site site' out mid pats pats' work (Pattern text) performed) (mid, put))
+  limit_of_work work (Pattern text) mid p performed (inr (is, short)) six = absurd (omega (arith, is, six))
+
+  pub pattern_or_visits : CalledHere → status ≡ 6 → StopsAtLimit
+  pattern_or_visits (not_prepared {failure = Refused line} p un (inl (is, put))) six = absurd (omega (arith, is, six))
+  pattern_or_visits (not_prepared {failure = Refused line} p un (inr (is, short))) six = absurd (omega (arith, is, six))
+  pattern_or_visits (not_prepared {failure = Stopped stop} p un puts) six = limit_of_reading stop p un puts six
+  pattern_or_visits (ended by p performed is) six = absurd (no_end status (inr (inr six)) (is_end by status is))
+  pattern_or_visits (stopped_at_work {work = work} stop mid p performed puts) six = limit_of_work work stop mid p performed puts six
+
+  abbrev KeepsPatterns : Type 0
+  KeepsPatterns = Untouched pats pats' ⊎ ((status ≡ 4) × HasFault out out' × RefusesText words inputs.told pats pats')
+
+  kept_reading : (stop : Stop) → Prepared words moment inputs inputs' pats pats' (Err (Stopped stop)) → PutsStop (stop_line stop) (status_of_stop stop) out out' status → status ≢ 6 → KeepsPatterns
+  kept_reading (Outside object) p puts idle = inl p.patterns_are
+  kept_reading Memory p puts idle = inl p.patterns_are
+  kept_reading Visits p puts idle = inl p.patterns_are
+  kept_reading (Pattern text) p (inl (is, put)) idle = absurd (idle is)
+  kept_reading (Pattern text) p (inr (is, short)) idle =
+      inr (is, short.failed.rose, record { text = text; builds = inl p.patterns_are.0; refused = p.patterns_are.1 })
+
+  kept_working : (work : Work) (stop : Stop) (mid : Shown (List ℕ)) → Prepared words moment inputs inputs' pats pats (Ok work) → Performed work moment site site' out mid pats pats' (Err stop) → PutsStop (stop_line stop) (status_of_stop stop) mid out' status → status ≢ 6 → KeepsPatterns
+  kept_working work (Outside object) mid p performed puts idle = inl (patterns_by_stop moment site site' out mid pats pats' work (Outside object) performed)
+  kept_working work Memory mid p performed puts idle = inl (patterns_by_stop moment site site' out mid pats pats' work Memory performed)
+  kept_working work Visits mid p performed puts idle = inl (patterns_by_stop moment site site' out mid pats pats' work Visits performed)
+  kept_working work (Pattern text) mid p performed (inl (is, put)) idle = absurd (idle is)
+  kept_working work (Pattern text) mid p performed (inr (is, short)) idle = inr (
+    is,
+    fault_along out mid out' (work_stop moment site site' out mid pats pats' work (Pattern text) performed) short.failed.rose,
+    record {
+      text = text;
+      builds = inr (asks_by_stop work (Pattern text) mid p performed tt);
+      refused = patterns_by_stop moment site site' out mid pats pats' work (Pattern text) performed;
+    },
+  )
+
+  pub patterns_kept : CalledHere → status ≢ 6 → KeepsPatterns
   patterns_kept (not_prepared {failure = Refused line} p un puts) idle = inl p.patterns_are
-  patterns_kept (not_prepared {failure = Stopped stop} p un puts) idle = kept_by stop p puts idle
-  patterns_kept (ended by p performed is) idle = inl p.patterns_are
-  patterns_kept (stopped_at_work stop mid p performed puts) idle = inl p.patterns_are
+  patterns_kept (not_prepared {failure = Stopped stop} p un puts) idle = kept_reading stop p puts idle
+  patterns_kept (ended {work = work} by p performed is) idle = inl (patterns_at_end moment site site' out out' pats pats' work by performed)
+  patterns_kept (stopped_at_work {work = work} stop mid p performed puts) idle = kept_working work stop mid p performed puts idle

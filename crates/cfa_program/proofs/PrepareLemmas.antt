@@ -14,7 +14,7 @@ use Rattle.cfa_sources.specs.Readings.{FailsNext}
 use Rattle.cfa_program.specs.declared.work.Work.{Work}
 use Rattle.cfa_program.specs.Ends.{RefusesCall, of_words, of_moment, of_request, IsNextOf, AsksNext}
 use Rattle.cfa_program.specs.Stages.{IsRefusalWith, RequestPrepared, Prepared}
-use Rattle.cfa_program.proofs.Faults.{some_weaker}
+use Rattle.cfa_program.proofs.Told.{some_weaker}
 
 abbrev is_none : Option Request → Type 0
 is_none None = Unit {0}
@@ -77,7 +77,7 @@ module _ (words : List (List ℕ)) (moment : ℕ) (inputs : Shown Library) (pats
     never_late : LAST_MOMENT < moment → ⊥
     never_late late = omega (arith, late, in_time)
 
-    pub prepared : (result : Result Work Failure) → RequestPrepared request inputs inputs' pats pats' result → Prepared words moment inputs inputs' pats pats' result
+    pub prepared : (result : Result Work Failure) → RequestPrepared request moment inputs inputs' pats pats' result → Prepared words moment inputs inputs' pats pats' result
     prepared (Ok work) p = record {
       work = record { request = request; asked_is = asks; in_time = in_time; is_work = p.work };
       refused = tt;

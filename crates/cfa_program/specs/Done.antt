@@ -17,11 +17,11 @@ pub record Done : Type 0 where
   pub steps : List Step
   pub status : ℕ
 
-abbrev pub log_of : List Step → List Entry
-log_of steps = flat_map (λ (step : Step). step.entries) steps
+abbrev pub all_entries : List Step → List Entry
+all_entries steps = flat_map (λ (step : Step). step.entries) steps
 
-abbrev pub text_of : List Step → List ℕ
-text_of steps = flat_map (λ (step : Step). step.lines) steps
+abbrev pub all_lines : List Step → List ℕ
+all_lines steps = flat_map (λ (step : Step). step.lines) steps
 
 -- the work came to its end, or it did so with a promise that failed
 abbrev pub status_of : End → ℕ
@@ -45,22 +45,23 @@ ends_with end steps = record { steps = steps; status = status_of end }
 abbrev pub HasFault : {T : Type 0} → (before after : Shown T) → Type 0
 HasFault before after = Rose before.faults after.faults
 
--- the site, the sink and the status are those of what was to be done, and no call on the two failed
-pub record IsDone (done : Done) (site site' : Shown Told) (out out' : Shown (List ℕ)) (status : ℕ) : Type 0 where
-  pub logged : Follows (adds (log_of done.steps)) site site'
-  pub put : Follows (adds_bytes (text_of done.steps)) out out'
+-- what the site tells, the sink and the status are those of what was to be done, and no put failed
+pub record IsDone (done : Done) (before after : Told) (out out' : Shown (List ℕ)) (status : ℕ) : Type 0 where
+  pub logged : after ≡ adds (all_entries done.steps) before
+  pub put : Follows (adds_bytes (all_lines done.steps)) out out'
   pub status_is : status ≡ done.status
 
 -- the same of what has nothing to do with a site
 pub record IsPut (done : Done) (out out' : Shown (List ℕ)) (status : ℕ) : Type 0 where
-  pub no_entry : log_of done.steps ≡ []
-  pub put : Follows (adds_bytes (text_of done.steps)) out out'
+  pub no_entry : all_entries done.steps ≡ []
+  pub put : Follows (adds_bytes (all_lines done.steps)) out out'
   pub status_is : status ≡ done.status
 
 -- something of what may be done was done
 abbrev pub Stands :
-    (May : Done → Type 0) → (site site' : Shown Told) → (out out' : Shown (List ℕ)) → (status : ℕ) → Type 0
-Stands May site site' out out' status = (done : Done) × May done × IsDone done site site' out out' status
+    (May : Done → Type 0) → (before after : Told) → (out out' : Shown (List ℕ)) → (status : ℕ) → Type 0
+Stands May before after out out' status =
+    (done : Done) × May done × IsDone done before after out out' status
 
 abbrev pub Puts : (May : Done → Type 0) → (out out' : Shown (List ℕ)) → (status : ℕ) → Type 0
 Puts May out out' status = (done : Done) × May done × IsPut done out out' status

@@ -1,5 +1,6 @@
--- How a call may end, as its clauses say it: by which status, with which line as all that was put, and what was read.
+-- How a call may end, as its clauses say it: by which status, with which line as all that was put or as the last, and what was read.
 use Rattle.std.specs.Prelude.{ℕ, ◌≡◌, ◌<◌, ◌≤◌, List, Option, Some, None, ⊤, ◌⊎◌, IfSome}
+use Rattle.cfa_base.specs.Causes.{Rose}
 use Rattle.cfa_base.specs.declared.limits.TheConstants.{LAST_MOMENT}
 use Rattle.cfa_base.specs.Shown.{Shown, Follows, Untouched, HasFailed, IsLeft}
 use Rattle.cfa_base.specs.Patterns.{refuses}
@@ -9,11 +10,13 @@ use Rattle.cfa_words.specs.Words.{asked}
 use Rattle.cfa_outside.specs.Inputs.{Library}
 use Rattle.cfa_outside.specs.Sinks.{adds_bytes}
 use Rattle.cfa_outside.specs.Sites.{Told}
-use Rattle.cfa_output.specs.Lines.{words_line, moment_line, outside_line}
+use Rattle.cfa_output.specs.Lines.{words_line, moment_line, outside_line, visits_line, pattern_line}
 use Rattle.cfa_sources.specs.Sources.{Texts, IsNamed, IsNextFile}
 use Rattle.cfa_sources.specs.Checks.{RefusesSize}
 use Rattle.cfa_sources.specs.Readings.{FailsNext}
-use Rattle.cfa_program.specs.Calls.{RefusesRequest}
+use Rattle.cfa_agent.specs.Marks.{marks_of}
+use Rattle.cfa_agent.specs.Ran.{added, IfBothTold}
+use Rattle.cfa_program.specs.Calls.{RefusesRequest, NeedsTooMany}
 
 -- ---- statuses
 
@@ -21,7 +24,7 @@ use Rattle.cfa_program.specs.Calls.{RefusesRequest}
 abbrev pub IsEnd : (status : ℕ) → Type 0
 IsEnd status = (status ≡ 0) ⊎ ((status ≡ 1) ⊎ (status ≡ 2))
 
--- the call was stopped: by an object of the outside, by want of memory, or by a pattern that is too big
+-- the call was stopped: by an object of the outside, by want of memory, or by a limit on patterns or on visits
 abbrev pub IsStop : (status : ℕ) → Type 0
 IsStop status = (status ≡ 4) ⊎ ((status ≡ 5) ⊎ (status ≡ 6))
 
@@ -80,9 +83,9 @@ pub record IsUnread (line : List ℕ) (inputs inputs' : Shown Library) (out out'
 
 -- ---- what is read
 
--- a run and a show read their policy's file, a check reads the inputs too that it names, an audit reads its journal
+-- a show reads its policy's file, a run and a check read the inputs too that it names, an audit reads its journal
 abbrev pub IsNextOf : Request → Texts → (name : List ℕ) → Type 0
-IsNextOf (Run policy options) texts name = IsNamed policy texts name
+IsNextOf (Run policy options) texts name = IsNextFile policy texts name
 IsNextOf (Show policy) texts name = IsNamed policy texts name
 IsNextOf (Check policy classes) texts name = IsNextFile policy texts name
 IsNextOf (Audit journal) texts name = IsNamed journal texts name
@@ -96,15 +99,9 @@ abbrev pub ReadsInTurn : (words : List (List ℕ)) → (inputs inputs' : Shown L
 ReadsInTurn words inputs inputs' =
     Untouched inputs inputs' ⊎ (IsLeft inputs inputs' ⊎ FailsNext (AsksNext words) inputs inputs')
 
--- the reading of the next name failed, and its stop is all that was done
-pub record StopsReading (words : List (List ℕ)) (inputs inputs' : Shown Library) (site site' : Shown Told) (out out' : Shown (List ℕ)) : Type 0 where
-  pub failed : FailsNext (AsksNext words) inputs inputs'
-  pub untouched : Untouched site site'
-  pub put : Follows (adds_bytes outside_line) out out'
-
--- a check builds the texts of the patterns of its policy, where nothing else is refused
+-- a run and a check build the texts of the patterns of their policy, where nothing else is refused
 abbrev pub BuildsOf : Request → (told : Option Library) → (text : List ℕ) → Type 0
-BuildsOf (Run policy options) told text = ⊥
+BuildsOf (Run policy options) told text = IfSome told (λ library. RefusesSize library.texts policy text)
 BuildsOf (Show policy) told text = ⊥
 BuildsOf (Check policy classes) told text = IfSome told (λ library. RefusesSize library.texts policy text)
 BuildsOf (Audit journal) told text = ⊥
@@ -113,8 +110,50 @@ BuildsOf (Audit journal) told text = ⊥
 abbrev pub AsksBuilt : (words : List (List ℕ)) → (told : Option Library) → (text : List ℕ) → Type 0
 AsksBuilt words told text = Asks (λ request. BuildsOf request told text) words
 
--- a text of the patterns of the policy that is checked was refused for its size in this call
-pub record RefusesText (words : List (List ℕ)) (told : Option Library) (pats pats' : Shown (List (List ℕ))) : Type 0 where
+-- ---- stops
+
+-- the line is the last that was put
+abbrev pub PutsLast : (line : List ℕ) → (out' : Shown (List ℕ)) → Type 0
+PutsLast line out' = (mid : Shown (List ℕ)) × Follows (adds_bytes line) mid out'
+
+-- the reading of the next name failed, and its stop is all that was done
+pub record StopsReading (words : List (List ℕ)) (inputs inputs' : Shown Library)
+    (site site' : Shown Told) (out out' : Shown (List ℕ)) : Type 0 where
+  pub failed : FailsNext (AsksNext words) inputs inputs'
+  pub untouched : Untouched site site'
+  pub put : Follows (adds_bytes outside_line) out out'
+
+-- a run was stopped by the site: a call on it failed, and the stop's line is the last
+pub record StopsAtSite (words : List (List ℕ)) (site site' : Shown Told)
+    (out' : Shown (List ℕ)) : Type 0 where
+  pub asks_run : AsksRun words
+  pub rose : Rose site.faults site'.faults
+  pub put : PutsLast outside_line out'
+
+-- a text was refused for its size in this call: one of the patterns of the policy that is checked or run, or one that the
+-- run builds
+pub record RefusesText (words : List (List ℕ)) (told : Option Library)
+    (pats pats' : Shown (List (List ℕ))) : Type 0 where
   pub text : List ℕ
-  pub builds : AsksBuilt words told text
+  pub builds : AsksBuilt words told text ⊎ AsksRun words
   pub refused : HasFailed (refuses text) pats pats'
+
+-- a call was stopped by a pattern that is too big: one of its policy, so that the stop's line is all that was done, or one
+-- that a run builds
+pub data StopsAtPattern (words : List (List ℕ)) (told : Option Library) (site site' : Shown Told)
+    (out out' : Shown (List ℕ)) (pats pats' : Shown (List (List ℕ))) : Type 0 where
+  of_policy : {text : List ℕ} → AsksBuilt words told text → HasFailed (refuses text) pats pats' →
+      Untouched site site' → Follows (adds_bytes pattern_line) out out' →
+      StopsAtPattern words told site site' out out' pats pats'
+  of_run : {text : List ℕ} → AsksRun words → HasFailed (refuses text) pats pats' →
+      PutsLast pattern_line out' → StopsAtPattern words told site site' out out' pats pats'
+
+-- a run was stopped since its definition, under the marks of the entries so far, needs more visits than it may make
+pub record StopsAtVisits (words : List (List ℕ)) (moment : ℕ) (told : Option Library)
+    (site site' : Shown Told) (out' : Shown (List ℕ))
+    (pats pats' : Shown (List (List ℕ))) : Type 0 where
+  pub asks_run : AsksRun words
+  pub too_many : IfSome told (λ library. IfBothTold (λ before after.
+      NeedsTooMany words moment library.texts before.world (marks_of (added before after))) site site')
+  pub no_pattern : Untouched pats pats'
+  pub put : PutsLast visits_line out'

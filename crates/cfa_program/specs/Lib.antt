@@ -3,6 +3,4 @@ pub mod Calls
 pub mod Done
 pub mod Ends
 pub mod Lines
-pub mod Runs
 pub mod Stages
-pub mod Steps

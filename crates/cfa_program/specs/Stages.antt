@@ -1,13 +1,12 @@
 -- Of the code alone: the two phases of a call. What reads it touches neither the site nor the sink, and what does its work
--- touches neither the inputs nor the patterns.
-use Rattle.std.specs.Prelude.{ℕ, ◌≡◌, ◌≢◌, ◌<◌, ◌≤◌, length, List, Option, Some, None, ⊤, ◌⊎◌, Result, Ok, Err, IfOk, IfErr, IfSome}
-use Rattle.std.specs.Global.{Vec}
+-- doesn't touch the inputs.
+use Rattle.std.specs.Prelude.{ℕ, ◌≡◌, ◌≢◌, ◌<◌, ◌≤◌, List, Option, Some, None, ⊤, ◌⊎◌, Bool, Result, Ok, Err, IfOk, OnOk, IfErr, IsErrOf, IfSome}
 use Rattle.cfa_base.specs.declared.limits.TheConstants.{LAST_MOMENT}
 use Rattle.cfa_base.specs.Shown.{Shown, Follows, Untouched}
 use Rattle.cfa_base.specs.Patterns.{SizeRefusal}
+use Rattle.cfa_words.specs.declared.words.Options.{Options}
 use Rattle.cfa_words.specs.declared.words.Request.{Request}
 use Rattle.cfa_words.specs.Words.{asked}
-use Rattle.cfa_outside.specs.declared.worlds.World.{World}
 use Rattle.cfa_outside.specs.Inputs.{Library}
 use Rattle.cfa_outside.specs.Sites.{Told}
 use Rattle.cfa_outside.specs.Sinks.{adds_bytes}
@@ -19,52 +18,58 @@ use Rattle.cfa_output.specs.declared.ends.Failure.TheVariants.{Refused, Stopped}
 use Rattle.cfa_output.specs.Ends.{IfRefused}
 use Rattle.cfa_output.specs.Lines.{words_line, moment_line, stop_line, journal_bad_line, journal_long_line}
 use Rattle.cfa_output.specs.Puts.{PutsShort}
-use Rattle.cfa_parser.specs.declared.first.FirstPromise.{FirstPromise}
-use Rattle.cfa_sources.specs.Sources.{IsNamed}
 use Rattle.cfa_journal.specs.declared.journals.JournalErr.{JournalErr}
 use Rattle.cfa_journal.specs.declared.journals.JournalErr.TheVariants.{BadRecord, TooLong, NoMemory}
+use Rattle.cfa_sources.specs.Sources.{IsNamed, IsNextFile}
+use Rattle.cfa_sources.specs.Checks.{Refuses as RefusesPolicy, RefusesSize}
 use Rattle.cfa_sources.specs.Readings.{ReadUpTo, stop_of, stopped_by, text_too_big}
+use Rattle.cfa_walk.specs.Settings.{setting_of}
+use Rattle.cfa_walk.specs.Views.{Setting}
+use Rattle.cfa_agent.specs.Runs.{run_of}
+use Rattle.cfa_agent.specs.Ran.{started, IsWhole, IsCutOff, IfBothTold, StopsRun, Refuses}
 use Rattle.cfa_program.specs.declared.ends.End.{End}
 use Rattle.cfa_program.specs.declared.ends.End.TheVariants.{Ended}
+use Rattle.cfa_program.specs.declared.work.PolicyRun.{PolicyRun}
 use Rattle.cfa_program.specs.declared.work.Work.{Work}
 use Rattle.cfa_program.specs.declared.work.Work.TheVariants.{Run, Show, Check}
-use Rattle.cfa_program.specs.Done.{Done, IsDone, HasFault, status_of}
 use Rattle.cfa_program.specs.Audits.{bytes_of, AuditsAs, RefusesJournal}
-use Rattle.cfa_program.specs.Calls.{ReadsForm, RefusesForm, RefusesRequest, TakesRequest, done_by}
+use Rattle.cfa_program.specs.Calls.{Task, runs, shows, TakesRun, RefusesRequest, TakesRequest, ran}
+use Rattle.cfa_program.specs.Done.{IsDone, HasFault, status_of}
 use Rattle.cfa_program.specs.Ends.{IsRun, IsNextOf, AsksNext, BuildsOf, AsksBuilt, RefusesCall}
 use Rattle.cfa_program.specs.Lines.{valid_line}
-use Rattle.cfa_program.specs.Steps.{UnlessFault, StopsRun}
 
 -- ---- the work
 
-abbrev pub RunsPromises : Work → Type 0
-RunsPromises (Run promises) = ⊤
-RunsPromises (Show text) = ⊥
-RunsPromises Check = ⊥
+abbrev pub RunsPolicy : Work → Type 0
+RunsPolicy (Run order) = ⊤
+RunsPolicy (Show text) = ⊥
+RunsPolicy Check = ⊥
 
--- the promises can be numbered
-abbrev pub HasFew : Work → Type 0
-HasFew (Run promises) = length promises.items ≤ 1048576
-HasFew (Show text) = ⊤
-HasFew Check = ⊤
+abbrev pub setting_in : PolicyRun → Setting
+setting_in order = setting_of order.checked order.context
+
+-- what the work is by the definition of a call
+abbrev pub task_of : Work → Task
+task_of (Run order) = runs (setting_in order) order.locks
+task_of (Show text) = shows text
+task_of Check = shows valid_line
 
 -- ---- reading
 
 -- the work is what a request asks for
-pub record IsWorkOf (request : Request) (told : Option Library) (work : Work) : Type 0 where
-  pub runs : RunsPromises work → IsRun request
-  pub taken : IfSome told (λ library. TakesRequest library.texts request work)
-  pub few : HasFew work
+pub record IsWorkOf (request : Request) (moment : ℕ) (told : Option Library) (work : Work) : Type 0 where
+  pub runs : RunsPolicy work → IsRun request
+  pub taken : IfSome told (λ library. TakesRequest library.texts moment request (task_of work))
 
--- the policy of this name was read in the form that is run so far
-pub record PromisesRead (policy : List ℕ) (inputs inputs' : Shown Library) (result : Result (Vec FirstPromise) Failure) : Type 0 where
-  pub promises : IfOk result (λ promises.
-      IfSome inputs.told (λ library. ReadsForm library.texts policy promises.items))
-  pub few : IfOk result (λ promises. length promises.items ≤ 1048576)
+-- a policy was read to be run
+pub record RunPrepared (policy : List ℕ) (options : Options) (moment : ℕ) (inputs inputs' : Shown Library) (pats pats' : Shown (List (List ℕ))) (result : Result PolicyRun Failure) : Type 0 where
+  pub order : IfOk result (λ order. IfSome inputs.told (λ library.
+      TakesRun library.texts moment policy options (setting_in order) order.locks))
   pub refused : IfErr result (λ failure. IfRefused failure (λ line.
-      IfSome inputs.told (λ library. RefusesForm library.texts policy line)))
-  pub inputs_are : ReadUpTo (IsNamed policy) (stop_of result) inputs inputs'
-  pub no_pattern : text_too_big (stop_of result) ≡ None
+      IfSome inputs.told (λ library. RefusesPolicy library.texts policy line)))
+  pub inputs_are : ReadUpTo (IsNextFile policy) (stop_of result) inputs inputs'
+  pub patterns_are : SizeRefusal (λ text. IfSome inputs.told (λ library. RefusesSize library.texts policy text))
+      (text_too_big (stop_of result)) pats pats'
 
 -- the bytes of this name were read
 pub record BytesRead (name : List ℕ) (inputs inputs' : Shown Library) (result : Result (List ℕ) Stop) : Type 0 where
@@ -92,8 +97,8 @@ pub record JournalAudited (name : List ℕ) (inputs inputs' : Shown Library) (re
   pub no_pattern : text_too_big (stop_of result) ≡ None
 
 -- the policy or journal of a request was read
-pub record RequestPrepared (request : Request) (inputs inputs' : Shown Library) (pats pats' : Shown (List (List ℕ))) (result : Result Work Failure) : Type 0 where
-  pub work : IfOk result (IsWorkOf request inputs.told)
+pub record RequestPrepared (request : Request) (moment : ℕ) (inputs inputs' : Shown Library) (pats pats' : Shown (List (List ℕ))) (result : Result Work Failure) : Type 0 where
+  pub work : IfOk result (IsWorkOf request moment inputs.told)
   pub refused : IfErr result (λ failure. IfRefused failure (λ line.
       IfSome inputs.told (λ library. RefusesRequest library.texts request line)))
   pub inputs_are : ReadUpTo (IsNextOf request) (stop_of result) inputs inputs'
@@ -104,7 +109,7 @@ pub record IsAsked (words : List (List ℕ)) (moment : ℕ) (told : Option Libra
   pub request : Request
   pub asked_is : asked words ≡ Some request
   pub in_time : moment ≤ LAST_MOMENT
-  pub is_work : IsWorkOf request told work
+  pub is_work : IsWorkOf request moment told work
 
 -- the refusal with this line, or want of memory
 abbrev pub IsRefusalWith : (line : List ℕ) → Failure → Type 0
@@ -129,29 +134,41 @@ pub record Prepared (words : List (List ℕ)) (moment : ℕ) (inputs inputs' : S
 
 -- ---- doing the work
 
--- this was done, unless a call on the site failed
-pub record RunPerformed (does : World → Done) (site site' : Shown Told) (out out' : Shown (List ℕ)) (result : Result End Stop) : Type 0 where
-  pub done : IfOk result (λ end. UnlessFault (λ t.
-      IsDone (does t.world) site site' out out' (status_of end)) site site')
-  pub stopped : IfErr result (StopsRun out out')
+-- a run of the setting was made, or stopped
+pub record RunPerformed (setting : Setting) (moment : ℕ) (has_locks : Bool) (site site' : Shown Told) (out out' : Shown (List ℕ)) (pats pats' : Shown (List (List ℕ))) (result : Result End Stop) : Type 0 where
+  pub whole : OnOk result (IfBothTold (λ before after.
+      IsWhole (run_of setting (started moment has_locks before after))) site site')
+  pub done : IfOk result (λ end. IfBothTold (λ before after.
+      IsDone (ran setting (started moment has_locks before after)) before after out out' (status_of end)) site site')
+  pub too_large : IsErrOf result Visits → IfBothTold (λ before after.
+      IsCutOff (run_of setting (started moment has_locks before after))) site site'
+  pub stopped : IfErr result (StopsRun site site' out out')
+  pub patterns_are : Refuses (text_too_big (stopped_by result)) pats pats'
 
 -- a text was put, or the sink failed
 pub record TextPut (text : List ℕ) (out out' : Shown (List ℕ)) (result : Result End Stop) : Type 0 where
   pub put : IfOk result (λ end. (end ≡ Ended) × Follows (adds_bytes text) out out')
   pub sink_failed : IfErr result (λ stop. (stop ≡ Outside Sink) × HasFault out out')
 
--- work that is no run has nothing to do with the site
+-- a text was put, and that is all
+pub record OnlyPut (text : List ℕ) (site site' : Shown Told) (out out' : Shown (List ℕ)) (pats pats' : Shown (List (List ℕ))) (result : Result End Stop) : Type 0 where
+  pub puts : TextPut text out out' result
+  pub site_is : Untouched site site'
+  pub patterns_are : Untouched pats pats'
+
+-- work that is no run touches neither the site nor the patterns
 abbrev pub Performed :
-    Work → (site site' : Shown Told) → (out out' : Shown (List ℕ)) → Result End Stop → Type 0
-Performed (Run promises) site site' out out' result = RunPerformed (done_by (Run promises)) site site' out out' result
-Performed (Show text) site site' out out' result = Untouched site site' × TextPut text out out' result
-Performed Check site site' out out' result = Untouched site site' × TextPut valid_line out out' result
+    Work → (moment : ℕ) → (site site' : Shown Told) → (out out' : Shown (List ℕ)) → (pats pats' : Shown (List (List ℕ))) → Result End Stop → Type 0
+Performed (Run order) moment site site' out out' pats pats' result =
+    RunPerformed (setting_in order) moment order.locks site site' out out' pats pats' result
+Performed (Show text) moment site site' out out' pats pats' result = OnlyPut text site site' out out' pats pats' result
+Performed Check moment site site' out out' pats pats' result = OnlyPut valid_line site site' out out' pats pats' result
 
 -- ---- the end of a call
 
 -- the line is the last that is put, and the status stands, unless the line can't be put
-abbrev pub PutsLast : (line : List ℕ) → (status : ℕ) → (out out' : Shown (List ℕ)) → (result : ℕ) → Type 0
-PutsLast line status out out' result =
+abbrev pub PutsEnd : (line : List ℕ) → (status : ℕ) → (out out' : Shown (List ℕ)) → (result : ℕ) → Type 0
+PutsEnd line status out out' result =
     ((result ≡ status) × Follows (adds_bytes line) out out') ⊎ ((result ≡ 4) × PutsShort line out out')
 
 abbrev pub status_of_stop : Stop → ℕ
@@ -163,18 +180,18 @@ status_of_stop (Pattern text) = 6
 -- the line of a stop is put, where it has one
 abbrev pub PutsStop : (line : Option (List ℕ)) → (status : ℕ) → (out out' : Shown (List ℕ)) → (result : ℕ) → Type 0
 PutsStop None status out out' result = (result ≡ status) × Untouched out out'
-PutsStop (Some line) status out out' result = PutsLast line status out out' result
+PutsStop (Some line) status out out' result = PutsEnd line status out out' result
 
 -- the line of a refusal is put, or that of a stop
 abbrev pub PutsFailure : Failure → (out out' : Shown (List ℕ)) → (result : ℕ) → Type 0
-PutsFailure (Refused line) out out' result = PutsLast line 1 out out' result
+PutsFailure (Refused line) out out' result = PutsEnd line 1 out out' result
 PutsFailure (Stopped stop) out out' result = PutsStop (stop_line stop) (status_of_stop stop) out out' result
 
 -- how a call ended
 pub data Called (words : List (List ℕ)) (moment : ℕ) (inputs inputs' : Shown Library) (site site' : Shown Told) (out out' : Shown (List ℕ)) (pats pats' : Shown (List (List ℕ))) (status : ℕ) : Type 0 where
   not_prepared : {failure : Failure} → Prepared words moment inputs inputs' pats pats' (Err failure) → Untouched site site' →
       PutsFailure failure out out' status → Called words moment inputs inputs' site site' out out' pats pats' status
-  ended : {work : Work} (end : End) → Prepared words moment inputs inputs' pats pats' (Ok work) →
-      Performed work site site' out out' (Ok end) → status ≡ status_of end → Called words moment inputs inputs' site site' out out' pats pats' status
-  stopped_at_work : {work : Work} (stop : Stop) (mid : Shown (List ℕ)) → Prepared words moment inputs inputs' pats pats' (Ok work) →
-      Performed work site site' out mid (Err stop) → PutsStop (stop_line stop) (status_of_stop stop) mid out' status → Called words moment inputs inputs' site site' out out' pats pats' status
+  ended : {work : Work} (end : End) → Prepared words moment inputs inputs' pats pats (Ok work) →
+      Performed work moment site site' out out' pats pats' (Ok end) → status ≡ status_of end → Called words moment inputs inputs' site site' out out' pats pats' status
+  stopped_at_work : {work : Work} (stop : Stop) (mid : Shown (List ℕ)) → Prepared words moment inputs inputs' pats pats (Ok work) →
+      Performed work moment site site' out mid pats pats' (Err stop) → PutsStop (stop_line stop) (status_of_stop stop) mid out' status → Called words moment inputs inputs' site site' out out' pats pats' status

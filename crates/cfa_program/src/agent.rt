@@ -1,13 +1,16 @@
 // The top call.
-ghost use Rattle.std.specs.Prelude.{◌≡◌, ◌≢◌, ◌<◌, ◌⊎◌, None, IfSome};
+ghost use Rattle.std.specs.Prelude.{◌≡◌, ◌≢◌, ◌<◌, ◌⊎◌, None, IfSome, List};
 ghost use Rattle.cfa_base.specs.Shown.{Untouched, Follows};
 ghost use Rattle.cfa_outside.specs.declared.worlds.World as declared;
 ghost use Rattle.cfa_outside.specs.Sinks.{adds_bytes};
-ghost use Rattle.cfa_output.specs.Lines.{words_line, moment_line, memory_line, pattern_line};
+ghost use Rattle.cfa_output.specs.Lines.{words_line, moment_line, memory_line};
 ghost use Rattle.cfa_words.specs.Words.{asked};
+ghost use Rattle.cfa_agent.specs.Actuations.{Mark};
+ghost use Rattle.cfa_agent.specs.Marks.{marks_of};
+ghost use Rattle.cfa_agent.specs.Ran.{added, IfBothTold};
 ghost use Rattle.cfa_program.specs.Calls.{Does};
 ghost use Rattle.cfa_program.specs.Done.{Stands, Puts, HasFault};
-ghost use Rattle.cfa_program.specs.Ends.{IsEnd, IsStop, IsNotDone, AsksRun, AsksNoRun, AsksRefused, PutsRefusal, IsUnread, StopsReading, ReadsInTurn, RefusesText};
+ghost use Rattle.cfa_program.specs.Ends.{IsEnd, IsStop, IsNotDone, AsksRun, AsksNoRun, AsksRefused, PutsRefusal, IsUnread, PutsLast, StopsReading, StopsAtSite, ReadsInTurn, RefusesText, StopsAtPattern, StopsAtVisits};
 ghost use Rattle.cfa_program.specs.Stages.{Called};
 
 use crate::ends::{end_status, put_failure, put_stop};
@@ -33,7 +36,7 @@ fn call<I: Inputs, S: Site, O: Sink, P: Patterns>(
         (P.shown pats.old) (P.shown pats.new) result }
 {
     match prepare(alloc, words, moment, inputs, pats) {
-        Ok(work) => match perform(alloc, &work, site, out) {
+        Ok(work) => match perform(alloc, &work, moment, site, out, pats) {
             Ok(end) => end_status(end),
             Err(stop) => put_stop(&stop, out),
         },
@@ -43,16 +46,18 @@ fn call<I: Inputs, S: Site, O: Sink, P: Patterns>(
 
 /// Does what the words say, and answers the status of the process: 0 where the work came to its end, 1 where the words, the
 /// moment, the policy or the journal are refused, 2 where a run ended with a failed promise, 4 where the inputs or the sink
-/// failed, 5 where memory ended, 6 where a pattern was refused for its size.
+/// failed, or a lock or the journal of the site, 5 where memory ended, 6 where a pattern was refused for its size or a run
+/// needs too many visits.
 ///
 /// The words come without the program's name, as `cfa_words` reads them; `run POLICY`, `show POLICY`, `check POLICY`
-/// and `audit JOURNAL` are built so far. POLICY and JOURNAL name a text of the inputs, and so do the inputs that a checked
-/// policy lists. `moment` is the time in seconds since 1970-01-01T00:00:00Z; one after the year 9998 is refused.
+/// and `audit JOURNAL` are built so far. POLICY and JOURNAL name a text of the inputs, and so do the inputs that a policy that
+/// is checked or run lists. `moment` is the time in seconds since 1970-01-01T00:00:00Z; one after the year 9998 is refused.
 ///
-/// The words, the moment and the policy or the journal are read before anything is done on the site or put. Each line is
-/// put as soon as it stands. After a put that failed nothing more is put; after a failed reading the last line is `stopped: outside`, after
-/// want of memory it is `stopped: memory`, and after a pattern that was refused for its size it is `stopped: pattern`.
-/// Where that line can't be put the status is 4.
+/// The words, the moment and the policy or the journal are read before anything is done on the site or put. Each valid policy is
+/// run: the run is that of `cfa_agent`, in the classes of the calendar and of `-D`, with locks unless `-K` is given. Each line is
+/// put as soon as it stands. After a put that failed nothing more is put; after a failed reading, lock or record of the journal
+/// the last line is `stopped: outside`, after want of memory it is `stopped: memory`, after a pattern that was refused for its
+/// size it is `stopped: pattern`, and after too many visits it is `stopped: visits`. Where that line can't be put the status is 4.
 pub fn agent_main<I: Inputs, S: Site, O: Sink, P: Patterns>(
     alloc: Global,
     words: &[Name],
@@ -62,16 +67,18 @@ pub fn agent_main<I: Inputs, S: Site, O: Sink, P: Patterns>(
     out: &mut O,
     pats: &mut P,
 ) -> u8
-    // Where no call on the site failed, a call that isn't stopped does exactly what its definition says.
-    ensures exact { IsEnd result → ¬ HasFault (S.shown site.old) (S.shown site.new)
-        → IfSome (I.shown inputs.old).told (λ library. IfSome (S.shown site.old).told (λ t.
-        Stands (Does words.now moment library.texts t.world)
-        (S.shown site.old) (S.shown site.new) (O.shown out.old) (O.shown out.new) result)) }
+    // A call that isn't stopped does exactly what its definition says, under the marks of the calls on the site that failed in
+    // an act in this call.
+    ensures exact { IsEnd result
+        → IfSome (I.shown inputs.old).told (λ library. IfBothTold (λ before after.
+        Stands (Does words.now moment library.texts before.world (marks_of (added before after)))
+        before after (O.shown out.old) (O.shown out.new) result)
+        (S.shown site.old) (S.shown site.new)) }
 
     // A call that asks for no run does so on any site, and leaves the site as it was, however it ends.
     ensures without_site { AsksNoRun words.now → IsEnd result
-        → IfSome (I.shown inputs.old).told (λ library. (world : declared.World) →
-        Puts (Does words.now moment library.texts world)
+        → IfSome (I.shown inputs.old).told (λ library. (world : declared.World) (marks : List Mark)
+        → Puts (Does words.now moment library.texts world marks)
         (O.shown out.old) (O.shown out.new) result) }
     ensures site_untouched { AsksNoRun words.now → Untouched (S.shown site.old) (S.shown site.new) }
     ensures range { IsEnd result ⊎ IsStop result }
@@ -97,24 +104,31 @@ pub fn agent_main<I: Inputs, S: Site, O: Sink, P: Patterns>(
     // Status 2 comes only for a run.
     ensures failed { result ≡ 2 → AsksRun words.now }
 
-    // Status 4 comes only where a put failed, or the reading of a file of the policy or of the journal did, before anything
-    // was done on the site or put but the line that tells the stop; and no reading fails but that of the file that is read
-    // next.
+    // Status 4 comes only where a put failed; or the reading of a file of the policy or of the journal did, before anything
+    // was done on the site or put but the line that tells the stop; or, for a run, a call on the site did. No reading fails but
+    // that of the file that is read next.
     ensures outside { result ≡ 4 → HasFault (O.shown out.old) (O.shown out.new)
-        ⊎ StopsReading words.now (I.shown inputs.old) (I.shown inputs.new)
-        (S.shown site.old) (S.shown site.new) (O.shown out.old) (O.shown out.new) }
+        ⊎ (StopsReading words.now (I.shown inputs.old) (I.shown inputs.new)
+        (S.shown site.old) (S.shown site.new) (O.shown out.old) (O.shown out.new)
+        ⊎ StopsAtSite words.now (S.shown site.old) (S.shown site.new) (O.shown out.new)) }
     ensures names { ReadsInTurn words.now (I.shown inputs.old) (I.shown inputs.new) }
 
-    // Where no run is asked for, the line that tells want of memory is all that was put.
+    // The line that tells want of memory is the last; where no run is asked for, it is all that was put.
     ensures memory { result ≡ 5 → AsksNoRun words.now
         → Follows (adds_bytes memory_line) (O.shown out.old) (O.shown out.new) }
+    ensures memory_told { result ≡ 5 → PutsLast memory_line (O.shown out.new) }
 
-    // Status 6 comes only where a pattern of a policy that is checked was refused for its size, after all its files were
-    // read and nothing else was refused; the line that tells the stop is then all that was put. Otherwise no pattern was
-    // refused, unless that line couldn't be put.
-    ensures pattern { result ≡ 6 →
-        RefusesText words.now (I.shown inputs.old).told (P.shown pats.old) (P.shown pats.new)
-        × Follows (adds_bytes pattern_line) (O.shown out.old) (O.shown out.new) }
+    // Status 6 has two causes, which the last line tells apart. A pattern of a policy that is checked or run was refused for
+    // its size, after all its files were read and nothing else was refused, before anything else was done; or one that a run
+    // builds. Or a run needs more visits than it may make, by its definition under the marks of the entries so far.
+    ensures pattern_or_visits { result ≡ 6 →
+        StopsAtPattern words.now (I.shown inputs.old).told (S.shown site.old) (S.shown site.new)
+        (O.shown out.old) (O.shown out.new) (P.shown pats.old) (P.shown pats.new)
+        ⊎ StopsAtVisits words.now moment (I.shown inputs.old).told
+        (S.shown site.old) (S.shown site.new) (O.shown out.new)
+        (P.shown pats.old) (P.shown pats.new) }
+
+    // Otherwise no pattern was refused, unless the line that tells the stop couldn't be put.
     ensures patterns_kept { result ≢ 6 → Untouched (P.shown pats.old) (P.shown pats.new)
         ⊎ ((result ≡ 4) × HasFault (O.shown out.old) (O.shown out.new)
         × RefusesText words.now (I.shown inputs.old).told (P.shown pats.old) (P.shown pats.new)) }

@@ -2,7 +2,7 @@
 ghost use Rattle.std.specs.Prelude.{◌≡◌};
 ghost use Rattle.cfa_output.specs.Lines.{stop_line};
 ghost use Rattle.cfa_program.specs.Done.{status_of};
-ghost use Rattle.cfa_program.specs.Stages.{PutsLast, PutsStop, PutsFailure, status_of_stop};
+ghost use Rattle.cfa_program.specs.Stages.{PutsEnd, PutsStop, PutsFailure, status_of_stop};
 
 use cfa_output::{Failure, Object, Stop, put_all};
 use cfa_outside::Sink;
@@ -35,13 +35,14 @@ pub fn stop_status(stop: &Stop) -> u8
     match stop {
         Stop::Outside(_) => 4,
         Stop::Memory => 5,
-        Stop::Visits | Stop::Pattern(_) => 6,
+        Stop::Visits => 6,
+        Stop::Pattern(_) => 6,
     }
 }
 
 // Puts the last line of a call, and answers its status, or that of a sink that failed.
 fn put_last<O: Sink>(line: &str, status: u8, out: &mut O) -> u8
-    ensures { PutsLast line.now status (O.shown out.old) (O.shown out.new) result }
+    ensures { PutsEnd line.now status (O.shown out.old) (O.shown out.new) result }
 {
     match put_all(out, line.as_bytes()) {
         Ok(()) => status,

@@ -8,7 +8,6 @@ mod laws;
 mod lines;
 mod performing;
 mod preparing;
-mod running;
 #[cfg(test)]
 mod tests;
 mod work;

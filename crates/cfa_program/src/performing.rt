@@ -1,17 +1,15 @@
-// The second phase of a call: its work is done. Neither the inputs nor the patterns are touched.
-ghost use Rattle.std.specs.Prelude.{◌≡◌, ◌≤◌, length};
-ghost use Rattle.cfa_output.specs.Lines.{total_line};
-ghost use Rattle.cfa_program.specs.Calls.{end_by, ran};
-ghost use Rattle.cfa_program.specs.Runs.{run_of};
-ghost use Rattle.cfa_program.specs.Stages.{HasFew, Performed, RunPerformed, TextPut};
+// The second phase of a call: its work is done. The inputs aren't touched.
+ghost use Rattle.std.specs.Prelude.{◌≡◌, ◌≤◌};
+ghost use Rattle.cfa_program.specs.Calls.{end_by};
+ghost use Rattle.cfa_program.specs.Stages.{setting_in, Performed, RunPerformed, TextPut};
 
 use crate::ends::End;
 use crate::lines;
-use crate::running::{Tally, put_item, run_promises};
-use crate::work::Work;
-use cfa_output::{Item, Stop, put_all};
+use crate::work::{PolicyRun, Work};
+use cfa_agent::{Tally, run};
+use cfa_base::{LAST_MOMENT, Patterns};
+use cfa_output::{Stop, put_all};
 use cfa_outside::{Sink, Site};
-use cfa_parser::FirstPromise;
 use std::alloc::Global;
 
 // A promise failed where one is counted as failed.
@@ -25,20 +23,26 @@ fn end_of(tally: &Tally) -> End
     }
 }
 
-// Runs the promises and puts the total.
-fn run_all<S: Site, O: Sink>(
+// Runs a policy.
+fn run_policy<S: Site, O: Sink, P: Patterns>(
     alloc: Global,
-    promises: &[FirstPromise],
+    order: &PolicyRun,
+    moment: u64,
     site: &mut S,
     out: &mut O,
+    pats: &mut P,
 ) -> Result<End, Stop>
-    requires { length promises.now ≤ 1048576 }
-    ensures { RunPerformed (λ world. ran (run_of 1 promises.now world))
-        (S.shown site.old) (S.shown site.new) (O.shown out.old) (O.shown out.new) result }
+    requires { moment ≤ LAST_MOMENT }
+    ensures { RunPerformed (setting_in order.now) moment order.now.locks
+        (S.shown site.old) (S.shown site.new) (O.shown out.old) (O.shown out.new)
+        (P.shown pats.old) (P.shown pats.new) result }
 {
-    let tally = run_promises(alloc, promises, site, out)?;
-    let total = Item::Total(tally.kept, tally.repaired, tally.failed, 0);
-    put_item(alloc, &total, out)?;
+    let PolicyRun {
+        checked,
+        context,
+        locks,
+    } = order;
+    let tally = run(alloc, checked, context, moment, *locks, site, out, pats)?;
     Ok(end_of(&tally))
 }
 
@@ -51,18 +55,20 @@ fn put_text<O: Sink>(text: &str, out: &mut O) -> Result<End, Stop>
 }
 
 /// Does the work of a call.
-pub fn perform<S: Site, O: Sink>(
+pub fn perform<S: Site, O: Sink, P: Patterns>(
     alloc: Global,
     work: &Work,
+    moment: u64,
     site: &mut S,
     out: &mut O,
+    pats: &mut P,
 ) -> Result<End, Stop>
-    requires { HasFew work.now }
-    ensures { Performed work.now (S.shown site.old) (S.shown site.new)
-        (O.shown out.old) (O.shown out.new) result }
+    requires { moment ≤ LAST_MOMENT }
+    ensures { Performed work.now moment (S.shown site.old) (S.shown site.new)
+        (O.shown out.old) (O.shown out.new) (P.shown pats.old) (P.shown pats.new) result }
 {
     match work {
-        Work::Run(promises) => run_all(alloc, promises, site, out),
+        Work::Run(order) => run_policy(alloc, order, moment, site, out, pats),
         Work::Show(text) => put_text(text.as_str(), out),
         Work::Check => put_text(lines::valid(), out),
     }

@@ -1,52 +1,74 @@
 // The first phase of a call: its words and its moment are read, and the policy or journal that the words name. Neither the
 // site nor the sink is touched.
-ghost use Rattle.std.specs.Prelude.{◌≡◌, IfOk, IfErr};
-ghost use Rattle.cfa_words.specs.declared.words.Request.TheVariants as request;
+ghost use Rattle.std.specs.Prelude.{◌≡◌, ◌≤◌, ◌++◌, IfOk, IfErr};
+ghost use Rattle.cfa_classes.specs.Calendar.{hard_classes};
 ghost use Rattle.cfa_output.specs.Lines.{line_of};
-ghost use Rattle.cfa_program.specs.Stages.{PromisesRead, RequestPrepared, IsRefusalWith, Prepared};
+ghost use Rattle.cfa_program.specs.Stages.{RunPrepared, RequestPrepared, IsRefusalWith, Prepared};
 
 use crate::auditing::audit_journal;
-use crate::lines;
-use crate::work::Work;
-use cfa_base::{LAST_MOMENT, Name, NoMemory, Patterns};
+use crate::work::{PolicyRun, Work};
+use cfa_base::{LAST_MOMENT, Name, Names, NoMemory, Patterns};
+use cfa_classes::hard;
 use cfa_output::{Failure, Item, line};
 use cfa_outside::Inputs;
-use cfa_parser::{FirstErr, FirstPromise, read_first};
 use cfa_printer::print;
-use cfa_sources::{read_policy, read_source, read_tree_of};
-use cfa_words::{Request, read_words};
+use cfa_sources::{read_policy, read_tree_of};
+use cfa_walk::Context;
+use cfa_words::{Options, Request, read_words};
 use std::alloc::Global;
 
-// The promises of a policy of the first form.
-fn read_promises<I: Inputs>(
+// The classes of the calendar, and then those that are handed in.
+fn context_of(alloc: Global, moment: u64, handed_in: &Names) -> Result<Context, NoMemory>
+    requires { moment ≤ LAST_MOMENT }
+    ensures { IfOk result
+        (λ context. context.classes ≡ hard_classes moment ++ handed_in.now) }
+{
+    let mut classes = hard(alloc, moment)?;
+    for class in handed_in.as_slice() {
+        classes.push(class.copy(alloc)?)?;
+    }
+    Ok(Context { classes })
+}
+
+// The run of a policy.
+fn prepare_run<I: Inputs, P: Patterns>(
     alloc: Global,
     policy: &Name,
+    options: &Options,
+    moment: u64,
     inputs: &mut I,
-) -> Result<Vec<FirstPromise>, Failure>
-    ensures { PromisesRead policy.now (I.shown inputs.old) (I.shown inputs.new) result }
+    pats: &mut P,
+) -> Result<PolicyRun, Failure>
+    requires { moment ≤ LAST_MOMENT }
+    ensures { RunPrepared policy.now options.now moment (I.shown inputs.old) (I.shown inputs.new)
+        (P.shown pats.old) (P.shown pats.new) result }
 {
-    let source = read_source(alloc, policy, inputs)?;
-    match read_first(alloc, source.as_slice()) {
-        Ok(promises) => Ok(promises),
-        Err(FirstErr::OtherForm(number)) => {
-            Err(Failure::Refused(lines::form(alloc, policy, number)?))
-        }
-        Err(FirstErr::NoMemory) => Err(Failure::from(NoMemory)),
-    }
+    let checked = read_policy(alloc, policy, inputs, pats)?;
+    let context = context_of(alloc, moment, &options.classes)?;
+    Ok(PolicyRun {
+        checked,
+        context,
+        locks: options.locks,
+    })
 }
 
 // The work of a request.
 fn prepare_request<I: Inputs, P: Patterns>(
     alloc: Global,
     request: &Request,
+    moment: u64,
     inputs: &mut I,
     pats: &mut P,
 ) -> Result<Work, Failure>
-    ensures { RequestPrepared request.now (I.shown inputs.old) (I.shown inputs.new)
+    requires { moment ≤ LAST_MOMENT }
+    ensures { RequestPrepared request.now moment (I.shown inputs.old) (I.shown inputs.new)
         (P.shown pats.old) (P.shown pats.new) result }
 {
     match request {
-        Request::Run(policy, _) => Ok(Work::Run(read_promises(alloc, policy, inputs)?)),
+        Request::Run(policy, options) => {
+            let order = prepare_run(alloc, policy, options, moment, inputs, pats)?;
+            Ok(Work::Run(order))
+        }
         Request::Show(policy) => {
             let tree = read_tree_of(alloc, policy, inputs)?;
             Ok(Work::Show(print(alloc, &tree)?))
@@ -86,5 +108,5 @@ pub fn prepare<I: Inputs, P: Patterns>(
     if moment > LAST_MOMENT {
         return Err(refusal(alloc, &Item::MomentRefused));
     }
-    prepare_request(alloc, &request, inputs, pats)
+    prepare_request(alloc, &request, moment, inputs, pats)
 }

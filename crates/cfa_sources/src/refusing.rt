@@ -55,7 +55,8 @@ pub fn parse_line(alloc: Global, name: &Name, error: ParseErr) -> Result<Name, S
     }
 }
 
-fn file_name<'a>(policy: &'a Name, inputs: &'a [Name], file: u16) -> &'a Name
+/// The name of the file of a number, among those of a policy: its own, and those of its inputs.
+pub fn file_name<'a>(policy: &'a Name, inputs: &'a [Name], file: u16) -> &'a Name
     ensures { result.now ≡ file_name policy.now inputs.now file }
 {
     if file == 0 {

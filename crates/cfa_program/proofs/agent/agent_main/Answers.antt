@@ -40,8 +40,11 @@ returns-clause-names g c = calls.names c.args.words.now c.args.moment (g.I.Input
 pub returns-clause-memory : goal.returns-clause-memory
 returns-clause-memory g c = calls.memory c.args.words.now c.args.moment (g.I.Inputs.shown c.args.inputs.now) (g.I.Inputs.shown c.call.new.inputs) (g.S.Site.shown c.args.site.now) (g.S.Site.shown c.call.new.site) (g.O.Sink.shown c.args.out.now) (g.O.Sink.shown c.call.new.out) (g.P.Patterns.shown c.args.pats.now) (g.P.Patterns.shown c.call.new.pats) c.call.result c.call.ensures
 
-pub returns-clause-pattern : goal.returns-clause-pattern
-returns-clause-pattern g c = calls.pattern c.args.words.now c.args.moment (g.I.Inputs.shown c.args.inputs.now) (g.I.Inputs.shown c.call.new.inputs) (g.S.Site.shown c.args.site.now) (g.S.Site.shown c.call.new.site) (g.O.Sink.shown c.args.out.now) (g.O.Sink.shown c.call.new.out) (g.P.Patterns.shown c.args.pats.now) (g.P.Patterns.shown c.call.new.pats) c.call.result c.call.ensures
+pub returns-clause-memory_told : goal.returns-clause-memory_told
+returns-clause-memory_told g c = calls.memory_told c.args.words.now c.args.moment (g.I.Inputs.shown c.args.inputs.now) (g.I.Inputs.shown c.call.new.inputs) (g.S.Site.shown c.args.site.now) (g.S.Site.shown c.call.new.site) (g.O.Sink.shown c.args.out.now) (g.O.Sink.shown c.call.new.out) (g.P.Patterns.shown c.args.pats.now) (g.P.Patterns.shown c.call.new.pats) c.call.result c.call.ensures
+
+pub returns-clause-pattern_or_visits : goal.returns-clause-pattern_or_visits
+returns-clause-pattern_or_visits g c = calls.pattern_or_visits c.args.words.now c.args.moment (g.I.Inputs.shown c.args.inputs.now) (g.I.Inputs.shown c.call.new.inputs) (g.S.Site.shown c.args.site.now) (g.S.Site.shown c.call.new.site) (g.O.Sink.shown c.args.out.now) (g.O.Sink.shown c.call.new.out) (g.P.Patterns.shown c.args.pats.now) (g.P.Patterns.shown c.call.new.pats) c.call.result c.call.ensures
 
 pub returns-clause-patterns_kept : goal.returns-clause-patterns_kept
 returns-clause-patterns_kept g c = calls.patterns_kept c.args.words.now c.args.moment (g.I.Inputs.shown c.args.inputs.now) (g.I.Inputs.shown c.call.new.inputs) (g.S.Site.shown c.args.site.now) (g.S.Site.shown c.call.new.site) (g.O.Sink.shown c.args.out.now) (g.O.Sink.shown c.call.new.out) (g.P.Patterns.shown c.args.pats.now) (g.P.Patterns.shown c.call.new.pats) c.call.result c.call.ensures

@@ -6,6 +6,7 @@ returns c = one_thing (record {
   tree_one = c.a_file_has_one_answer.ensures.tree;
   file_line = c.a_file_has_one_answer.ensures.line;
   file_both = c.a_file_has_one_answer.ensures.never_both;
+  policy_tree = c.a_policy_has_one_answer.ensures.tree;
   policy_line = c.a_policy_has_one_answer.ensures.line;
   policy_both = c.a_policy_has_one_answer.ensures.never_both;
   journal_one = c.one_journal.ensures.one;

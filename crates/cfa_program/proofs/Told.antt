@@ -1,0 +1,64 @@
+-- What holds of what an object of the outside tells.
+use Rattle.std.proofs.Common.{◌≡◌, ℕ, List, [], ◌++◌, Some, None, Option, Result, Ok, Err, IsErrAnd, refl, sym, ap, subst, ◌∙◌, append-nil, IfSome}
+use Rattle.cfa_base.specs.Causes.{Rose}
+use Rattle.cfa_base.specs.Shown.{Shown, Untouched}
+use Rattle.cfa_outside.specs.Sites.{Told, adds}
+use Rattle.cfa_agent.specs.Ran.{IfBothTold}
+use Rattle.cfa_program.specs.Done.{HasFault}
+
+pub some_weaker : {A : Type 0} (o : Option A) (P Q : A → Type 0) → ((x : A) → o ≡ Some x → P x → Q x) → IfSome o P → IfSome o Q
+some_weaker None P Q f h = h
+some_weaker (Some x) P Q f h = f x refl h
+
+pub each_some : {A : Type 0} (o : Option A) (Q : A → Type 0) → ((x : A) → o ≡ Some x → Q x) → IfSome o Q
+each_some None Q f = tt
+each_some (Some x) Q f = f x refl
+
+abbrev pick : {A : Type 0} → A → Option A → A
+pick other None = other
+pick other (Some x) = x
+
+pub some_injective : {A : Type 0} (a b : A) → Some a ≡ Some b → a ≡ b
+some_injective a b e = ap (pick a) e
+
+-- ---- before and after
+
+-- an untouched site tells one thing
+pub untouched_both : (H : Told → Told → Type 0) (site site' : Shown Told) → Untouched site site' → ((t : Told) → H t t) → IfBothTold H site site'
+untouched_both H site site' un f = subst (λ (s : Shown Told). IfBothTold H site s) (sym un) (each site.told) where
+  each : (o : Option Told) → IfSome o (λ before. IfSome o (λ after. H before after))
+  each None = tt
+  each (Some t) = f t
+
+pub both_weaker : (P Q : Told → Told → Type 0) (site site' : Shown Told) → ((before after : Told) → P before after → Q before after) → IfBothTold P site site' → IfBothTold Q site site'
+both_weaker P Q site site' f h = some_weaker site.told _ _ (λ before _ more. some_weaker site'.told _ _ (λ after _ p. f before after p) more) h
+
+pub both : (P Q R : Told → Told → Type 0) (site site' : Shown Told) → ((before after : Told) → P before after → Q before after → R before after) →
+    IfBothTold P site site' → IfBothTold Q site site' → IfBothTold R site site'
+both P Q R site site' f p q = by site.told p q where
+  at_end : (b : Told) (o : Option Told) → IfSome o (P b) → IfSome o (Q b) → IfSome o (R b)
+  at_end b None p q = tt
+  at_end b (Some a) p q = f b a p q
+
+  by : (o : Option Told) → IfSome o (λ b. IfSome site'.told (P b)) → IfSome o (λ b. IfSome site'.told (Q b)) → IfSome o (λ b. IfSome site'.told (R b))
+  by None p q = tt
+  by (Some b) p q = at_end b site'.told p q
+
+-- to add no entry changes nothing
+pub adds_none : (t : Told) → t ≡ adds [] t
+adds_none t i = record { world = t.world; log = sym (append-nil t.log) i }
+
+-- ---- failures
+
+-- what holds of an error holds of a result that hands it on
+pub on_err : {T E : Type 0} (P : Result T E → Type 0) (result : Result T E) (error : E) → IsErrAnd result (λ e. e ≡ error) → P (Err error) → P result
+on_err P (Ok _) error same h = absurd same
+on_err {T} {E} P (Err e) error same h = subst (λ (f : E). P (Err f)) (sym same) h
+
+-- ---- counts of faults
+
+pub fault_along : {T : Type 0} (a b c : Shown T) → b.faults ≡ a.faults → HasFault b c → HasFault a c
+fault_along a b c same h = subst (λ n. Rose n c.faults) same h
+
+pub fault_before : {T : Type 0} (a b c : Shown T) → HasFault a b → c.faults ≡ b.faults → HasFault a c
+fault_before a b c h same = subst (λ n. Rose a.faults n) (sym same) h

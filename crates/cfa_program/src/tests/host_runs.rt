@@ -1,0 +1,114 @@
+// Runs on the real host, in folders that each test makes where it runs. They put what runs on a host in memory put.
+use super::run_tables::compare_row_on;
+use super::worlds::parts;
+use cfa_base::{Name, unescape};
+use cfa_hostdir::HostSite;
+use std::fs;
+use std::test::Fail;
+
+const PASSES: &str = "passes
+bundle agent main
+{
+  files:
+    c3::
+    '/a4' create => 'true', classes => both('c4');
+    c2::
+    '/a3' create => 'true', classes => both('c3');
+    c1::
+    '/a2' create => 'true', classes => both('c2');
+    any::
+    '/a1' create => 'true', classes => both('c1');
+}
+$ 0 run a.cf -K
+repaired main:4@11 1
+repaired main:3@9 1
+repaired main:2@7 1
+total kept 0 repaired 3 failed 0 skipped 0
+$ 0 run a.cf -K
+total kept 3 repaired 0 failed 0 skipped 0
+$ 0 run a.cf
+total kept 3 repaired 0 failed 0 skipped 0
+$ 0 run a.cf
+total kept 0 repaired 0 failed 0 skipped 1
+";
+
+const SETTINGS: &str = "settings
++ file /sshd_config Port%2022%0A
++ service sshd running enabled 0
+bundle agent main
+{
+  vars:
+    'settings' slist => { 'Port 22', 'PermitRootLogin no', 'X11Forwarding no' };
+  files:
+    '/sshd_config'
+      edit_line => add(@(settings)),
+      classes => if_repaired('ssh_changed');
+  services:
+    ssh_changed::
+      'sshd' service_policy => 'restart';
+}
+$ 0 run a.cf -K
+repaired main:2@6 1
+repaired main:3@11 1
+total kept 0 repaired 2 failed 0 skipped 0
+$ 0 run a.cf -K
+total kept 1 repaired 0 failed 0 skipped 0
+";
+
+const LINES: &str = "lines
++ file /t x
+bundle agent main { files: '/t' edit_line => add('x'); '/t' edit_line => add('y'); '/d/.' create => 'true', perms => m('750');
+  '/d/f' content => 'f', perms => m('640'); '/d' delete => tidy; '/no' copy_from => local_cp('/none'); }
+$ 2 run a.cf -K
+repaired main:2@1 1
+repaired main:3@1 2
+repaired main:4@2 2
+failed main:5@2 F3 Obstructed
+failed main:6@2 F2 Missing
+total kept 1 repaired 3 failed 2 skipped 0
+$ 2 run a.cf -K
+failed main:5@2 F3 Obstructed
+failed main:6@2 F2 Missing
+total kept 4 repaired 0 failed 2 skipped 0
+";
+
+// Puts a file of a heading into the folder of a host.
+fn put_given(rt: &HostRuntime, folder: &str, given: &str) -> Result<(), Fail> {
+    let alloc = rt.alloc();
+    let (kind, text) = parts(given, " ");
+    if kind == "file" {
+        let (path, field) = parts(text, " ");
+        let content = unescape(alloc, &Name::from_text(alloc, field)?)?;
+        let file = format!(in alloc; "{folder}/tree{path}")?;
+        fs::write(rt, file.as_str(), content.as_str())?;
+    } else {
+        let file = format!(in alloc; "{folder}/services.tab")?;
+        let row = format!(in alloc; "{text}\n")?;
+        fs::write(rt, file.as_str(), row.as_str())?;
+    }
+    Ok(())
+}
+
+// The host of a row in a new folder.
+fn host_in(rt: &HostRuntime, folder: &str, row: &str) -> Result<HostSite<HostRuntime>, Fail> {
+    let alloc = rt.alloc();
+    let _ = fs::remove_dir_all(rt, folder);
+    fs::create_dir(rt, folder)?;
+    let tree = format!(in alloc; "{folder}/tree")?;
+    fs::create_dir(rt, tree.as_str())?;
+    for line in row.lines() {
+        if let Some(given) = line.strip_prefix("+ ") {
+            put_given(rt, folder, given)?;
+        }
+    }
+    Ok(HostSite::new(rt.clone()?, Name::from_text(alloc, folder)?))
+}
+
+#[test]
+fn runs_in_folders(rt: HostRuntime) -> Result<(), Fail> {
+    for (folder, row) in [("passes", PASSES), ("settings", SETTINGS), ("lines", LINES)] {
+        let mut site = host_in(&rt, folder, row)?;
+        compare_row_on(&rt, rt.alloc(), row, &mut site)?;
+    }
+    Ok(())
+}

@@ -1,0 +1,230 @@
+// Runs of a policy whose service follows the lines of a file, where all goes well and where each call on the site fails.
+use super::run_tables::{compare_framed, compare_row_on};
+use super::worlds::site_of;
+use cfa_outside::MemorySite;
+use std::test::Fail;
+
+// A file is to have each setting as a line, and its service is restarted where it had not.
+const SSH: &str = "bundle agent main
+{
+  vars:
+    'settings' slist => { 'Port 22', 'PermitRootLogin no', 'X11Forwarding no' };
+  files:
+    '/etc/ssh/sshd_config'
+      edit_line => ensure(@(settings)),
+      classes => if_repaired('ssh_changed');
+  services:
+    ssh_changed::
+      'sshd' service_policy => 'restart';
+}
+bundle edit_line ensure(lines)
+{
+  insert_lines:
+    '$(lines)';
+}
+";
+
+const SSH_RUNS: &str = "== both runs
++ dir /etc
++ dir /etc/ssh
++ file /etc/ssh/sshd_config Port%2022%0A
++ service sshd running enabled 0
+$ 0 run a.cf -K
+> append run 1704103200
+> append open 1 main:2@6 |main 2;edit /etc/ssh/sshd_config i:end::Port%2022,i:end::PermitRootLogin%20no,i:end::X11Forwarding%20no;k=;r=ssh_changed;f=;e=1|
+> file /etc/ssh/sshd_config=Port%2022%0APermitRootLogin%20no%0AX11Forwarding%20no%0A
+> append done 1 repaired 1
+> append open 2 main:3@11 |main 3;restart sshd;k=;r=;f=;e=1|
+> service sshd running enabled 1
+> append done 2 repaired 1
+repaired main:2@6 1
+repaired main:3@11 1
+total kept 0 repaired 2 failed 0 skipped 0
+$ 0 run a.cf -K
+total kept 1 repaired 0 failed 0 skipped 0
+";
+
+#[test]
+fn a_service_follows_its_settings(rt: HostRuntime) -> Result<(), Fail> {
+    compare_framed(&rt, rt.alloc(), SSH, SSH_RUNS)
+}
+
+// Each call of the first run on its site fails in turn.
+const SSH_FAILURES: &str = "== the file can't be looked at, and no service is restarted
++ dir /etc
++ dir /etc/ssh
++ file /etc/ssh/sshd_config Port%2022%0A
++ service sshd running enabled 0
+! 1
+$ 2 run a.cf -K
+> refused Look
+> append run 1704103200
+> append fail 1 main:2@6 |main 2;edit /etc/ssh/sshd_config i:end::Port%2022,i:end::PermitRootLogin%20no,i:end::X11Forwarding%20no;k=;r=ssh_changed;f=;e=1| F11
+failed main:2@6 F11 Fault
+total kept 0 repaired 0 failed 1 skipped 0
+== the file can't be read
++ dir /etc
++ dir /etc/ssh
++ file /etc/ssh/sshd_config Port%2022%0A
++ service sshd running enabled 0
+! 2
+$ 2 run a.cf -K
+> refused Read
+> append run 1704103200
+> append fail 1 main:2@6 |main 2;edit /etc/ssh/sshd_config i:end::Port%2022,i:end::PermitRootLogin%20no,i:end::X11Forwarding%20no;k=;r=ssh_changed;f=;e=1| F11
+failed main:2@6 F11 Fault
+total kept 0 repaired 0 failed 1 skipped 0
+== the record of the run can't be written
++ dir /etc
++ dir /etc/ssh
++ file /etc/ssh/sshd_config Port%2022%0A
++ service sshd running enabled 0
+! 3
+$ 4 run a.cf -K
+> refused Change
+stopped: outside
+== the repair can't be recorded
++ dir /etc
++ dir /etc/ssh
++ file /etc/ssh/sshd_config Port%2022%0A
++ service sshd running enabled 0
+! 4
+$ 4 run a.cf -K
+> append run 1704103200
+> refused Change
+stopped: outside
+== the file can't be put
++ dir /etc
++ dir /etc/ssh
++ file /etc/ssh/sshd_config Port%2022%0A
++ service sshd running enabled 0
+! 5
+$ 2 run a.cf -K
+> append run 1704103200
+> append open 1 main:2@6 |main 2;edit /etc/ssh/sshd_config i:end::Port%2022,i:end::PermitRootLogin%20no,i:end::X11Forwarding%20no;k=;r=ssh_changed;f=;e=1|
+> refused Change
+> append done 1 failed F11
+failed main:2@6 F11 Fault
+total kept 0 repaired 0 failed 1 skipped 0
+== the end of the repair can't be recorded
++ dir /etc
++ dir /etc/ssh
++ file /etc/ssh/sshd_config Port%2022%0A
++ service sshd running enabled 0
+! 6
+$ 4 run a.cf -K
+> append run 1704103200
+> append open 1 main:2@6 |main 2;edit /etc/ssh/sshd_config i:end::Port%2022,i:end::PermitRootLogin%20no,i:end::X11Forwarding%20no;k=;r=ssh_changed;f=;e=1|
+> file /etc/ssh/sshd_config=Port%2022%0APermitRootLogin%20no%0AX11Forwarding%20no%0A
+> refused Change
+stopped: outside
+== the service can't be looked at
++ dir /etc
++ dir /etc/ssh
++ file /etc/ssh/sshd_config Port%2022%0A
++ service sshd running enabled 0
+! 7
+$ 2 run a.cf -K
+> append run 1704103200
+> append open 1 main:2@6 |main 2;edit /etc/ssh/sshd_config i:end::Port%2022,i:end::PermitRootLogin%20no,i:end::X11Forwarding%20no;k=;r=ssh_changed;f=;e=1|
+> file /etc/ssh/sshd_config=Port%2022%0APermitRootLogin%20no%0AX11Forwarding%20no%0A
+> append done 1 repaired 1
+> refused Service
+> append fail 2 main:3@11 |main 3;restart sshd;k=;r=;f=;e=1| F11
+repaired main:2@6 1
+failed main:3@11 F11 Fault
+total kept 0 repaired 1 failed 1 skipped 0
+== the restart can't be recorded
++ dir /etc
++ dir /etc/ssh
++ file /etc/ssh/sshd_config Port%2022%0A
++ service sshd running enabled 0
+! 8
+$ 4 run a.cf -K
+> append run 1704103200
+> append open 1 main:2@6 |main 2;edit /etc/ssh/sshd_config i:end::Port%2022,i:end::PermitRootLogin%20no,i:end::X11Forwarding%20no;k=;r=ssh_changed;f=;e=1|
+> file /etc/ssh/sshd_config=Port%2022%0APermitRootLogin%20no%0AX11Forwarding%20no%0A
+> append done 1 repaired 1
+> refused Change
+repaired main:2@6 1
+stopped: outside
+== the service can't be restarted
++ dir /etc
++ dir /etc/ssh
++ file /etc/ssh/sshd_config Port%2022%0A
++ service sshd running enabled 0
+! 9
+$ 2 run a.cf -K
+> append run 1704103200
+> append open 1 main:2@6 |main 2;edit /etc/ssh/sshd_config i:end::Port%2022,i:end::PermitRootLogin%20no,i:end::X11Forwarding%20no;k=;r=ssh_changed;f=;e=1|
+> file /etc/ssh/sshd_config=Port%2022%0APermitRootLogin%20no%0AX11Forwarding%20no%0A
+> append done 1 repaired 1
+> append open 2 main:3@11 |main 3;restart sshd;k=;r=;f=;e=1|
+> refused Change
+> append done 2 failed F11
+repaired main:2@6 1
+failed main:3@11 F11 Fault
+total kept 0 repaired 1 failed 1 skipped 0
+== the end of the restart can't be recorded
++ dir /etc
++ dir /etc/ssh
++ file /etc/ssh/sshd_config Port%2022%0A
++ service sshd running enabled 0
+! 10
+$ 4 run a.cf -K
+> append run 1704103200
+> append open 1 main:2@6 |main 2;edit /etc/ssh/sshd_config i:end::Port%2022,i:end::PermitRootLogin%20no,i:end::X11Forwarding%20no;k=;r=ssh_changed;f=;e=1|
+> file /etc/ssh/sshd_config=Port%2022%0APermitRootLogin%20no%0AX11Forwarding%20no%0A
+> append done 1 repaired 1
+> append open 2 main:3@11 |main 3;restart sshd;k=;r=;f=;e=1|
+> service sshd running enabled 1
+> refused Change
+repaired main:2@6 1
+stopped: outside
+";
+
+#[test]
+fn a_service_follows_its_settings_or_tells_why_not(rt: HostRuntime) -> Result<(), Fail> {
+    compare_framed(&rt, rt.alloc(), SSH, SSH_FAILURES)
+}
+
+const HOST: &str = "+ dir /etc
++ dir /etc/ssh
++ file /etc/ssh/sshd_config Port%2022%0A
++ service sshd running enabled 0
+";
+
+const NOTHING: &str = "stopped: outside\n";
+
+const FILE: &str = "repaired main:2@6 1\nstopped: outside\n";
+
+const ALL: &str =
+    "repaired main:2@6 1\nrepaired main:3@11 1\ntotal kept 0 repaired 2 failed 0 skipped 0\n";
+
+const KEPT: &str = "total kept 1 repaired 0 failed 0 skipped 0\n";
+
+// The run is stopped behind so many changes: what it puts, and what the next run on the world left puts. Once the file stands its
+// service isn't restarted any more.
+const STOPS: [(u32, &str, &str); 7] = [
+    (0, NOTHING, ALL),
+    (1, NOTHING, ALL),
+    (2, NOTHING, ALL),
+    (3, NOTHING, KEPT),
+    (4, FILE, KEPT),
+    (5, FILE, KEPT),
+    (6, FILE, KEPT),
+];
+
+#[test]
+fn a_run_goes_on_where_a_stopped_one_ended(rt: HostRuntime) -> Result<(), Fail> {
+    let alloc = rt.alloc();
+    for (changes, first, second) in STOPS {
+        let mut site = site_of(alloc, format!(in alloc; "{HOST}!! {changes}")?.as_str())?;
+        let row = format!(in alloc; "stopped\n{SSH}\n$ 4 run a.cf -K\n{first}")?;
+        compare_row_on(&rt, alloc, row.as_str(), &mut site)?;
+        let mut left = MemorySite::new(alloc, site.into_world(), Vec::new(alloc), None)?;
+        let row = format!(in alloc; "again\n{SSH}\n$ 0 run a.cf -K\n{second}")?;
+        compare_row_on(&rt, alloc, row.as_str(), &mut left)?;
+    }
+    Ok(())
+}

@@ -1,0 +1,101 @@
+// Hosts by the lines of a table, each of which begins with a plus sign.
+use super::run_logs::with_keys;
+use cfa_base::{Bytes, Name, unescape};
+use cfa_outside::{MemorySite, Node, Path, Perms, ServiceRow, World};
+use std::alloc::Global;
+use std::process::Abort;
+use std::test::Fail;
+
+// The two parts of a text round what stands first between them, or the text and nothing.
+pub fn parts<'a>(text: &'a str, between: &str) -> (&'a str, &'a str) {
+    match text.split_once(between) {
+        Some(sides) => sides,
+        None => (text, ""),
+    }
+}
+
+fn root_perms(alloc: Global, mode: u16) -> Result<Perms, Fail> {
+    Ok(Perms {
+        mode,
+        owner: Name::from_text(alloc, "root")?,
+        group: Name::from_text(alloc, "root")?,
+    })
+}
+
+fn path_of(alloc: Global, text: &str) -> Result<Path, Fail> {
+    Ok(Path::read(alloc, &Name::from_text(alloc, text)?)?)
+}
+
+fn add_file(alloc: Global, world: &mut World, path: &str, bytes: &[u8]) -> Result<(), Fail> {
+    let file = Node::File(Bytes::from_slice(alloc, bytes)?, root_perms(alloc, 0o600)?);
+    Ok(world.nodes.add(alloc, &path_of(alloc, path)?, file)?)
+}
+
+fn add_dir(alloc: Global, world: &mut World, path: &str) -> Result<(), Fail> {
+    let dir = Node::Dir(root_perms(alloc, 0o700)?);
+    Ok(world.nodes.add(alloc, &path_of(alloc, path)?, dir)?)
+}
+
+fn add_service(alloc: Global, world: &mut World, text: &str) -> Result<(), Fail> {
+    let (name, rest) = parts(text, " ");
+    let (running, rest) = parts(rest, " ");
+    let (enabled, restarts) = parts(rest, " ");
+    let row = ServiceRow {
+        running: running == "running",
+        enabled: enabled == "enabled",
+        restarts: restarts.parse::<u32>().unwrap_or(0),
+    };
+    Ok(world.services.insert(String::from_str(alloc, name)?, row)?)
+}
+
+fn add_lock(alloc: Global, world: &mut World, text: &str) -> Result<(), Fail> {
+    let lock = with_keys(alloc, text)?;
+    let (key, moment) = parts(lock.as_str(), " ");
+    let moment = moment.parse::<u64>().unwrap_or(0);
+    Ok(world.locks.insert(String::from_str(alloc, key)?, moment)?)
+}
+
+// A file of so many times the letter a.
+fn add_long(alloc: Global, world: &mut World, text: &str) -> Result<(), Fail> {
+    let (path, size) = parts(text, " ");
+    let bytes = vec![in alloc; b'a'; size.parse::<usize>().unwrap_or(0)]?;
+    add_file(alloc, world, path, bytes.as_slice())
+}
+
+fn add_given(alloc: Global, world: &mut World, given: &str) -> Result<(), Fail> {
+    let (kind, text) = parts(given, " ");
+    match kind {
+        "dir" => add_dir(alloc, world, text),
+        "raw" => add_file(alloc, world, text, &[255]),
+        "long" => add_long(alloc, world, text),
+        "service" => add_service(alloc, world, text),
+        "lock" => add_lock(alloc, world, text),
+        _ => {
+            let (path, field) = parts(text, " ");
+            let content = unescape(alloc, &Name::from_text(alloc, field)?)?;
+            add_file(alloc, world, path, content.as_str().as_bytes())
+        }
+    }
+}
+
+// The site in memory of a heading: `+ dir PATH`, `+ file PATH BYTES` with the bytes as an escaped field, `+ raw PATH` of one byte
+// that begins no text, `+ long PATH SIZE`, `+ service NAME running|stopped enabled|disabled RESTARTS` and
+// `+ lock |KEY TEXT| MOMENT`. Its call of the number behind `! ` fails, and each call once as many changes were made as stand
+// behind `!! `.
+pub fn site_of(alloc: Global, heading: &str) -> Result<MemorySite, Fail> {
+    let mut world = World::new(alloc);
+    let mut failing_call = 0;
+    let mut stop = None;
+    for line in heading.lines() {
+        if let Some(given) = line.strip_prefix("+ ") {
+            add_given(alloc, &mut world, given)?;
+        }
+        if let Some(number) = line.strip_prefix("! ") {
+            failing_call = number.parse::<u32>().unwrap_or(0);
+        }
+        if let Some(changes) = line.strip_prefix("!! ") {
+            stop = changes.parse::<u32>().ok();
+        }
+    }
+    Ok(MemorySite::new(alloc, world, vec![in alloc; failing_call]?, stop)?)
+}
