@@ -1,0 +1,9 @@
+pub mod FirstLemmas
+pub mod NameLemmas
+pub mod NumberLemmas
+pub mod OrderLemmas
+pub mod QuietLemmas
+pub mod RowLemmas
+pub mod SoughtLemmas
+pub mod TargetLemmas
+pub mod VerdictLemmas

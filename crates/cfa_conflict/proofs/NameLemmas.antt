@@ -1,0 +1,46 @@
+-- An instance is visited where the place of its name is found.
+use Rattle.std.proofs.Common.{◌≡◌, ℕ, ◌+◌, Bool, true, false, ◌||◌, ◌&&◌, cond, List, [], ◌∷◌, Some, refl, ap, ◌∙◌}
+use Rattle.std.specs.List.{list_any, position_from}
+use Rattle.std.specs.Option.{is_some}
+use Rattle.std.specs.Str.{bytes_eq}
+use Rattle.std.proofs.lemmas.Cmp.{nat_list_eq_equiv}
+use Rattle.std.proofs.lemmas.Iterator.Adapters.{position_from-zero}
+use Rattle.cfa_base.specs.Index.{Text, same_pair, pair_place_of}
+use Rattle.cfa_resolve.specs.declared.instances.Instance.{Instance}
+use Rattle.cfa_walk.specs.declared.walks.Walk.{Walk}
+use Rattle.cfa_walk.specs.History.{is_named}
+use Rattle.cfa_conflict.specs.Conflicts.{has_acts, is_live}
+use Rattle.cfa_conflict.specs.Names.{name_of, names_of}
+
+found_from : {X : Type 0} (test : X → Bool) (xs : List X) (i : ℕ) → is_some (position_from test i xs) ≡ list_any test xs
+found_from test [] i = refl
+found_from test (x ∷ xs) i =
+    elim (test x) as (λ b. is_some (cond b (Some i) (position_from test (i + 1) xs)) ≡ (b || list_any test xs))
+    [ true ↦ refl | false ↦ found_from test xs (i + 1) ]
+
+same_bytes : (x y : List ℕ) → bytes_eq x y ≡ bytes_eq y x
+same_bytes x y = nat_list_eq_equiv.symm x y
+
+same_name : (path text : List ℕ) (instance : Instance) → same_pair (path, text) (name_of instance) ≡ is_named path text instance
+same_name path text instance =
+    ap (λ b. b && bytes_eq text instance.text) (same_bytes path instance.path)
+    ∙ ap (λ b. bytes_eq instance.path path && b) (same_bytes text instance.text)
+
+named_among : (path text : List ℕ) (instances : List Instance)
+    → list_any (same_pair (path, text)) (names_of instances) ≡ list_any (is_named path text) instances
+named_among path text [] = refl
+named_among path text (instance ∷ instances) =
+    ap (λ b. b || list_any (same_pair (path, text)) (names_of instances)) (same_name path text instance)
+    ∙ ap (λ b. is_named path text instance || b) (named_among path text instances)
+
+pub visited_where_named : (path text : List ℕ) (instances : List Instance)
+    → is_some (pair_place_of (names_of instances) (path, text)) ≡ list_any (is_named path text) instances
+visited_where_named path text instances =
+    ap is_some (position_from-zero (same_pair (path, text)) (names_of instances))
+    ∙ found_from (same_pair (path, text)) (names_of instances) 0 ∙ named_among path text instances
+
+pub live_by_names : (kept : Walk) (instance : Instance) (names : List (Text × Text)) → names ≡ names_of kept.instances
+    → (has_acts instance.work && is_some (pair_place_of names (name_of instance))) ≡ is_live kept instance
+live_by_names kept instance names same =
+    ap (λ (n : List (Text × Text)). has_acts instance.work && is_some (pair_place_of n (name_of instance))) same
+    ∙ ap (λ b. has_acts instance.work && b) (visited_where_named instance.path instance.text kept.instances)

@@ -1,0 +1,185 @@
+-- Rows in the order of their targets: those that begin alike stand together.
+use Rattle.std.proofs.Common.{◌≡◌, ℕ, ◌+◌, ◌<◌, ◌≤◌, List, [], ◌∷◌, ◌++◌, length, get_or, take, drop, Bool, true, false, ◌&&◌, cond, eqb, eq-eqb, refl, sym, ap, subst, ◌∙◌, arith}
+use Rattle.std.proofs.lemmas.Bool.{false≢true, false_from_ne_true, eqb-true, and_parts, and_from}
+use Rattle.std.proofs.lemmas.Bool.Decides.{nat_tests}
+use Rattle.std.proofs.lemmas.Cmp.{ranked, nat_list_cmp_total, is_lt_index}
+use Rattle.std.proofs.lemmas.List.{take-append-drop, get_or-drop, get_or-take, length-drop, length-take-le, append-nil}
+use Rattle.std.proofs.lemmas.List.Elements.{filter-append, All-head, All-tail}
+use Rattle.std.proofs.lemmas.List.Sorted.{sorted_far, searchable_from_sorted, ranks_by}
+use Rattle.std.specs.Prelude.{nat_eq}
+use Rattle.std.specs.Cmp.Lexicographic.{slice_cmp}
+use Rattle.std.specs.List.{All, AllWithin, filter, starts_with}
+use Rattle.std.specs.List.Sorted.{IsSorted, IsPartitionedBy, IsPartitionPoint}
+use Rattle.std.specs.Ordering.{is_lt, is_gt, nat_cmp, ordering_then, ordering_reverse, ordering_index}
+use Rattle.std.specs.declared.cmp.Ordering.{Ordering}
+use Rattle.std.specs.declared.cmp.Ordering.TheVariants.{Less, Equal, Greater}
+use denote.Ref.{Bor}
+use Rattle.cfa_base.specs.Index.{Text}
+use Rattle.cfa_conflict.specs.Targets.{AreSorted, is_row_before, begins_with}
+
+abbrev text_cmp : Text → Text → Ordering
+text_cmp = slice_cmp nat_cmp
+
+-- ---- texts that begin alike
+
+level : (x y : ℕ) → x ≡ y → nat_cmp x y ≡ Equal
+level x y same = grind (arith, nat_tests)
+
+not_above : (x y : ℕ) (o : Ordering) → is_gt (ordering_then (nat_cmp x y) o) ≡ false → x ≤ y
+not_above x y o le =
+    elim (nat_cmp x y) as (λ r. r ≡ nat_cmp x y → is_gt (ordering_then r o) ≡ false → x ≤ y) [
+      | Less ↦ λ e _. let lt : x < y = ranked x y Less e in omega arith
+      | Equal ↦ λ e _. let same : x ≡ y = ranked x y Equal e in omega arith
+      | Greater ↦ λ e is. absurd (false≢true (sym is))
+    ] refl le
+
+rest_above : (x y : ℕ) (o : Ordering) → x ≡ y → is_gt (ordering_then (nat_cmp x y) o) ≡ false → is_gt o ≡ false
+rest_above x y o same le = ap (λ r. is_gt (ordering_then r o)) (sym (level x y same)) ∙ le
+
+heads_agree : (x y : ℕ) (b : Bool) → (nat_eq x y && b) ≡ true → x ≡ y
+heads_agree x y b is = eqb-true x y (and_parts (eqb x y) b is).0
+
+tails_agree : (x y : ℕ) (b : Bool) → (nat_eq x y && b) ≡ true → b ≡ true
+tails_agree x y b is = (and_parts (eqb x y) b is).1
+
+-- a text that begins with a front isn't before it
+from_front : (front text : Text) → starts_with nat_eq text front ≡ true → is_gt (text_cmp front text) ≡ false
+from_front [] [] is = refl
+from_front [] (y ∷ ys) is = refl
+from_front (x ∷ xs) [] is = absurd (false≢true is)
+from_front (x ∷ xs) (y ∷ ys) is =
+    let heads : x ≡ y = heads_agree x y (starts_with nat_eq ys xs) is in
+    ap (λ o. is_gt (ordering_then o (text_cmp xs ys))) (level x y heads) ∙ from_front xs ys (tails_agree x y (starts_with nat_eq ys xs) is)
+
+-- what stands between a front and a text that begins with it begins with it
+between : (front low high : Text) → is_gt (text_cmp front low) ≡ false → is_gt (text_cmp low high) ≡ false → starts_with nat_eq high front ≡ true → starts_with nat_eq low front ≡ true
+between [] low high a b is = refl
+between (x ∷ xs) [] high a b is = absurd (false≢true (sym a))
+between (x ∷ xs) (y ∷ ys) [] a b is = absurd (false≢true is)
+between (x ∷ xs) (y ∷ ys) (z ∷ zs) a b is =
+    let same : x ≡ z = heads_agree x z (starts_with nat_eq zs xs) is in
+    let low : x ≤ y = not_above x y (text_cmp xs ys) a in
+    let high : y ≤ z = not_above y z (text_cmp ys zs) b in
+    let here : x ≡ y = omega arith in
+    let there : y ≡ z = omega arith in
+    and_from (nat_eq x y) (starts_with nat_eq ys xs) (eq-eqb x y here) (between xs ys zs (rest_above x y (text_cmp xs ys) here a) (rest_above y z (text_cmp ys zs) there b) (tails_agree x z (starts_with nat_eq zs xs) is))
+
+-- ---- the order of the rows
+
+lt_back : (o : Ordering) → is_gt (ordering_reverse o) ≡ is_lt o
+lt_back Less = refl
+lt_back Equal = refl
+lt_back Greater = refl
+
+-- not before is not above the other way round
+upto : (low high : Text) → is_lt (text_cmp high low) ≡ false → is_gt (text_cmp low high) ≡ false
+upto low high le = ap is_gt (nat_list_cmp_total.antisymm low high) ∙ lt_back (text_cmp high low) ∙ le
+
+not_before_front : (front text : Text) → starts_with nat_eq text front ≡ true → is_lt (text_cmp text front) ≡ false
+not_before_front front text is =
+    sym (lt_back (text_cmp text front)) ∙ sym (ap is_gt (nat_list_cmp_total.antisymm front text)) ∙ from_front front text is
+
+first_then : (o p : Ordering) → is_lt (ordering_then o p) ≡ false → is_lt o ≡ false
+first_then Less p le = le
+first_then Equal p le = refl
+first_then Greater p le = refl
+
+abbrev row_cmp : Bor Text × ℕ → Bor Text × ℕ → Ordering
+row_cmp x y = ordering_then (text_cmp x.0.now y.0.now) (nat_cmp x.1 y.1)
+
+-- what a sort leaves
+pub AreSorted-from_sort : (rows : List (Bor Text × ℕ)) → IsSorted row_cmp rows → AreSorted rows
+AreSorted-from_sort rows up = λ k d low high.
+    first_then (text_cmp (get_or rows (k + 1) d).0.now (get_or rows k d).0.now) (nat_cmp (get_or rows (k + 1) d).1 (get_or rows k d).1) (up k d low high)
+
+far : (rows : List (Bor Text × ℕ)) → AreSorted rows → (i j : ℕ) (d : Bor Text × ℕ) → i ≤ j → j < length rows → is_row_before (get_or rows j d) (get_or rows i d) ≡ false
+far rows up i j d le lt = sorted_far is_row_before (ranks_by nat_list_cmp_total (λ (row : Bor Text × ℕ). row.0.now)) rows up i j d le lt
+
+-- ---- where a search of them stops
+
+zero_below : (m n : ℕ) → m ≤ n → eqb n 0 ≡ true → eqb m 0 ≡ true
+zero_below m n le is = grind (arith, nat_tests)
+
+abbrev pub is_before : Text → Bor Text × ℕ → Bool
+is_before key row = is_lt (text_cmp row.0.now key)
+
+pub parted_by_key : (rows : List (Bor Text × ℕ)) (key : Text) → AreSorted rows → IsPartitionedBy (is_before key) rows
+parted_by_key rows key up = λ i j d le lt is.
+    let rises = searchable_from_sorted nat_list_cmp_total (λ (row : Bor Text × ℕ). row.0.now) rows key up i j d le lt in
+    let low = text_cmp (get_or rows i d).0.now key in
+    let high = text_cmp (get_or rows j d).0.now key in
+    is_lt_index low ∙ zero_below (ordering_index low) (ordering_index high) rises (sym (is_lt_index high) ∙ is)
+
+-- the rows from a place on, none of which is before the front
+pub parted_by_front : (rows : List (Bor Text × ℕ)) (front : Text) (start : ℕ) → AreSorted rows
+    → AllWithin (λ row. is_before front row ≡ false) rows start (length rows) → IsPartitionedBy (begins_with front) (drop start rows)
+parted_by_front rows front start up late = λ i j d le lt is.
+    let within : start + j < length rows = omega (arith, length-drop start rows) in
+    let at : get_or (drop start rows) i d ≡ get_or rows (start + i) d = get_or-drop start rows i d in
+    let there : get_or (drop start rows) j d ≡ get_or rows (start + j) d = get_or-drop start rows j d in
+    let low = (get_or rows (start + i) d).0.now in
+    let high = (get_or rows (start + j) d).0.now in
+    let found : starts_with nat_eq high front ≡ true = ap (begins_with front) (sym there) ∙ is in
+    let above = upto front low (late (start + i) d (omega arith) (omega arith)) in
+    let up_to = upto low high (far rows up (start + i) (start + j) d (omega arith) within) in
+    ap (begins_with front) at ∙ between front low high above up_to found
+
+-- ---- what a filter keeps of a part
+
+none_kept : {X : Type 0} (test : X → Bool) (xs : List X) → All (λ x. test x ≡ false) xs → filter test xs ≡ []
+none_kept test [] none = refl
+none_kept test (x ∷ xs) none =
+    ap (λ b. cond b (x ∷ filter test xs) (filter test xs)) (All-head (λ x. test x ≡ false) x xs none)
+    ∙ none_kept test xs (All-tail (λ x. test x ≡ false) x xs none)
+
+all_kept : {X : Type 0} (test : X → Bool) (xs : List X) → All (λ x. test x ≡ true) xs → filter test xs ≡ xs
+all_kept test [] all = refl
+all_kept test (x ∷ xs) all =
+    ap (λ b. cond b (x ∷ filter test xs) (filter test xs)) (All-head (λ x. test x ≡ true) x xs all)
+    ∙ ap (λ l. x ∷ l) (all_kept test xs (All-tail (λ x. test x ≡ true) x xs all))
+
+All-taken : {X : Type 0} (P : X → Type 0) (xs : List X) (n : ℕ) → n ≤ length xs → AllWithin P xs 0 n → All P (take n xs)
+All-taken P xs n le within = λ k d lt.
+    let below : k < n = omega (arith, length-take-le n xs le) in
+    subst P (sym (get_or-take n xs k d below)) (within k d (omega arith) below)
+
+All-dropped : {X : Type 0} (P : X → Type 0) (xs : List X) (n : ℕ) → AllWithin P xs n (length xs) → All P (drop n xs)
+All-dropped P xs n within = λ k d lt.
+    subst P (sym (get_or-drop n xs k d)) (within (n + k) d (omega arith) (omega (arith, length-drop n xs)))
+
+pub kept_between : {X : Type 0} (test : X → Bool) (xs : List X) (start end : ℕ) → start ≤ length xs → end ≤ length (drop start xs)
+    → AllWithin (λ x. test x ≡ false) xs 0 start
+    → AllWithin (λ x. test x ≡ true) (drop start xs) 0 end
+    → AllWithin (λ x. test x ≡ false) (drop start xs) end (length (drop start xs))
+    → take end (drop start xs) ≡ filter test xs
+kept_between test xs start end low high front found back =
+    let rest = drop start xs in
+    let before = none_kept test (take start xs) (All-taken (λ x. test x ≡ false) xs start low front) in
+    let here = all_kept test (take end rest) (All-taken (λ x. test x ≡ true) rest end high found) in
+    let behind = none_kept test (drop end rest) (All-dropped (λ x. test x ≡ false) rest end back) in
+    let split = ap (filter test) (sym (take-append-drop end rest)) ∙ filter-append test (take end rest) (drop end rest)
+    ∙ ap (λ l. filter test (take end rest) ++ l) behind ∙ append-nil (filter test (take end rest)) ∙ here in
+    sym (ap (filter test) (sym (take-append-drop start xs)) ∙ filter-append test (take start xs) rest
+    ∙ ap (λ l. l ++ filter test rest) before ∙ split)
+
+-- before the front no row begins with it
+pub none_before : (rows : List (Bor Text × ℕ)) (front : Text) (start : ℕ) → AllWithin (λ row. is_before front row ≡ true) rows 0 start
+    → AllWithin (λ row. begins_with front row ≡ false) rows 0 start
+none_before rows front start early = λ k d low high.
+    let row = get_or rows k d in
+    false_from_ne_true (begins_with front row) (λ is. false≢true (sym (not_before_front front row.0.now is) ∙ early k d low high))
+
+-- what two searches find
+pub begin_together : (rows rest found : List (Bor Text × ℕ)) (front : Text) (start end : ℕ) → AreSorted rows → start ≤ length rows → rest ≡ drop start rows
+    → end ≤ length rest → found ≡ take end rest
+    → (IsPartitionedBy (is_before front) rows → IsPartitionPoint (λ row. is_before front row ≡ true) (λ row. is_before front row ≡ false) rows start)
+    → (IsPartitionedBy (begins_with front) rest → IsPartitionPoint (λ row. begins_with front row ≡ true) (λ row. begins_with front row ≡ false) rest end)
+    → found ≡ filter (begins_with front) rows
+begin_together rows rest found front start end up low behind high taken first second =
+    let point = first (parted_by_key rows front up) in
+    let parted = parted_by_front rows front start up point.1 in
+    let last = second (subst (λ (l : List (Bor Text × ℕ)). IsPartitionedBy (begins_with front) l) (sym behind) parted) in
+    let bound : end ≤ length (drop start rows) = subst (λ (l : List (Bor Text × ℕ)). end ≤ length l) behind high in
+    let found_here = subst (λ (l : List (Bor Text × ℕ)). AllWithin (λ row. begins_with front row ≡ true) l 0 end) behind last.0 in
+    let none_behind = subst (λ (l : List (Bor Text × ℕ)). AllWithin (λ row. begins_with front row ≡ false) l end (length l)) behind last.1 in
+    taken ∙ ap (take end) behind ∙ kept_between (begins_with front) rows start end low bound (none_before rows front start point.0) found_here none_behind

@@ -1,0 +1,5 @@
+pub mod Conflicts
+pub mod Firsts
+pub mod Names
+pub mod Numbers
+pub mod Targets

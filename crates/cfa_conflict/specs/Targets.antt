@@ -1,0 +1,97 @@
+-- Of the code alone: where the acts are that can disturb an act. An act changes one target, a path or a service. It can disturb
+-- an act that stands on this target, a copy from it, and the deletion of a path at or above it. So each act looks among the acts
+-- of some targets alone.
+use Rattle.std.specs.Prelude.{◌≡◌, ℕ, ◌+◌, Bool, true, false, ◌&&◌, ◌==◌, nat_eq, List, [], ◌∷◌, ◌++◌, length, drop, get_or, map, Option, Some, None}
+use Rattle.std.specs.Cmp.Lexicographic.{slice_cmp}
+use Rattle.std.specs.List.{flat_map, filter, list_any, starts_with}
+use Rattle.std.specs.List.Sorted.{IsSortedBy}
+use Rattle.std.specs.Ordering.{is_lt, nat_cmp}
+use denote.Ref.{Bor}
+use Rattle.cfa_base.specs.Index.{Text}
+use Rattle.cfa_acts.specs.declared.acts.Act.{Act}
+use Rattle.cfa_acts.specs.declared.acts.Act.TheVariants.{Create, MakeDir, Delete, Content, Copy, Edit, Perms, Start, Stop, Enable, Disable, Restart, Bust}
+use Rattle.cfa_resolve.specs.declared.instances.Instance.{Instance}
+use Rattle.cfa_walk.specs.Tellers.{acts_of}
+
+-- a target with the place of an instance that has an act on it
+abbrev pub Row : Type 0
+Row = Text × ℕ
+
+abbrev pub target_of : Act → Option Text
+target_of (Create path) = Some path
+target_of (MakeDir path) = Some path
+target_of (Delete path with_directories) = Some path
+target_of (Content path bytes) = Some path
+target_of (Copy source path) = Some path
+target_of (Edit path script) = Some path
+target_of (Perms path mode owners groups) = Some path
+target_of (Start name) = Some name
+target_of (Stop name) = Some name
+target_of (Enable name) = Some name
+target_of (Disable name) = Some name
+target_of (Restart name) = Some name
+target_of (Bust reason) = None
+
+abbrev pub placed : (place : ℕ) → Option Text → List Row
+placed place None = []
+placed place (Some target) = (target, place) ∷ []
+
+abbrev pub rows_of : (place : ℕ) → List Act → List Row
+rows_of place acts = flat_map (λ act. placed place (target_of act)) acts
+
+-- those of all instances, from a place on
+abbrev pub rows_from : List Instance → (from : ℕ) → List Row
+rows_from [] from = []
+rows_from (instance ∷ instances) from = rows_of from (acts_of instance.work) ++ rows_from instances (from + 1)
+
+-- a row as the code has it
+abbrev pub seen_row : Bor Text × ℕ → Row
+seen_row row = (row.0.now, row.1)
+
+abbrev pub seen_rows : List (Bor Text × ℕ) → List Row
+seen_rows rows = map seen_row rows
+
+-- in the order of the bytes of their targets
+abbrev pub is_row_before : Bor Text × ℕ → Bor Text × ℕ → Bool
+is_row_before row other = is_lt (slice_cmp nat_cmp row.0.now other.0.now)
+
+abbrev pub AreSorted : List (Bor Text × ℕ) → Type 0
+AreSorted rows = IsSortedBy is_row_before rows
+
+-- those of these instances, in some order
+abbrev pub HasRows : List (Bor Text × ℕ) → List Instance → Type 0
+HasRows rows instances = (test : Row → Bool) → list_any test (seen_rows rows) ≡ list_any test (rows_from instances 0)
+
+abbrev pub begins_with : (front : Text) → Bor Text × ℕ → Bool
+begins_with front row = starts_with nat_eq row.0.now front
+
+-- the target is the key; or, where it may be beneath, goes on with a slash
+abbrev pub goes_on : (beneath : Bool) → (rest : Text) → Bool
+goes_on beneath [] = true
+goes_on beneath (byte ∷ rest) = beneath && (byte == 47)
+
+abbrev pub is_sought : (key : Text) → (beneath : Bool) → (target : Text) → Bool
+is_sought key beneath target = starts_with nat_eq target key && goes_on beneath (drop (length key) target)
+
+abbrev pub places_of : List Row → (key : Text) → (beneath : Bool) → List ℕ
+places_of rows key beneath = map (λ (row : Row). row.1) (filter (λ (row : Row). is_sought key beneath row.0) rows)
+
+-- the places of the acts that can disturb an act
+abbrev pub sought : List Row → Act → List ℕ
+sought rows (Create path) = places_of rows path false
+sought rows (MakeDir path) = places_of rows path false
+sought rows (Delete path with_directories) = places_of rows path true
+sought rows (Content path bytes) = places_of rows path false
+sought rows (Copy source path) = places_of rows source false ++ places_of rows path false
+sought rows (Edit path script) = places_of rows path false
+sought rows (Perms path mode owners groups) = places_of rows path false
+sought rows (Start name) = places_of rows name false
+sought rows (Stop name) = places_of rows name false
+sought rows (Enable name) = places_of rows name false
+sought rows (Disable name) = places_of rows name false
+sought rows (Restart name) = []
+sought rows (Bust reason) = []
+
+-- the instance at a place
+abbrev pub IsAt : List Instance → (place : ℕ) → Instance → Type 0
+IsAt instances place instance = (d : Instance) → instance ≡ get_or instances place d

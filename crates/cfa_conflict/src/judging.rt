@@ -1,0 +1,145 @@
+// The verdict.
+ghost use Rattle.std.specs.Prelude.{◌≡◌, ◌<◌, ◌++◌, IfOk, length, vec_len};
+ghost use Rattle.cfa_conflict.specs.Conflicts.{restarts_of, first_visit, unsure_at, undone_in, undone_from, conflicts_from, verdict_of};
+ghost use Rattle.cfa_conflict.specs.Firsts.{first_of};
+ghost use Rattle.cfa_conflict.specs.Targets.{HasRows, IsAt};
+
+use crate::live::{is_live, live_instances, names_of};
+use crate::numbers::VisitIndex;
+use crate::pairs::{
+    acts_of, first_restart, undone_by_itself, undone_by_other, unsettled_conflict, unsure_at,
+};
+use crate::targets::TargetIndex;
+use crate::{Conflict, Verdict};
+use cfa_base::NoMemory;
+use cfa_resolve::Instance;
+use cfa_walk::Walk;
+use std::alloc::Global;
+
+// An instance of a walk with its place.
+#[derive(Clone, Copy)]
+struct Placed<'a> {
+    instance: &'a Instance,
+    place: usize,
+}
+
+// The open walk, with what is looked up in it.
+#[derive(Drop)]
+struct Open<'a> {
+    instances: &'a [Instance],
+    visits: VisitIndex<'a>,
+    targets: TargetIndex<'a>,
+    ghost each_placed: { vec_len visits.firsts ≡ length instances.now },
+    ghost each_aimed: { HasRows targets.rows.items instances.now },
+}
+
+// The first of what the other instance undoes of this one.
+fn undone_in(
+    alloc: Global,
+    visits: &VisitIndex<'_>,
+    one: Placed<'_>,
+    other: Placed<'_>,
+) -> Result<Option<Conflict>, NoMemory>
+    requires place { one.place < vec_len visits.now.firsts }
+    requires other { other.place < vec_len visits.now.firsts }
+    ensures { IfOk result (λ found. found ≡ first_of (undone_in visits.now.visits.now
+        one.entry.instance.now one.entry.place other.entry.instance.now other.entry.place)) }
+{
+    if one.place == other.place {
+        return undone_by_itself(alloc, one.instance);
+    }
+    if visits.is_visited_after(one.place, other.place) {
+        return undone_by_other(alloc, one.instance, other.instance);
+    }
+    Ok(None)
+}
+
+// The first of what any instance undoes of this one. The other ones are looked for by the paths and services of its acts; so
+// this costs as much as they have acts there.
+fn first_undone(
+    alloc: Global,
+    all: &Open<'_>,
+    one: Placed<'_>,
+) -> Result<Option<Conflict>, NoMemory>
+    requires place { one.place < length all.now.instances.now }
+    requires instance { IsAt all.now.instances.now one.place one.instance.now }
+    ensures { IfOk result (λ found. found ≡ first_of (undone_from all.now.visits.visits.now
+        one.entry.instance.now one.entry.place all.now.instances.now 0)) }
+{
+    let places = all
+        .targets
+        .places_sought(alloc, acts_of(&one.instance.work))?;
+    for place in &places {
+        let Some(instance) = all.instances.get(*place) else {
+            continue;
+        };
+        let other = Placed {
+            instance,
+            place: *place,
+        };
+        if let Some(found) = undone_in(alloc, &all.visits, one, other)? {
+            return Ok(Some(found));
+        }
+    }
+    Ok(None)
+}
+
+// The first conflict of a live instance.
+fn first_at(alloc: Global, all: &Open<'_>, one: Placed<'_>) -> Result<Option<Conflict>, NoMemory>
+    requires place { one.place < length all.now.instances.now }
+    requires instance { IsAt all.now.instances.now one.place one.instance.now }
+    ensures { IfOk result (λ found. found ≡ first_of (restarts_of one.entry.instance.now
+        ++ (unsure_at one.entry.instance.now
+        (first_visit all.now.visits.visits.now one.entry.place)
+        ++ undone_from all.now.visits.visits.now one.entry.instance.now one.entry.place
+        all.now.instances.now 0))) }
+{
+    if let Some(found) = first_restart(alloc, one.instance)? {
+        return Ok(Some(found));
+    }
+    let first_visit = all.visits.first_visit(one.place);
+    if let Some(found) = unsure_at(alloc, one.instance, first_visit)? {
+        return Ok(Some(found));
+    }
+    first_undone(alloc, all, one)
+}
+
+// The first conflict of the live instances.
+fn first_conflict(alloc: Global, kept: &Walk, open: &Walk) -> Result<Option<Conflict>, NoMemory>
+    ensures { IfOk result (λ found.
+        found ≡ first_of (conflicts_from kept.now «open».now «open».now.instances 0)) }
+{
+    let names = names_of(alloc, kept.instances.as_slice())?;
+    let instances = open.instances.as_slice();
+    let visits = VisitIndex::new(alloc, open.visits.as_slice(), instances.len())?;
+    let targets = TargetIndex::new(alloc, instances)?;
+    let all = Open {
+        instances,
+        visits,
+        targets,
+    };
+    for (place, instance) in instances.iter().enumerate() {
+        if is_live(&names, instance) {
+            let one = Placed { instance, place };
+            if let Some(found) = first_at(alloc, &all, one)? {
+                return Ok(Some(found));
+            }
+        }
+    }
+    Ok(None)
+}
+
+/// The verdict by the walk where all is kept and the open walk. It costs as much as both walks list, with a logarithm, where the
+/// acts of instances are on different paths and services. Each act is compared with each other one on its path or service, so
+/// many acts on one of them cost as many pairs.
+pub fn judge(alloc: Global, kept: &Walk, open: &Walk) -> Result<Verdict, NoMemory>
+    ensures { IfOk result (λ verdict. verdict ≡ verdict_of kept.now «open».now) }
+{
+    if let Some(blame) = open.unsettled.as_slice().first() {
+        return Ok(Verdict::Conflict(unsettled_conflict(alloc, blame)?));
+    }
+    match first_conflict(alloc, kept, open)? {
+        Some(conflict) => Ok(Verdict::Conflict(conflict)),
+        None => Ok(Verdict::Accepted(live_instances(kept)?)),
+    }
+}

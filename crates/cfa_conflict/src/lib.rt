@@ -1,0 +1,13 @@
+//! The verdict on a policy: the first two promises that undo each other, and what they meet in.
+#![tactic(auto)]
+
+mod judging;
+mod live;
+mod numbers;
+mod pairs;
+mod resources;
+mod targets;
+mod verdicts;
+
+pub use judging::judge;
+pub use verdicts::{Cause, Conflict, Verdict};
