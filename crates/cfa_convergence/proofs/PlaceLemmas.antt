@@ -1,0 +1,75 @@
+-- The places of elements in lists.
+use Rattle.std.proofs.Common.{◌≡◌, ℕ, suc, ◌+◌, ◌<◌, Bool, true, false, not, List, [], ◌∷◌, ◌++◌, length, Some, None, nat_lt, refl, ap, sym, arith, cond}
+use Rattle.std.proofs.lemmas.Bool.Decides.{nat_tests}
+use Rattle.std.specs.Prelude.{◌||◌, ◌==◌, unwrap_or}
+use Rattle.std.specs.List.{list_any, position, position_or_len}
+use Rattle.std.proofs.lemmas.Bool.{false≢true}
+
+pub lt_true : (m n : ℕ) → m < n → nat_lt m n ≡ true
+lt_true m n less = grind (arith, nat_tests)
+
+pub lt_apart : (m n : ℕ) → m < n → (m == n) ≡ false
+lt_apart m n less = grind (arith, nat_tests)
+
+pub tie : (m n : ℕ) → (m == n) ≡ true → m ≡ n
+tie m n e = grind (arith, nat_tests)
+
+pub found_before : {X : Type 0} (p : X → Bool) (xs : List X) → list_any p xs ≡ true → position_or_len p xs < length xs
+found_before p [] e = absurd (cc)
+found_before p (x ∷ xs) e = go (p x) (found_before p xs) e
+  where
+    go : (b : Bool) → (list_any p xs ≡ true → position_or_len p xs < length xs) → (b || list_any p xs) ≡ true → cond (not b) (1 + position_or_len p xs) 0 < suc (length xs)
+    go true before f = omega arith
+    go false before f = let less = before f in omega arith
+
+pub position_found : {X : Type 0} (p : X → Bool) (xs : List X) → list_any p xs ≡ true → unwrap_or (position p xs) 0 ≡ position_or_len p xs
+position_found p xs e = ap (λ b. unwrap_or (cond b (Some (position_or_len p xs)) None) 0) (lt_true (position_or_len p xs) (length xs) (found_before p xs e))
+
+pub found_first : {X : Type 0} (p : X → Bool) (xs ys : List X) → list_any p xs ≡ true → position_or_len p (xs ++ ys) ≡ position_or_len p xs
+found_first p [] ys e = absurd (cc)
+found_first p (x ∷ xs) ys e = go (p x) (found_first p xs ys) e
+  where
+    go : (b : Bool) → (list_any p xs ≡ true → position_or_len p (xs ++ ys) ≡ position_or_len p xs) → (b || list_any p xs) ≡ true →
+        cond (not b) (1 + position_or_len p (xs ++ ys)) 0 ≡ cond (not b) (1 + position_or_len p xs) 0
+    go true before f = refl
+    go false before f = ap (λ n. 1 + n) (before f)
+
+pub any_last : {X : Type 0} (p : X → Bool) (xs : List X) (y : X) → p y ≡ true → list_any p (xs ++ y ∷ []) ≡ true
+any_last p [] y e = ap (λ b. b || false) e
+any_last p (x ∷ xs) y e = go (p x) (any_last p xs y e)
+  where
+    go : (b : Bool) → list_any p (xs ++ y ∷ []) ≡ true → (b || list_any p (xs ++ y ∷ [])) ≡ true
+    go true f = refl
+    go false f = f
+
+pub any_other : {X : Type 0} (p : X → Bool) (xs : List X) (y : X) → p y ≡ false → list_any p (xs ++ y ∷ []) ≡ list_any p xs
+any_other p [] y e = ap (λ b. b || false) e
+any_other p (x ∷ xs) y e = ap (λ b. p x || b) (any_other p xs y e)
+
+pub any_left : {X : Type 0} (p : X → Bool) (xs ys : List X) → list_any p xs ≡ true → list_any p (xs ++ ys) ≡ true
+any_left p [] ys e = absurd (cc)
+any_left p (x ∷ xs) ys e = go (p x) (any_left p xs ys) e
+  where
+    go : (b : Bool) → (list_any p xs ≡ true → list_any p (xs ++ ys) ≡ true) → (b || list_any p xs) ≡ true → (b || list_any p (xs ++ ys)) ≡ true
+    go true before f = refl
+    go false before f = before f
+
+pub last_place : {X : Type 0} (p : X → Bool) (xs : List X) (y : X) → list_any p xs ≡ false → p y ≡ true → position_or_len p (xs ++ y ∷ []) ≡ length xs
+last_place p [] y none e = ap (λ b. cond (not b) 1 0) e
+last_place p (x ∷ xs) y none e = go (p x) (λ f. last_place p xs y f e) none
+  where
+    go : (b : Bool) → (list_any p xs ≡ false → position_or_len p (xs ++ y ∷ []) ≡ length xs) → (b || list_any p xs) ≡ false → cond (not b) (1 + position_or_len p (xs ++ y ∷ [])) 0 ≡ suc (length xs)
+    go true before f = absurd (false≢true (sym f))
+    go false before f = let same : position_or_len p (xs ++ y ∷ []) ≡ length xs = before f in omega arith
+
+-- one place is that of one element
+pub one_place : {X : Type 0} (p q : X → Bool) (xs : List X) → list_any p xs ≡ true → list_any q xs ≡ true → position_or_len p xs ≡ position_or_len q xs → (x : X) × (p x ≡ true) × (q x ≡ true)
+one_place {X = X} p q [] e f same = absurd (cc)
+one_place {X = X} p q (x ∷ xs) e f same = go (p x) refl (q x) refl (one_place p q xs) e f same
+  where
+    go : (b : Bool) → p x ≡ b → (c : Bool) → q x ≡ c → (list_any p xs ≡ true → list_any q xs ≡ true → position_or_len p xs ≡ position_or_len q xs → (y : X) × (p y ≡ true) × (q y ≡ true)) →
+        (b || list_any p xs) ≡ true → (c || list_any q xs) ≡ true → cond (not b) (1 + position_or_len p xs) 0 ≡ cond (not c) (1 + position_or_len q xs) 0 → (y : X) × (p y ≡ true) × (q y ≡ true)
+    go true is true it more e' f' g = (x, is, it)
+    go true is false it more e' f' g = absurd (omega (arith, g))
+    go false is true it more e' f' g = absurd (omega (arith, g))
+    go false is false it more e' f' g = more e' f' (omega (arith, g))

@@ -1,0 +1,10 @@
+pub mod Conflicts
+pub mod Contained
+pub mod Keys
+pub mod Lasting
+pub mod Policies
+pub mod Settling
+pub mod Sources
+pub mod Statuses
+pub mod Told
+pub mod Verdicts

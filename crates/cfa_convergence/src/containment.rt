@@ -1,0 +1,11 @@
+// Where a run without a failure lies.
+ghost use Rattle.cfa_convergence.specs.Contained.{UnfailingRunsAreContained};
+
+use crate::keys::keys_tell_works;
+
+/// A run without a failure lies within the open walk, where nothing is unsettled there.
+pub fn unfailing_runs_are_contained()
+    ensures { UnfailingRunsAreContained }
+{
+    keys_tell_works();
+}

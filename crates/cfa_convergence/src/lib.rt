@@ -1,0 +1,18 @@
+//! Convergence: where a policy is accepted, a run that ends without a failure leaves a world on which a rerun changes nothing.
+#![tactic(auto)]
+
+mod containment;
+mod keys;
+mod lasting;
+mod runs;
+mod settling;
+mod sources;
+mod verdicts;
+
+pub use containment::unfailing_runs_are_contained;
+pub use keys::keys_tell_works;
+pub use lasting::posts_last;
+pub use runs::{runs_are_determined, runs_are_told};
+pub use settling::free_runs_settle;
+pub use sources::unlisted_are_settled;
+pub use verdicts::{accepted_are_free, accepted_runs_settle};

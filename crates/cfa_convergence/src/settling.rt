@@ -1,0 +1,20 @@
+// What a rerun does.
+ghost use Rattle.cfa_convergence.specs.Settling.{FreeRunsSettle};
+
+use crate::keys::keys_tell_works;
+use cfa_acts::{
+    kept_where_post_holds, needed_change_fits, needed_change_keeps_post, needed_change_makes_post,
+};
+use cfa_outside::keeps_parents;
+
+/// Where a policy is free of conflicts, a run that ends with no instance failed leaves a world on which a rerun adds nothing to the log.
+pub fn free_runs_settle()
+    ensures { FreeRunsSettle }
+{
+    keys_tell_works();
+    kept_where_post_holds();
+    needed_change_fits();
+    needed_change_makes_post();
+    needed_change_keeps_post();
+    keeps_parents();
+}
