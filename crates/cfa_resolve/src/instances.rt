@@ -1,5 +1,5 @@
 // Instances of promises.
-ghost use Rattle.std.specs.Prelude.{◌≡◌, All};
+ghost use Rattle.std.specs.Prelude.{◌≡◌, All, IfOk};
 ghost use Rattle.cfa_acts.specs.Acts.{IsAct};
 ghost use Rattle.cfa_resolve.specs.declared.instances.ResolveErr.TheVariants.{NoMemory};
 
@@ -11,13 +11,15 @@ use cfa_kinds::PromiseType;
 use cfa_scripts::{ScriptErr, UnsettledList};
 use cfa_tree::Promise;
 use cfa_vars::{Datum, Scopes};
+use std::alloc::Global;
 use std::marker::Model;
+use std::rc::Rc;
 use thiserror::Error;
 
-/// Acts, in the order in which they are made.
+/// Acts, in the order in which they are made, which the copies of an instance have in common.
 #[derive(Drop)]
 pub struct Acts {
-    items: Vec<Act>,
+    items: Rc<Vec<Act>>,
 }
 
 impl Model for Acts {
@@ -27,18 +29,27 @@ impl Model for Acts {
 
     ghost Value = { List Act };
 
-    ghost view = { λ a. a.items.items };
+    ghost view = { λ a. a.items.value.items };
 
-    ghost invariant = { λ a. All IsAct a.items.items };
+    ghost invariant = { λ a. All IsAct a.items.value.items };
 }
 
 impl Acts {
-    /// The acts of a `Vec`, without taking memory.
-    pub fn from_vec(items: Vec<Act>) -> Acts
+    /// The acts of a `Vec`.
+    pub fn from_vec(alloc: Global, items: Vec<Act>) -> Result<Acts, base::NoMemory>
         requires { All IsAct items.items }
-        ensures { result ≡ items.items }
+        ensures { IfOk result (λ acts. acts ≡ items.items) }
     {
-        Acts { items }
+        let items = Rc::new(alloc, items)?;
+        Ok(Acts { items })
+    }
+
+    /// The same acts for one instance more, without a copy of them.
+    pub fn share(&self) -> Result<Acts, base::NoMemory>
+        ensures { IfOk result (λ acts. acts ≡ self.now) }
+    {
+        let items = self.items.clone()?;
+        Ok(Acts { items })
     }
 
     /// The acts, without taking memory.
@@ -46,7 +57,7 @@ impl Acts {
         ensures acts { result.now ≡ self.now }
         ensures facts { All IsAct self.now }
     {
-        self.items.as_slice()
+        self.items.as_ref().as_slice()
     }
 }
 

@@ -3,6 +3,7 @@
 
 mod classes;
 mod combinations;
+mod copies;
 mod editing;
 mod fields;
 mod files;
@@ -17,9 +18,9 @@ mod services;
 mod values;
 
 pub use cfa_scripts::{Unsettled, UnsettledList};
+pub use copies::copy_id;
 pub use instances::{
     Acts, Data, FoundPromise, Instance, Instances, ResolveErr, Resolved, View, Work,
 };
 pub use laws::{instances_are_few, instances_are_named};
-pub use making::copy_id;
 pub use resolving::{is_acting, resolve, resolve_promise};

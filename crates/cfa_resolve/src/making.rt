@@ -11,6 +11,7 @@ ghost use Rattle.cfa_resolve.specs.Instances.{instance_of, bust_instance, promis
 ghost use Rattle.cfa_resolve.specs.SeenReached.{seen_reached};
 
 use crate::classes::{Outcomes, outcome_classes};
+use crate::copies::copy_id;
 use crate::files::file_acts;
 use crate::keys::key_text;
 use crate::reached::Reached;
@@ -28,17 +29,6 @@ use cfa_tree::Value;
 use cfa_values::value_named;
 use cfa_vars::{Expanded, expand};
 use std::alloc::Global;
-
-/// A copy of the id of a promise.
-pub fn copy_id(alloc: Global, id: &PromiseId) -> Result<PromiseId, NoMemory>
-    ensures { IfOk result (λ copy. copy ≡ id.now) }
-{
-    Ok(PromiseId {
-        bundle: id.bundle.copy(alloc)?,
-        number: id.number,
-        line: id.line,
-    })
-}
 
 fn instance_of(
     alloc: Global,
@@ -70,7 +60,7 @@ fn one_act(alloc: Global, act: Act) -> Result<Acts, NoMemory>
 {
     let mut items = Vec::new(alloc);
     items.push(act)?;
-    Ok(Acts::from_vec(items))
+    Acts::from_vec(alloc, items)
 }
 
 fn control_minutes(checked: &Checked) -> u32
@@ -165,7 +155,7 @@ fn files_work(
         bodies,
         scripted,
     )?;
-    Ok(Work::Acts(Acts::from_vec(acts)))
+    Ok(Work::Acts(Acts::from_vec(alloc, acts)?))
 }
 
 fn services_work(
@@ -206,7 +196,7 @@ fn work_by(
         PromiseType::Services => services_work(alloc, reached, promiser, choice),
         PromiseType::Methods => call_work(alloc, reached, choice),
         PromiseType::Reports => Ok(Work::Report(promiser.copy(alloc)?)),
-        _ => Ok(Work::Acts(Acts::from_vec(Vec::new(alloc)))),
+        _ => Ok(Work::Acts(Acts::from_vec(alloc, Vec::new(alloc))?)),
     }
 }
 

@@ -1,0 +1,72 @@
+// Copies of instances.
+ghost use Rattle.std.specs.Prelude.{◌≡◌, IfOk};
+
+use crate::{Data, Instance, Work};
+use cfa_base::{NoMemory, PromiseId};
+use cfa_vars::Datum;
+use std::alloc::Global;
+
+/// A copy of the id of a promise.
+pub fn copy_id(alloc: Global, id: &PromiseId) -> Result<PromiseId, NoMemory>
+    ensures { IfOk result (λ copy. copy ≡ id.now) }
+{
+    Ok(PromiseId {
+        bundle: id.bundle.copy(alloc)?,
+        number: id.number,
+        line: id.line,
+    })
+}
+
+fn copy_datum(alloc: Global, datum: &Datum) -> Result<Datum, NoMemory>
+    ensures { IfOk result (λ copy. copy ≡ datum.now) }
+{
+    match datum {
+        Datum::Text(text) => Ok(Datum::Text(text.copy(alloc)?)),
+        Datum::List(items) => Ok(Datum::List(items.copy(alloc)?)),
+    }
+}
+
+impl Data {
+    /// A copy of the data.
+    pub fn copy(&self, alloc: Global) -> Result<Data, NoMemory>
+        ensures { IfOk result (λ copy. copy ≡ self.now) }
+    {
+        let mut items = Vec::new(alloc);
+        let data = self.as_slice();
+        for datum in data {
+            items.push(copy_datum(alloc, datum)?)?;
+        }
+        Ok(Data::from_vec(items))
+    }
+}
+
+impl Work {
+    /// A copy of the work. It has the acts in common with it.
+    pub fn copy(&self, alloc: Global) -> Result<Work, NoMemory>
+        ensures { IfOk result (λ copy. copy ≡ self.now) }
+    {
+        match self {
+            Work::Acts(acts) => Ok(Work::Acts(acts.share()?)),
+            Work::Call(name, given) => Ok(Work::Call(name.copy(alloc)?, given.copy(alloc)?)),
+            Work::Report(content) => Ok(Work::Report(content.copy(alloc)?)),
+        }
+    }
+}
+
+impl Instance {
+    /// A copy of the instance. It has the acts in common with it.
+    pub fn copy(&self, alloc: Global) -> Result<Instance, NoMemory>
+        ensures { IfOk result (λ copy. copy ≡ self.now) }
+    {
+        Ok(Instance {
+            path: self.path.copy(alloc)?,
+            source: copy_id(alloc, &self.source)?,
+            work: self.work.copy(alloc)?,
+            kept: self.kept.copy(alloc)?,
+            repaired: self.repaired.copy(alloc)?,
+            failed: self.failed.copy(alloc)?,
+            elapsed: self.elapsed,
+            text: self.text.copy(alloc)?,
+        })
+    }
+}
