@@ -1,6 +1,6 @@
 -- What an activation's own events make of what is kept of it, and what is kept of one that begins.
-use Rattle.std.proofs.Common.{◌≡◌, ◌≢◌, ℕ, ◌+◌, ◌≤◌, true, false, List, [], ◌∷◌, length, map, Option, Some, None, refl, sym, ap, ◌∙◌, arith}
-use Rattle.std.specs.Prelude.{◌&&◌, slice_get, slice_set, option_map, unwrap_or}
+use Rattle.std.proofs.Common.{◌≡◌, ◌≢◌, ℕ, ◌+◌, ◌≤◌, true, false, List, [], ◌∷◌, length, map, Option, Some, None, refl, sym, ap, subst, ◌∙◌, arith}
+use Rattle.std.specs.Prelude.{◌&&◌, option_and_then, slice_get, slice_set, option_map, unwrap_or}
 use Rattle.std.specs.declared.alloc.Global.{Global}
 use Rattle.std.specs.declared.vec.Vec.{Vec}
 use Rattle.std.specs.Option.{option_or}
@@ -23,12 +23,18 @@ use Rattle.cfa_vars.specs.Named.{put}
 use Rattle.cfa_vars.specs.Scopes.{Table, InScope}
 use Rattle.cfa_walk.specs.declared.activations.Activation.{Activation}
 use Rattle.cfa_walk.specs.declared.states.State.{State}
-use Rattle.cfa_walk.specs.History.{History, Event, Begun, Set, Raised, within, scope_in, locally, local_source, visits_in}
-use Rattle.cfa_walk.specs.Kept.{Keeps, KeepsLocally, Stands, OwnScope, IsFresh, IsUntouched, home_of, scope_at, first, second}
+use Rattle.cfa_walk.specs.History.{History, Event, Begun, Set, Raised, within, scope_in, locally, local_source, source_in, visits_in}
+use Rattle.cfa_walk.specs.Kept.{Keeps, KeepsLocally, Stands, OwnScope, IsFresh, IsUntouched, KeepsLog, wait_at, home_of, scope_at, first, second}
+use Rattle.cfa_base.specs.TextMaps.{TextMap}
+use Rattle.cfa_walk.specs.declared.waits.Wait.{Wait}
+use Rattle.cfa_walk.specs.Logs.{Rows}
 use Rattle.cfa_walk.specs.Tellers.{worst_in}
+use Rattle.cfa_defines.specs.FirstMaybe.{first_maybe_of_guard}
+use Rattle.cfa_walk.specs.Waits.{wait_on, wait_of_guard, waits_in}
 use Rattle.cfa_walk.specs.Views.{Setting, global_status, status_in, is_listed, scopes_in, shared_names, shared_in}
 use Rattle.cfa_walk.proofs.SharedLemmas.{same_name, is_same, names_of_pairs, with_its, shared_once, set_in_place}
-use Rattle.cfa_walk.proofs.KeptLemmas.{changed, greater_turned, keeps_begun, keeps_set, other_begun, other_set}
+use Rattle.cfa_walk.proofs.KeptLemmas.{counts_same, changed, greater_turned, keeps_begun, keeps_set, other_begun, other_set}
+use Rattle.cfa_walk.proofs.WaitLemmas.{no_waits}
 use Rattle.cfa_walk.proofs.LocalLemmas.{own_scope_same, own_set, own_is_unshared, has_own, shared_at, is_shared_at}
 
 -- ---- classes that are raised in it
@@ -135,13 +141,31 @@ scopes_are s st a h own shared stands is_own is_shared =
     ap (λ t. in_scopes t a.bundle shared) (is_own ∙ scope_is s st h a.place a.own a.path stands.0 stands.1.1.1.1)
     ∙ ap (in_scopes (scope_in h a.path) a.bundle) (is_shared ∙ stands.0.1.1.1.0)
 
-pub guard_is : (s : Setting) (st : State) (a : Activation) (h : History) (guard : ExprTree) (global local : StatusMap) → Stands s st a h →
-    global ≡ st.environment.statuses → local ≡ a.local.statuses → value_of guard (greater_in global local) ≡ value_of guard (status_in s h a.path)
-unfolding greater_in
-guard_is s st a h guard global local stands is_global is_local =
-    ap (value_of guard) (fun_ext (λ name.
-    ap (λ m. greater_in m local name) is_global ∙ ap (λ m. greater_in st.environment.statuses m name) is_local
-    ∙ ap (λ x. greater x (status_of a.local name)) (stands.0.0 name) ∙ ap (greater (global_status s h name)) (stands.1.0 name)))
+module _ (s : Setting) (st : State) (a : Activation) (h : History) where
+  statuses_are : (global local : StatusMap) → Stands s st a h → global ≡ st.environment.statuses → local ≡ a.local.statuses → greater_in global local ≡ status_in s h a.path
+  unfolding greater_in
+  statuses_are global local stands is_global is_local =
+      fun_ext (λ name.
+      ap (λ m. greater_in m local name) is_global ∙ ap (λ m. greater_in st.environment.statuses m name) is_local
+      ∙ ap (λ x. greater x (status_of a.local name)) (stands.0.0 name) ∙ ap (greater (global_status s h name)) (stands.1.0 name))
+
+  pub guard_is : (guard : ExprTree) (global local : StatusMap) → Stands s st a h → global ≡ st.environment.statuses → local ≡ a.local.statuses →
+      value_of guard (greater_in global local) ≡ value_of guard (status_in s h a.path)
+  guard_is guard global local stands is_global is_local = ap (value_of guard) (statuses_are global local stands is_global is_local)
+
+  module _ (guard : Option ExprTree) (global local : StatusMap) (found : Option (List ℕ)) (stands : Stands s st a h) (is_global : global ≡ st.environment.statuses)
+      (is_local : local ≡ a.local.statuses) (found_is : found ≡ first_maybe_of_guard guard (greater_in global local)) where
+    waits_for : (wait : Option Wait) → wait ≡ option_and_then (λ class. wait_on class (source_in h a.path class)) found → wait ≡ wait_of_guard s h a.path guard
+    waits_for wait is =
+        is
+        ∙ ap (option_and_then (λ class. wait_on class (source_in h a.path class)))
+        (found_is ∙ ap (first_maybe_of_guard guard) (statuses_are global local stands is_global is_local))
+
+    pub nothing_waits : found ≡ None → ◌≡◌ {A = Option Wait} None (wait_of_guard s h a.path guard)
+    nothing_waits none = waits_for None (ap (option_and_then (λ class. wait_on class (source_in h a.path class))) (sym none))
+
+    pub guard_waits : (class : List ℕ) → found ≡ Some class → (wait : Option Wait) → wait ≡ wait_on class (source_in h a.path class) → wait ≡ wait_of_guard s h a.path guard
+    guard_waits class some wait is = waits_for wait (is ∙ ap (option_and_then (λ class. wait_on class (source_in h a.path class))) (sym some))
 
 -- ---- variables that are set in it
 
@@ -170,8 +194,9 @@ stands_set_shared s st a h variable datum place shared at is stands =
     let k : History = Set a.path variable datum ∷ h in
     let found = shared_at s.policy a.place place a.own a.path h at stands.1.1.1.1 in
     let now = is a.path (scope_in h a.path) (table_at s st h keeps place a.path found) in
-    let set = ap (λ t. slice_set st.shared.items place (a.path, t)) (sym (set_here a.path variable datum h)) in (
-      (keeps.0, (keeps.1.0, (keeps.1.1.0, (shared_changed s st h keeps (Set a.path variable datum) place a.path shared.items found (other_set a.path variable datum h) (now ∙ set), keeps.1.1.1.1)))),
+    let set = ap (λ t. slice_set st.shared.items place (a.path, t)) (sym (set_here a.path variable datum h)) in
+    let counts = counts_same s st h k refl (λ _. refl) refl refl refl keeps.1.1.1.1 in (
+      (keeps.0, (keeps.1.0, (keeps.1.1.0, (shared_changed s st h keeps (Set a.path variable datum) place a.path shared.items found (other_set a.path variable datum h) (now ∙ set), counts)))),
       (stands.1.0, (stands.1.1.0, (stands.1.1.1.0, is_shared_at s.policy a.place place a.own a.path k at found))),
     )
 
@@ -200,7 +225,7 @@ local_begun s a h path given is fresh scope =
       λ class. fresh.statuses class ∙ sym (none_locally h path given a.path same class),
       (
         λ class. fresh.sources class ∙ sym (no_source h path given a.path same class),
-        (fresh.worst ∙ sym (no_outcome h path given a.path same), scope),
+        ((fresh.worst ∙ sym (no_outcome h path given a.path same), fresh.waits ∙ sym (no_waits s h path given a.path same)), scope),
       ),
     )
 
@@ -222,7 +247,7 @@ stands_common s st a h name place is at fresh found keeps untouched = (
     (
       λ class. fresh.sources class ∙ sym (ap (λ n. local_source h n class) is ∙ untouched.sources class),
       (
-        fresh.worst ∙ sym (ap (worst_in h) is ∙ untouched.worst),
+        (fresh.worst ∙ sym (ap (worst_in h) is ∙ untouched.worst), fresh.waits ∙ sym (ap (waits_in s h) is ∙ untouched.waits s)),
         is_shared_at s.policy a.place place a.own a.path h at (shared_found s st h keeps place name found ∙ ap Some (sym is)),
       ),
     ),
@@ -230,21 +255,31 @@ stands_common s st a h name place is at fresh found keeps untouched = (
 )
 
 pub stands_begun : (s : Setting) (st st' : State) (a : Activation) (h : History) (name : List ℕ) (place : ℕ) → a.path ≡ name → a.place ≡ Some place → IsFresh a →
-    slice_get (map first st.shared.items) place ≡ Some name → st'.environment ≡ st.environment → st'.left ≡ st.left →
+    slice_get (map first st.shared.items) place ≡ Some name → st'.environment ≡ st.environment → st'.left ≡ st.left → st'.calls ≡ st.calls → st'.log ≡ st.log →
     ((path : List ℕ) (table : Table) → slice_get st.shared.items place ≡ Some (path, table) → st'.shared.items ≡ slice_set st.shared.items place (path, [])) →
     Keeps s st h → Stands s st' a (Begun name [] ∷ h)
-stands_begun s st st' a h name place is at fresh found environment left cleared keeps =
+stands_begun s st st' a h name place is at fresh found environment left calls log cleared keeps =
     let k : History = Begun name [] ∷ h in
     let found = shared_found s st h keeps place name found in
     let now = cleared name (scope_in h name) (table_at s st h keeps place name found) in
-    let empty = ap (λ t. slice_set st.shared.items place (name, t)) (sym (begun_here name [] h name (same_name name))) in (
+    let empty = ap (λ t. slice_set st.shared.items place (name, t)) (sym (begun_here name [] h name (same_name name))) in
+    let counts = counts_same s st h k refl (λ _. refl) refl refl refl keeps.1.1.1.1 in (
       (
         λ class. ap (λ e. status_of e class) environment ∙ keeps.0 class,
         (
           λ class. ap (λ e. source_of e class) environment ∙ keeps.1.0 class,
           (
             λ path text. ap (λ e. mark_of e path text) environment ∙ keeps.1.1.0 path text,
-            (shared_changed s st h keeps (Begun name []) place name st'.shared.items found (other_begun name [] h) (now ∙ empty), ap (λ n. n + visits_in h) left ∙ keeps.1.1.1.1),
+            (
+              shared_changed s st h keeps (Begun name []) place name st'.shared.items found (other_begun name [] h) (now ∙ empty),
+              (
+                ap (λ n. n + visits_in k) left ∙ counts.0,
+                (
+                  λ path. ap (λ (x : Option (TextMap Wait)). wait_at x path) calls ∙ counts.1.0 path,
+                  subst (λ (x : Option Rows). KeepsLog s x k) (sym log) counts.1.1,
+                ),
+              ),
+            ),
           ),
         ),
       ),

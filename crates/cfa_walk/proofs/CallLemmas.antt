@@ -21,6 +21,7 @@ use Rattle.cfa_walk.specs.History.{History, Event, Begun}
 use Rattle.cfa_walk.specs.Kept.{Keeps, Stands, IsOf, IsSame, SpareShorter, home_of}
 use Rattle.cfa_walk.specs.Levels.{GoesTo, IsTooLarge, is_quiet, EndedAs, Faults, StandsAt, HasPlainNames, Ends}
 use Rattle.cfa_walk.specs.Numbered.{Numbered, name_of, numbered_in, params_of}
+use Rattle.cfa_walk.specs.Builds.{BuiltOn}
 use Rattle.cfa_walk.specs.Passes.{Course, goes, bind, activation, called_by, calls_of}
 use Rattle.cfa_walk.specs.Steps.{passes_level, call_course, CallEnds}
 use Rattle.cfa_walk.specs.Tellers.{Teller, worst_in, inner_path}
@@ -86,6 +87,22 @@ halted P (Ok answer) stop same stopped = absurd same
 halted P (Err e) stop same stopped = subst (λ (x : Stop). P (Err x)) (sym same) stopped
 
 -- ---- how a call ends
+
+-- what two ways of a call have in common where they join
+module _ {T S O X P : Type 0} (teller : X → Teller) (agrees : T × (S × O) → X → Type 0) (behind : T × (S × O) → X → History → Type 0) (faults : T × (S × O) → Faults) (policy : PolicyTree)
+    (instance : Instance) (status : Status) (w : T × (S × O)) (st : State) (b : Shown (List (List ℕ))) (depth : ℕ) (shown : P → Shown (List (List ℕ))) where
+  abbrev Ended : T → S → O → State → P → Activation → Type 0
+  Ended t s o st' p a = CallEnds teller agrees behind faults policy depth instance status w (t, (s, o)) st st' b (shown p) (Ok a.worst)
+
+  pub joined : (t' t : T) (s' s : S) (o' o : O) (st2 st1 : State) (p' p : P) (a' a : Activation) → t' ≡ t → s' ≡ s → o' ≡ o → st2 ≡ st1 → p' ≡ p → a' ≡ a →
+      Ended t s o st1 p a → Ended t' s' o' st2 p' a'
+  joined t' t s' s o' o st2 st1 p' p a' a tellers sites sinks states patterns activations ends =
+      subst (λ (x : T). Ended x s' o' st2 p' a') (sym tellers)
+      (subst (λ (x : S). Ended t x o' st2 p' a') (sym sites)
+      (subst (λ (x : O). Ended t s x st2 p' a') (sym sinks)
+      (subst (λ (x : State). Ended t s o x p' a') (sym states)
+      (subst (λ (x : P). Ended t s o st1 x a') (sym patterns)
+      (subst (λ (x : Activation). Ended t s o st1 p x) (sym activations) ends)))))
 
 module _ {W X : Type 0} (teller : X → Teller) (agrees : W → X → Type 0) (behind : W → X → History → Type 0) (faults : W → Faults) (policy : PolicyTree)
     (instance : Instance) (status : Status) (w : W) (st : State) (b : Shown (List (List ℕ))) where
@@ -156,7 +173,7 @@ module _ {W X : Type 0} (teller : X → Teller) (agrees : W → X → Type 0) (b
                   steady x (Begun path given) h refl stays,
                   (
                     spare_begun (length path) h path given (omega arith),
-                    ended instance name given is_call a.worst k (stands.1.1.1.0 ∙ ap (λ (p : List ℕ). worst_in k p) of.path),
+                    ended instance name given is_call a.worst k (stands.1.1.1.0.0 ∙ ap (λ (p : List ℕ). worst_in k p) of.path),
                   ),
                 ),
               ),
@@ -216,7 +233,12 @@ module _ {W X : Type 0} (teller : X → Teller) (agrees : W → X → Type 0) (b
               (d.0, λ same keeps stays. subst (λ (c : Course). IsTooLarge c) (sym (course_of s (teller x) h same)) (d.1 (stands_begun s h same keeps) (behind_begun x h stays))),
           ends.1,
         )
-        bundle_stops b' (Pattern text) ends = (tt, ends.1)
+        bundle_stops b' (Pattern text) ends = (
+          λ s x h agree.
+              let d = ends.0 s home status x (begun h) agree in
+              (d.0, λ same keeps stays. subst (λ (c : Course). BuiltOn s c text) (sym (course_of s (teller x) h same)) (d.1 (stands_begun s h same keeps) (behind_begun x h stays))),
+          ends.1,
+        )
 
         pub call_done : (b' : Shown (List (List ℕ))) → Ends teller agrees behind faults policy (passes_level n ps) w w' st1 st2 a1 a2 b b' (Ok tt) →
             CallEnds teller agrees behind faults policy depth instance status w w' st st2 b b' (Ok a2.worst)
@@ -234,7 +256,7 @@ module _ {W X : Type 0} (teller : X → Teller) (agrees : W → X → Type 0) (b
                         q.1.0,
                         (
                           spare_then (length path) h (begun h) k (spare_to h) q.1.1,
-                          ended instance name given is_call a2.worst k (q.0.1.1.1.1.1.1.0 ∙ ap (λ (x : Home). worst_in k x.path) q.0.1.0),
+                          ended instance name given is_call a2.worst k (q.0.1.1.1.1.1.1.0.0 ∙ ap (λ (x : Home). worst_in k x.path) q.0.1.0),
                         ),
                       ),
                     ))

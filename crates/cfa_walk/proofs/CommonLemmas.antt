@@ -26,7 +26,8 @@ use Rattle.cfa_walk.specs.Passes.{Course, goes, too_large, then_on, Calls, each,
 use Rattle.cfa_walk.specs.Steps.{idle_level, vars_level, classes_level, common_type_level}
 use Rattle.cfa_walk.specs.Tellers.{Teller}
 use Rattle.cfa_walk.specs.Views.{Setting, Home, guard_status}
-use Rattle.cfa_walk.proofs.LevelLemmas.{then_assoc, each_one, quiet_is, quiet_nothing, quiet_then, quiet_stops}
+use Rattle.cfa_walk.proofs.BuiltLemmas.{calls_kept, promises_kept}
+use Rattle.cfa_walk.proofs.LevelLemmas.{QuietKeeps, then_assoc, each_one, quiet_is, quiet_nothing, quiet_then, quiet_stops}
 
 -- ---- types
 
@@ -191,6 +192,10 @@ each_append does (x ∷ xs) ys h =
     then_alike (does x h) (each does (xs ++ ys)) (λ k. then_on (each does xs k) (each does ys)) (each_append does xs ys)
     ∙ sym (then_assoc (does x h) (each does xs) (each does ys))
 
+-- what was built before stays so
+pub common_keeps : (depth : ℕ) (ps : List Numbered) (type : PromiseType) → QuietKeeps (common_type_level depth ps type)
+common_keeps depth ps type text s home t = promises_kept s text t (calls_of s t depth) (calls_kept s text t depth) everywhere home Yes (of_type type ps)
+
 -- the promises of one type of a common bundle
 module _ (policy : PolicyTree) (depth : ℕ) (type : PromiseType) where
   level_append : (xs ys : List Numbered) (s : Setting) (home : Home) (t : Teller) (h : History) →
@@ -217,7 +222,7 @@ module _ (policy : PolicyTree) (depth : ℕ) (type : PromiseType) where
       quiet_is policy true
       (λ s home t h. then_on (common_type_level depth xs type s home t h) (common_type_level depth ys type s home t)) (common_type_level depth all type) st st' a a' (Err stop)
       (λ s home status t h stands. ap (λ ps. common_type_level depth ps type s home t h) is ∙ level_append xs ys s home t h)
-      (quiet_stops policy true (common_type_level depth xs type) (common_type_level depth ys type) st st' a a' stop first)
+      (quiet_stops policy true (common_type_level depth xs type) (common_type_level depth ys type) (common_keeps depth ys type) st st' a a' stop first)
 
 -- ---- parts of lists
 

@@ -1,5 +1,5 @@
 -- A promise that has instances: its visits are counted, and its instances visited.
-use Rattle.std.proofs.Common.{◌≡◌, ℕ, ◌+◌, ◌-◌, ◌≤◌, ◌<◌, Bool, false, List, ◌∷◌, length, All, IsTrue, refl, sym, ap, subst, ◌∙◌}
+use Rattle.std.proofs.Common.{◌≡◌, ℕ, ◌+◌, ◌-◌, ◌≤◌, ◌<◌, Bool, false, List, ◌∷◌, ◌++◌, length, filter_map, Option, Some, All, IsTrue, inl, inr, refl, sym, ap, subst, ◌∙◌, arith}
 use Rattle.std.specs.Prelude.{nat_le, Result, Ok, Err}
 use Rattle.std.proofs.Math.Path.{fun_ext}
 use Rattle.std.proofs.lemmas.Bool.{le-leb, lt-leb}
@@ -7,6 +7,8 @@ use Rattle.std.proofs.lemmas.List.Elements.{All-weaker}
 use Rattle.cfa_base.specs.Shown.{Shown}
 use Rattle.cfa_base.specs.declared.places.PromiseId.{PromiseId}
 use Rattle.cfa_classes.specs.declared.levels.Status.{Status}
+use Rattle.cfa_classes.specs.declared.levels.Status.TheVariants.{No, Maybe, Yes}
+use Rattle.cfa_outcomes.specs.Environments.{source_of}
 use Rattle.cfa_classes.specs.Raised.{Raised as Statuses, status_in}
 use Rattle.cfa_output.specs.declared.ends.Stop.{Stop}
 use Rattle.cfa_output.specs.declared.ends.Stop.TheVariants.{Outside, Memory, Visits, Pattern}
@@ -14,23 +16,35 @@ use Rattle.cfa_resolve.specs.declared.instances.Instance.{Instance}
 use Rattle.cfa_resolve.specs.declared.instances.Resolved.{Resolved}
 use Rattle.cfa_resolve.specs.Laws.{IsInstanceOf}
 use Rattle.cfa_resolve.specs.Instances.{Reached as ReachedAt}
-use Rattle.cfa_resolve.specs.Resolution.{resolution, reached_at}
+use Rattle.cfa_resolve.specs.Resolution.{IsBuiltFor, resolution, reached_at, is_acting}
 use Rattle.cfa_schema.specs.Laws.{IsCounted}
+use Rattle.cfa_scripts.specs.declared.blaming.Unsettled.{Unsettled}
 use Rattle.cfa_tree.specs.Tree.{PolicyTree}
 use Rattle.cfa_vars.specs.Scopes.{InScope}
 use Rattle.cfa_walk.specs.declared.states.State.{State}
 use Rattle.cfa_walk.specs.declared.activations.Activation.{Activation}
-use Rattle.cfa_walk.specs.History.{History, Event, Reached, visits_in}
+use Rattle.cfa_walk.specs.declared.waits.Wait.{Wait}
+use Rattle.cfa_walk.specs.declared.walks.Blame.{Blame}
+use Rattle.cfa_walk.specs.History.{History, Event, within, Reached, visits_in, global_source}
+use Rattle.cfa_walk.specs.Logs.{logged_blames}
+use Rattle.cfa_walk.specs.Waits.{waits_in, waits_by}
+use Rattle.cfa_walk.specs.Walks.{blame_edit, own_unsettled, edits_unsettled}
 use Rattle.cfa_walk.specs.Kept.{Stands, SpareShorter, home_of}
 use Rattle.cfa_walk.specs.Levels.{GoesTo, IsTooLarge, is_quiet, Faults, StandsAt, LevelDone, PatternsAre, Ends}
 use Rattle.cfa_walk.specs.Numbered.{Numbered}
+use Rattle.cfa_walk.specs.Builds.{BuiltOn, BuiltWhere}
 use Rattle.cfa_walk.specs.Passes.{Course, within_limit, most_visits, calls_of, instances_from}
 use Rattle.cfa_walk.specs.Steps.{acting_level, instances_level, resolution_at, reached_event, Counts, IsAt}
 use Rattle.cfa_walk.specs.Tellers.{Teller}
 use Rattle.cfa_walk.specs.Views.{Setting, Home, scopes_in, global_status}
+use Rattle.cfa_base.specs.Patterns.{SizeRefusal}
+use Rattle.cfa_walk.proofs.BuiltLemmas.{size_refused, built_where, calls_kept, instances_kept, limited_kept}
 use Rattle.cfa_walk.proofs.LevelLemmas.{goes_weaker, patterns_then}
 use Rattle.cfa_walk.proofs.SpareLemmas.{spare_then, spare_reached}
-use Rattle.cfa_walk.proofs.DefiningLemmas.{stands_reached, fits, exceeds}
+use Rattle.cfa_walk.proofs.KeptLemmas.{keeps_reached}
+use Rattle.cfa_walk.proofs.LocalLemmas.{local_waits}
+use Rattle.cfa_walk.proofs.WaitLemmas.{waits_here}
+use Rattle.cfa_walk.proofs.DefiningLemmas.{fits, exceeds}
 
 -- ---- its level
 
@@ -41,20 +55,28 @@ module _ (depth : ℕ) (p : Numbered) (guard : Status) (s : Setting) (home : Hom
   acting_is instances is within_it =
       let r : Resolved = resolution_at s home p h in
       let k : History = reached_event home p guard r h in
-      ap (λ (b : Bool). within_limit b (instances_from t (calls_of s t depth) guard status r.instances k) h) within_it
+      ap (λ (b : Bool). within_limit b (instances_from t (calls_of s t depth) guard status r.instances k) k) within_it
       ∙ ap (λ (xs : List Instance). instances_from t (calls_of s t depth) guard status xs k) (sym is)
 
   acting_past : nat_le ((resolution_at s home p h).visits + visits_in h) most_visits ≡ false → IsTooLarge (acting_level depth p guard s home status t h)
   acting_past past =
       let r : Resolved = resolution_at s home p h in
       let k : History = reached_event home p guard r h in
-      subst (λ (b : Bool). IsTooLarge (within_limit b (instances_from t (calls_of s t depth) guard status r.instances k) h)) (sym past) tt
+      subst (λ (b : Bool). IsTooLarge (within_limit b (instances_from t (calls_of s t depth) guard status r.instances k) k)) (sym past) tt
+
+  -- it builds what its promise does
+  acting_builds : (text : List ℕ) → BuiltWhere s guard h home p text → BuiltOn s (acting_level depth p guard s home status t h) text
+  acting_builds text built =
+      let r : Resolved = resolution_at s home p h in
+      let k : History = reached_event home p guard r h in
+      limited_kept s text (nat_le (r.visits + visits_in h) most_visits) (instances_from t (calls_of s t depth) guard status r.instances k) k
+      (instances_kept s text t (calls_of s t depth) (calls_kept s text t depth) (within home.path) home status guard r.instances k (inl built)) (inl built)
 
 module _ {W X : Type 0} (teller : X → Teller) (agrees : W → X → Type 0) (behind : W → X → History → Type 0) (faults : W → Faults) (policy : PolicyTree)
-    (depth : ℕ) (p : Numbered) (guard : Status) (w : W) (st st' : State) (a : Activation) where
+    (depth : ℕ) (p : Numbered) (guard : Status) (w : W) (st st' : State) (a a1 : Activation) where
   acting_done : ((x : X) (event : Event) (h : History) → IsTrue (is_quiet event) → behind w x h → behind w x (event ∷ h)) →
       (w' : W) (st'' : State) (a' : Activation) (instances : List Instance) (result : Result (Unit {0}) Stop) →
-      Counts policy p st st' a (Ok instances) → LevelDone teller agrees behind policy (instances_level depth guard instances) w w' st' st'' a a' result →
+      Counts policy p guard st st' a a1 (Ok instances) → LevelDone teller agrees behind policy (instances_level depth guard instances) w w' st' st'' a1 a' result →
       LevelDone teller agrees behind policy (acting_level depth p guard) w w' st st'' a a' result
   acting_done steady w' st'' a' instances (Ok done) counts does = λ s home status x h agree.
       let r : Resolved = resolution_at s home p h in
@@ -62,12 +84,12 @@ module _ {W X : Type 0} (teller : X → Teller) (agrees : W → X → Type 0) (b
       let d = does s home status x k agree in (
         d.0,
         λ stands stays.
-            let n = counts s home status guard h stands in
+            let n = counts s home status h stands in
             let P : History → Type 0 = λ m. StandsAt policy s home status st'' a' m × (behind w' x m × SpareShorter (length home.path) h m) in
             subst (λ (c : Course). GoesTo c P) (sym (acting_is depth p guard s home status (teller x) h instances n.0 n.1.0))
             (goes_weaker (instances_level depth guard instances s home status (teller x) k) _ P
-            (λ m q. (q.0, (q.1.0, spare_then (length home.path) h k m (spare_reached (length home.path) h home.path p.id guard false r.visits) q.1.1)))
-            (d.1 n.1.1 (steady x (Reached home.path p.id guard false r.visits) h refl stays))),
+            (λ m q. (q.0, (q.1.0, spare_then (length home.path) h k m (spare_reached (length home.path) h home p guard false r.visits (omega arith)) q.1.1)))
+            (d.1 n.1.1 (steady x (Reached home p guard false r.visits) h refl stays))),
       )
   acting_done steady w' st'' a' instances (Err (Outside object)) counts does = tt
   acting_done steady w' st'' a' instances (Err Memory) counts does = tt
@@ -77,30 +99,47 @@ module _ {W X : Type 0} (teller : X → Teller) (agrees : W → X → Type 0) (b
       let d = does s home status x k agree in (
         d.0,
         λ stands stays.
-            let n = counts s home status guard h stands in
+            let n = counts s home status h stands in
             subst (λ (c : Course). IsTooLarge c) (sym (acting_is depth p guard s home status (teller x) h instances n.0 n.1.0))
-            (d.1 n.1.1 (steady x (Reached home.path p.id guard false r.visits) h refl stays)),
+            (d.1 n.1.1 (steady x (Reached home p guard false r.visits) h refl stays)),
       )
-  acting_done steady w' st'' a' instances (Err (Pattern text)) counts does = tt
+  acting_done steady w' st'' a' instances (Err (Pattern text)) counts does = λ s home status x h agree.
+      let r : Resolved = resolution_at s home p h in
+      let k : History = reached_event home p guard r h in
+      let d = does s home status x k agree in (
+        d.0,
+        λ stands stays.
+            let n = counts s home status h stands in
+            subst (λ (c : Course). BuiltOn s c text) (sym (acting_is depth p guard s home status (teller x) h instances n.0 n.1.0))
+            (d.1 n.1.1 (steady x (Reached home p guard false r.visits) h refl stays)),
+      )
 
   pub acting_ends : ((x : X) (event : Event) (h : History) → IsTrue (is_quiet event) → behind w x h → behind w x (event ∷ h)) →
       (w' : W) (st'' : State) (a' : Activation) (instances : List Instance) (b b' b'' : Shown (List (List ℕ))) (result : Result (Unit {0}) Stop) →
-      Counts policy p st st' a (Ok instances) → PatternsAre (Ok tt) b b' →
-      Ends teller agrees behind faults policy (instances_level depth guard instances) w w' st' st'' a a' b' b'' result →
+      Counts policy p guard st st' a a1 (Ok instances) → PatternsAre (Ok tt) b b' →
+      Ends teller agrees behind faults policy (instances_level depth guard instances) w w' st' st'' a1 a' b' b'' result →
       Ends teller agrees behind faults policy (acting_level depth p guard) w w' st st'' a a' b b'' result
   acting_ends steady w' st'' a' instances b b' b'' result counts same ends =
       (acting_done steady w' st'' a' instances result counts ends.0, (ends.1.0, patterns_then b b' b'' result same ends.1.1))
 
   -- the counting stopped
-  pub count_stops : (b b' : Shown (List (List ℕ))) (stop : Stop) → Counts policy p st st' a (Err stop) → PatternsAre (Err stop) b b' →
-      Ends teller agrees behind faults policy (acting_level depth p guard) w w st st' a a b b' (Err stop)
+  pub count_stops : (b b' : Shown (List (List ℕ))) (stop : Stop) → Counts policy p guard st st' a a1 (Err stop) → PatternsAre (Err stop) b b' →
+      Ends teller agrees behind faults policy (acting_level depth p guard) w w st st' a a1 b b' (Err stop)
   count_stops b b' (Outside object) counts are = absurd counts
   count_stops b b' Memory counts are = (tt, (refl, are))
   count_stops b b' Visits counts are =
       (λ s home status x h agree. (agree, λ stands stays. acting_past depth p guard s home status (teller x) h (counts s home status h stands)), (refl, are))
-  count_stops b b' (Pattern text) counts are = (tt, (refl, are))
+  count_stops b b' (Pattern text) counts are =
+      (λ s home status x h agree. (agree, λ stands stays. acting_builds depth p guard s home status (teller x) h text (counts s home status h stands)), (refl, are))
 
 -- ---- what was counted
+
+-- the edit bundle of a promise that has instances
+edits_are : (s : Setting) (h : History) (home : Home) (p : Numbered) (guard : Status) → (guard ≡ No → ⊥) → IsTrue (is_acting p.type) →
+    filter_map (blame_edit (global_source h)) (resolution_at s home p h).unsettled ≡ own_unsettled s h home p guard false ++ edits_unsettled s h home p guard
+edits_are s h home p No set acting = absurd (set refl)
+edits_are s h home p Maybe set acting = rw (acting, edits_unsettled) refl
+edits_are s h home p Yes set acting = rw (acting, edits_unsettled) refl
 
 -- what a promise is reached at, by what is kept
 abbrev pub seen_at : PolicyTree → Numbered → InScope → Statuses → (path : List ℕ) → ReachedAt
@@ -118,29 +157,71 @@ module _ (policy : PolicyTree) (p : Numbered) (scopes : InScope) (statuses : Sta
       ∙ (ap (λ (x : Home). resolution (reached_at policy p.id (scopes_in s h x) (global_status s h) x.path (p.type, p.promise))) stands.1.0
       ∙ ap (λ (x : PolicyTree). resolution (reached_at x p.id (scopes_in s h home) (global_status s h) home.path (p.type, p.promise))) (sym stands.0))))
 
-  pub counted : (resolved : Resolved) (st' : State) → resolved ≡ resolution (seen_at policy p scopes statuses a.path) → resolved.visits ≤ st.left →
-      st' ≡ record st { left = st.left - resolved.visits } → Counts policy p st st' a (Ok resolved.instances)
-  counted resolved st' is enough counts = λ s home status guard h stands.
+  reached_is : (s : Setting) (home : Home) (status : Status) (h : History) → StandsAt policy s home status st a h →
+      seen_at policy p scopes statuses a.path ≡ reached_at s.policy p.id (scopes_in s h home) (global_status s h) home.path (p.type, p.promise)
+  reached_is s home status h stands =
+      let its : Home = home_of a in
+      ap (λ (x : InScope). reached_at policy p.id x (status_in statuses) a.path (p.type, p.promise)) (sees s h stands.1.1.1)
+      ∙ (ap (λ (x : Statuses). reached_at policy p.id (scopes_in s h its) (status_in x) a.path (p.type, p.promise)) global
+      ∙ (ap (λ (x : List ℕ → Status). reached_at policy p.id (scopes_in s h its) x a.path (p.type, p.promise)) (fun_ext stands.1.1.1.0.0)
+      ∙ (ap (λ (x : Home). reached_at policy p.id (scopes_in s h x) (global_status s h) x.path (p.type, p.promise)) stands.1.0
+      ∙ ap (λ (x : PolicyTree). reached_at x p.id (scopes_in s h home) (global_status s h) home.path (p.type, p.promise)) (sym stands.0))))
+
+  -- a pattern that its edit bundle builds
+  pub too_big : (guard : Status) → (guard ≡ No → ⊥) → (text : List ℕ) (st' : State) (a1 : Activation) (refused : Option (List ℕ)) (pats pats' : Shown (List (List ℕ))) →
+      refused ≡ Some text → SizeRefusal (IsBuiltFor (seen_at policy p scopes statuses a.path)) refused pats pats' →
+      Counts policy p guard st st' a a1 (Err (Pattern text))
+  too_big guard set text st' a1 refused pats pats' is refusal = λ s home status h stands.
+      let built : IsBuiltFor (seen_at policy p scopes statuses a.path) text =
+      size_refused (IsBuiltFor (seen_at policy p scopes statuses a.path)) refused text pats pats' is refusal in
+      built_where s text guard h home p set (inr (subst (λ (r : ReachedAt). IsBuiltFor r text) (reached_is s home status h stands) built))
+
+  pub counted : (guard : Status) → (guard ≡ No → ⊥) → IsTrue (is_acting p.type) → (resolved : Resolved) (waits : Option Wait) (st1 st' : State) →
+      resolved ≡ resolution (seen_at policy p scopes statuses a.path) → resolved.visits ≤ st.left →
+      ((s : Setting) (h : History) → Stands s st a h → waits ≡ waits_by s h a.path guard p.promise.guard) →
+      st1 ≡ record st { left = st.left - resolved.visits } →
+      st' ≡ record st1 { log = logged_blames (filter_map (blame_edit (source_of st1.environment)) resolved.unsettled) st1.log } →
+      Counts policy p guard st st' a (record a { waits = waits }) (Ok resolved.instances)
+  counted guard set acting resolved waits st1 st' is enough waiting counts notes = λ s home status h stands.
       let r : Resolved = resolution_at s home p h in
       let same : resolved ≡ r = is ∙ seen_is s home status h stands in
       let fit : r.visits + visits_in h ≤ most_visits =
-      subst (λ (x : Resolved). x.visits + visits_in h ≤ most_visits) same (fits st.left resolved.visits (visits_in h) enough stands.1.1.1.0.1.1.1.1) in
-      let stood : Stands s st' a (Reached home.path p.id guard false resolved.visits ∷ h) =
-      subst (λ (x : State). Stands s x a (Reached home.path p.id guard false resolved.visits ∷ h)) (sym counts)
-      (stands_reached s st a home.path p.id guard false resolved.visits h enough stands.1.1.1) in (
+      subst (λ (x : Resolved). x.visits + visits_in h ≤ most_visits) same (fits st.left resolved.visits (visits_in h) enough stands.1.1.1.0.1.1.1.1.0) in
+      let blames : List Blame = filter_map (blame_edit (source_of st.environment)) resolved.unsettled in
+      let both : st' ≡ record st { left = st.left - resolved.visits; log = logged_blames blames st.log } =
+      notes ∙ ap (λ (x : State). record x { log = logged_blames (filter_map (blame_edit (source_of x.environment)) resolved.unsettled) x.log }) counts in
+      let unsettled : blames ≡ own_unsettled s h home p guard false ++ edits_unsettled s h home p guard =
+      ap (λ (x : List ℕ → Option PromiseId). filter_map (blame_edit x) resolved.unsettled) (fun_ext stands.1.1.1.0.1.0)
+      ∙ (ap (λ (x : Resolved). filter_map (blame_edit (global_source h)) x.unsettled) same
+      ∙ edits_are s h home p guard set acting) in
+      let here : waits ≡ waits_in s (Reached home p guard false resolved.visits ∷ h) a.path =
+      waiting s h stands.1.1.1
+      ∙ (ap (λ (x : Home). waits_by s h x.path guard p.promise.guard) stands.1.0
+      ∙ (sym (waits_here s home p false resolved.visits h guard set acting)
+      ∙ ap (λ (x : Home). waits_in s (Reached home p guard false resolved.visits ∷ h) x.path) (sym stands.1.0))) in
+      let stood : Stands s st' (record a { waits = waits }) (Reached home p guard false resolved.visits ∷ h) =
+      subst (λ (x : State). Stands s x (record a { waits = waits }) (Reached home p guard false resolved.visits ∷ h)) (sym both) (
+        keeps_reached s st h home p guard false resolved.visits blames enough unsettled stands.1.1.1.0,
+        local_waits s a h home p guard false resolved.visits waits here stands.1.1.1.1,
+      ) in (
         ap (λ (x : Resolved). x.instances) same,
         (
           le-leb (r.visits + visits_in h) most_visits fit,
-          (stands.0, (stands.1.0, (stands.1.1.0, subst (λ (x : Resolved). Stands s st' a (reached_event home p guard x h)) same stood))),
+          (stands.0, (stands.1.0, (stands.1.1.0, subst (λ (x : Resolved). Stands s st' (record a { waits = waits }) (reached_event home p guard x h)) same stood))),
         ),
       )
 
-  pub uncounted : (st' : State) → st.left < (resolution (seen_at policy p scopes statuses a.path)).visits → Counts policy p st st' a (Err Visits)
-  uncounted st' few = λ s home status h stands.
+  pub uncounted : (guard : Status) (st' : State) (a1 : Activation) → st.left < (resolution (seen_at policy p scopes statuses a.path)).visits → Counts policy p guard st st' a a1 (Err Visits)
+  uncounted guard st' a1 few = λ s home status h stands.
       let r : Resolved = resolution_at s home p h in
       let past : most_visits < r.visits + visits_in h =
-      exceeds st.left r.visits (visits_in h) (subst (λ (x : Resolved). st.left < x.visits) (seen_is s home status h stands) few) stands.1.1.1.0.1.1.1.1 in
+      exceeds st.left r.visits (visits_in h) (subst (λ (x : Resolved). st.left < x.visits) (seen_is s home status h stands) few) stands.1.1.1.0.1.1.1.1.0 in
       lt-leb (r.visits + visits_in h) most_visits past
+
+-- what is unsettled was noted from a list that is the same
+pub noted : (st1 st' : State) (us vs : List Unsettled) → us ≡ vs → st' ≡ record st1 { log = logged_blames (filter_map (blame_edit (source_of st1.environment)) us) st1.log } →
+    st' ≡ record st1 { log = logged_blames (filter_map (blame_edit (source_of st1.environment)) vs) st1.log }
+noted st1 st' us vs same notes = notes ∙ ap (λ (x : List Unsettled). record st1 { log = logged_blames (filter_map (blame_edit (source_of st1.environment)) x) st1.log }) same
 
 -- its instances are of its activation
 pub all_at : (policy : PolicyTree) (p : Numbered) (scopes : InScope) (statuses : Statuses) (path : List ℕ) (resolved : Resolved) →

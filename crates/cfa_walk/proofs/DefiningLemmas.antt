@@ -1,5 +1,6 @@
 -- Promises that define variables and classes, by what they do to what is kept of a history.
-use Rattle.std.proofs.Common.{◌≡◌, ℕ, ◌+◌, ◌-◌, ◌≤◌, ◌<◌, Bool, true, false, List, [], ◌∷◌, ◌++◌, length, map, Option, refl, sym, ap, subst, ◌∙◌, arith}
+use Rattle.std.proofs.Common.{◌≡◌, ℕ, ◌+◌, ◌-◌, ◌≤◌, ◌<◌, Bool, true, false, List, [], ◌∷◌, ◌++◌, length, map, Option, inl, inr, refl, sym, ap, subst, ◌∙◌, arith, Some}
+use Rattle.std.specs.Prelude.{Result, Ok, Err, OnOk}
 use Rattle.std.proofs.Math.Path.{fun_ext}
 use Rattle.std.proofs.lemmas.Bool.{le-leb, lt-leb}
 use Rattle.std.proofs.lemmas.List.{map-append}
@@ -16,6 +17,7 @@ use Rattle.cfa_vars.specs.Expansion.{Chosen}
 use Rattle.cfa_vars.specs.Scopes.{InScope}
 use Rattle.cfa_defines.specs.FirstMaybe.{first_maybe_of_guard}
 use Rattle.cfa_defines.specs.VarsPromises.{setting_choices, count_choices, data_set}
+use Rattle.cfa_defines.specs.Builds.{BuiltBy}
 use Rattle.cfa_defines.specs.ClassPromises.{Raise, raises_of}
 use Rattle.cfa_defines.specs.declared.class_promises.Raise.{Raise as Held}
 use Rattle.cfa_defines.specs.SeenRaises.{seen_raise}
@@ -23,16 +25,24 @@ use Rattle.cfa_walk.specs.declared.states.State.{State}
 use Rattle.cfa_walk.specs.declared.activations.Activation.{Activation}
 use Rattle.cfa_walk.specs.declared.defining.Handed.{Handed}
 use Rattle.cfa_walk.specs.History.{History, Event, Where, everywhere, within, Set, Raised, Reached, visits_in}
-use Rattle.cfa_walk.specs.Kept.{Stands, home_of, IsSame, SpareShorter, SpareLocals}
-use Rattle.cfa_walk.specs.Levels.{GoesTo, IsTooLarge, QuietLevel, Quietly, nothing, one_more, StandsAt, SpareIf, HasQuietlyDone}
+use Rattle.cfa_walk.specs.Kept.{KeepsLocally, Stands, home_of, IsSame, SpareShorter, SpareLocals}
+use Rattle.cfa_walk.specs.Levels.{HasQuietlyBuilt, GoesTo, IsTooLarge, QuietLevel, Quietly, nothing, one_more, StandsAt, SpareIf, HasQuietlyDone}
 use Rattle.cfa_walk.specs.Numbered.{Numbered}
 use Rattle.cfa_walk.specs.Passes.{Course, goes, most_visits, within_limit, reached, set_each, raise_event, raise_all, bind, sets_variable}
 use Rattle.cfa_walk.specs.Raising.{hand, handed_by, raise_handed}
 use Rattle.cfa_walk.specs.Steps.{idle_level, vars_level, classes_level, place_of}
 use Rattle.cfa_walk.specs.Tellers.{Teller}
+use Rattle.cfa_walk.specs.declared.walks.Blame.{Blame}
+use Rattle.cfa_walk.specs.Logs.{logged_blames}
+use Rattle.cfa_walk.specs.Walks.{own_unsettled, edits_unsettled}
+use Rattle.cfa_resolve.specs.Resolution.{is_acting}
 use Rattle.cfa_walk.specs.Views.{Setting, Home, scopes_in, global_status, status_in}
+use Rattle.cfa_base.specs.Patterns.{SizeRefusal}
+use Rattle.cfa_base.specs.Shown.{Shown}
+use Rattle.cfa_walk.proofs.BuiltLemmas.{size_refused, built_where, classes_built}
 use Rattle.cfa_walk.proofs.LevelLemmas.{goes_weaker, quietly_then}
-use Rattle.cfa_walk.proofs.KeptLemmas.{keeps_reached}
+use Rattle.cfa_walk.proofs.WaitLemmas.{IsIdle, waits_idle, no_edits, none_unsettled, append_none}
+use Rattle.cfa_walk.proofs.KeptLemmas.{keeps_reached, keeps_counted, keeps_raised_within}
 use Rattle.cfa_walk.proofs.LocalLemmas.{local_reached}
 use Rattle.cfa_walk.proofs.SpareLemmas.{spare_none, spare_then, locals_none, locals_then, locals_set, locals_raised_everywhere, locals_reached, spare_set, spare_raised_within, spare_raised_everywhere, spare_reached}
 use Rattle.cfa_walk.proofs.LastLemmas.{set_each-last}
@@ -57,11 +67,12 @@ passed_then is_common path h k m hk km =
 pub passed_none : (is_common : Bool) (path : List ℕ) (h : History) → Passed is_common path h h
 passed_none is_common path h = (nothing, (spare_none (length path) h, spare_if is_common h h (locals_none h)))
 
-pub passed_reached : (is_common : Bool) (path at : List ℕ) (id : PromiseId) (guard : Status) (sets : Bool) (visits : ℕ) (h : History) → Passed is_common path h (Reached at id guard sets visits ∷ h)
-passed_reached is_common path at id guard sets visits h =
+pub passed_reached : (is_common : Bool) (path : List ℕ) (at : Home) (id : Numbered) (guard : Status) (sets : Bool) (visits : ℕ) (h : History) → length path ≤ length at.path → IsIdle id guard →
+    Passed is_common path h (Reached at id guard sets visits ∷ h)
+passed_reached is_common path at id guard sets visits h long idle =
     let event : Event = Reached at id guard sets visits in
-    let spares = locals_reached h at id guard sets visits in
-    (one_more event refl nothing, (spare_reached (length path) h at id guard sets visits, spare_if is_common h (event ∷ h) spares))
+    let spares = locals_reached h at id guard sets visits idle in
+    (one_more event refl nothing, (spare_reached (length path) h at id guard sets visits long, spare_if is_common h (event ∷ h) spares))
 
 pub passed_set : (is_common : Bool) (path name : List ℕ) (datum : Datum) (h : History) → Passed is_common path h (Set path name datum ∷ h)
 passed_set is_common path name datum h =
@@ -97,22 +108,35 @@ passed_bind is_common path (p ∷ params) (datum ∷ given) h =
 
 -- ---- what is kept, after visits are counted
 
-pub stands_reached : (s : Setting) (st : State) (a : Activation) (at : List ℕ) (id : PromiseId) (guard : Status) (sets : Bool) (visits : ℕ) (h : History) →
-    visits ≤ st.left → Stands s st a h → Stands s (record st { left = st.left - visits }) a (Reached at id guard sets visits ∷ h)
-stands_reached s st a at id guard sets visits h enough stands =
-    (keeps_reached s st (record st { left = st.left - visits }) h at id guard sets visits enough refl stands.0, local_reached s a h at id guard sets visits stands.1)
+pub stands_reached : (s : Setting) (st : State) (a : Activation) (at : Home) (id : Numbered) (guard : Status) (sets : Bool) (visits : ℕ) (blames : List Blame) (h : History) →
+    visits ≤ st.left → blames ≡ own_unsettled s h at id guard sets ++ edits_unsettled s h at id guard → IsIdle id guard →
+    Stands s st a h → Stands s (record st { left = st.left - visits; log = logged_blames blames st.log }) a (Reached at id guard sets visits ∷ h)
+stands_reached s st a at id guard sets visits blames h enough unsettled idle stands =
+    (keeps_reached s st h at id guard sets visits blames enough unsettled stands.0, local_reached s a h at id guard sets visits (waits_idle s at id sets visits h a.path guard idle) stands.1)
+
+-- where nothing is unsettled
+pub stands_counted : (s : Setting) (st : State) (a : Activation) (at : Home) (id : Numbered) (guard : Status) (sets : Bool) (visits : ℕ) (h : History) →
+    visits ≤ st.left → [] ≡ own_unsettled s h at id guard sets ++ edits_unsettled s h at id guard → IsIdle id guard →
+    Stands s st a h → Stands s (record st { left = st.left - visits }) a (Reached at id guard sets visits ∷ h)
+stands_counted s st a at id guard sets visits h enough unsettled idle stands =
+    (keeps_counted s st h at id guard sets visits enough unsettled stands.0, local_reached s a h at id guard sets visits (waits_idle s at id sets visits h a.path guard idle) stands.1)
+
+-- visits are counted, and then what is unsettled is noted
+pub logged : (st counted' st' : State) (visits : ℕ) (blames : List Blame) → counted' ≡ record st { left = st.left - visits } →
+    st' ≡ record counted' { log = logged_blames blames counted'.log } → st' ≡ record st { left = st.left - visits; log = logged_blames blames st.log }
+logged st counted' st' visits blames counts notes = notes ∙ ap (λ (x : State). record x { log = logged_blames blames x.log }) counts
 
 -- ---- limits
 
 pub reached_goes : (home : Home) (p : Numbered) (guard : Status) (sets : Bool) (visits : ℕ) (next : History → Course) (h : History) (P : History → Type 0) →
-    visits + visits_in h ≤ most_visits → GoesTo (next (Reached home.path p.id guard sets visits ∷ h)) P → GoesTo (reached home p guard sets visits next h) P
+    visits + visits_in h ≤ most_visits → GoesTo (next (Reached home p guard sets visits ∷ h)) P → GoesTo (reached home p guard sets visits next h) P
 reached_goes home p guard sets visits next h P enough goes_on =
-    subst (λ (b : Bool). GoesTo (within_limit b (next (Reached home.path p.id guard sets visits ∷ h)) h) P) (sym (le-leb (visits + visits_in h) most_visits enough)) goes_on
+    subst (λ (b : Bool). GoesTo (within_limit b (next (Reached home p guard sets visits ∷ h)) (Reached home p guard sets visits ∷ h)) P) (sym (le-leb (visits + visits_in h) most_visits enough)) goes_on
 
 pub reached_past : (home : Home) (p : Numbered) (guard : Status) (sets : Bool) (visits : ℕ) (next : History → Course) (h : History) →
     most_visits < visits + visits_in h → IsTooLarge (reached home p guard sets visits next h)
 reached_past home p guard sets visits next h past =
-    subst (λ (b : Bool). IsTooLarge (within_limit b (next (Reached home.path p.id guard sets visits ∷ h)) h)) (sym (lt-leb (visits + visits_in h) most_visits past)) tt
+    subst (λ (b : Bool). IsTooLarge (within_limit b (next (Reached home p guard sets visits ∷ h)) (Reached home p guard sets visits ∷ h))) (sym (lt-leb (visits + visits_in h) most_visits past)) tt
 
 pub fits : (left visits before : ℕ) → visits ≤ left → left + before ≡ most_visits → visits + before ≤ most_visits
 fits left visits before enough is = omega arith
@@ -163,26 +187,39 @@ raised_one_more s is_common st' a a' b handed one h same stands =
     (ap (λ (x : Home). raise_handed (place_of is_common x) (one ∷ []) (raise_handed (place_of is_common (home_of a)) handed h)) (home_same a a' same)
     ∙ sym (raise_handed_more (place_of is_common (home_of a)) handed one h)) stands
 
+pub on_ok : {E : Type 0} (P Q : Type 0) (result : Result (Unit {0}) E) → (P → Q) → OnOk result P → OnOk result Q
+on_ok P Q (Ok done) weaker holds = weaker holds
+on_ok P Q (Err e) weaker holds = tt
+
+-- a class is raised within the activation
+pub raised_within : (s : Setting) (st : State) (a a' : Activation) (is_common : Bool) (one : Handed) (h : History) → is_common ≡ false →
+    (KeepsLocally s a h → KeepsLocally s a' (Raised (within a.path) one.class one.to one.source ∷ h)) →
+    Stands s st a h → Stands s st a' (raise_handed (place_of is_common (home_of a)) (one ∷ []) h)
+raised_within s st a a' is_common one h none keeps stands =
+    subst (λ (b : Bool). Stands s st a' (raise_handed (place_of b (home_of a)) (one ∷ []) h)) (sym none)
+    (keeps_raised_within s st h a.path one.class one.to one.source stands.0, keeps stands.1)
+
 -- ---- a promise whose guard isn't set
 
 pub passed_over : (policy : PolicyTree) (is_common : Bool) (p : Numbered) (st st' : State) (a : Activation) → 1 ≤ st.left → st' ≡ record st { left = st.left - 1 } → HasQuietlyDone policy is_common (idle_level p) st st' a a
 passed_over policy is_common p st st' a enough counts =
     at_home policy is_common (idle_level p) st st' a a (same_always a) (λ s t h stands.
     let sets = sets_variable p.type in
-    let event : Event = Reached a.path p.id No sets 1 in
+    let event : Event = Reached (home_of a) p No sets 1 in
     subst (λ (x : State). GoesTo (idle_level p s (home_of a) t h) (λ k. Stands s x a k × Passed is_common a.path h k)) (sym counts)
-    (reached_goes (home_of a) p No sets 1 goes h _ (fits st.left 1 (visits_in h) enough stands.0.1.1.1.1)
-    (stands_reached s st a a.path p.id No sets 1 h enough stands, passed_reached is_common a.path a.path p.id No sets 1 h)))
+    (reached_goes (home_of a) p No sets 1 goes h _ (fits st.left 1 (visits_in h) enough stands.0.1.1.1.1.0)
+    (stands_counted s st a (home_of a) p No sets 1 h enough refl (inl refl) stands, passed_reached is_common a.path (home_of a) p No sets 1 h (omega arith) (inl refl))))
 
 -- ---- vars
 
 module _ (policy : PolicyTree) (is_common : Bool) (p : Numbered) (guard : Status) (scopes : InScope) (choices : Option (List Chosen)) (visits : ℕ) (st counted' st' : State) (a a' : Activation)
     (sees : (s : Setting) (h : History) → Stands s st a h → scopes ≡ scopes_in s h (home_of a)) (counting : visits ≡ count_choices choices) where
-  pub vars_set : (set : List Datum) → choices ≡ setting_choices scopes promises.Vars p.promise → set ≡ data_set scopes p.promise choices →
-      visits ≤ st.left → counted' ≡ record st { left = st.left - visits } → IsSame a a' →
+  pub vars_set : (set : List Datum) (blames : List Blame) → is_acting p.type ≡ false →
+      ((s : Setting) (h : History) → Stands s st a h → blames ≡ own_unsettled s h (home_of a) p guard true) → choices ≡ setting_choices scopes promises.Vars p.promise → set ≡ data_set scopes p.promise choices →
+      visits ≤ st.left → counted' ≡ record st { left = st.left - visits; log = logged_blames blames st.log } → IsSame a a' →
       ((s : Setting) (h : History) → Stands s counted' a h → Stands s st' a' (set_each a.path p.promise.promiser set h)) →
       HasQuietlyDone policy is_common (vars_level p guard) st st' a a'
-  vars_set set choosing setting enough counts same does =
+  vars_set set blames acts unsettled choosing setting enough counts same does =
       at_home policy is_common (vars_level p guard) st st' a a' same (λ s t h stands.
       let home : Home = home_of a in
       let S : InScope = scopes_in s h home in
@@ -191,11 +228,13 @@ module _ (policy : PolicyTree) (is_common : Bool) (p : Numbered) (guard : Status
       let visited : visits ≡ count_choices C = counting ∙ ap count_choices chosen in
       let given : set ≡ data_set S p.promise C = setting ∙ (ap (data_set scopes p.promise) chosen ∙ ap (λ (x : InScope). data_set x p.promise C) (sees s h stands)) in
       let P : History → Type 0 = λ k. Stands s st' a' k × Passed is_common a.path h k in
-      let k : History = Reached a.path p.id guard true visits ∷ h in
+      let k : History = Reached (home_of a) p guard true visits ∷ h in
+      let owns : blames ≡ own_unsettled s h home p guard true ++ edits_unsettled s h home p guard =
+      unsettled s h stands ∙ (sym (append_none (own_unsettled s h home p guard true)) ∙ ap (λ (x : List Blame). own_unsettled s h home p guard true ++ x) (sym (no_edits s h home p guard (inr acts)))) in
       let done : GoesTo (reached home p guard true visits (λ x. goes (set_each a.path p.promise.promiser set x)) h) P =
-      reached_goes home p guard true visits (λ x. goes (set_each a.path p.promise.promiser set x)) h P (fits st.left visits (visits_in h) enough stands.0.1.1.1.1) (
-        does s k (subst (λ (x : State). Stands s x a k) (sym counts) (stands_reached s st a a.path p.id guard true visits h enough stands)),
-        passed_then is_common a.path h k (set_each a.path p.promise.promiser set k) (passed_reached is_common a.path a.path p.id guard true visits h) (passed_set_each is_common a.path p.promise.promiser set k),
+      reached_goes home p guard true visits (λ x. goes (set_each a.path p.promise.promiser set x)) h P (fits st.left visits (visits_in h) enough stands.0.1.1.1.1.0) (
+        does s k (subst (λ (x : State). Stands s x a k) (sym counts) (stands_reached s st a (home_of a) p guard true visits blames h enough owns (inr acts) stands)),
+        passed_then is_common a.path h k (set_each a.path p.promise.promiser set k) (passed_reached is_common a.path (home_of a) p guard true visits h (omega arith) (inr acts)) (passed_set_each is_common a.path p.promise.promiser set k),
       ) in
       subst (λ (v : ℕ). GoesTo (reached home p guard true v (λ x. goes (set_each a.path p.promise.promiser (data_set S p.promise C) x)) h) P) visited
       (subst (λ (d : List Datum). GoesTo (reached home p guard true visits (λ x. goes (set_each a.path p.promise.promiser d x)) h) P) given done))
@@ -239,12 +278,12 @@ handed_over s st a h guard scopes promise choices global local in_guard raises h
 
 module _ (policy : PolicyTree) (is_common : Bool) (p : Numbered) (guard : Status) (scopes : InScope) (choices : Option (List Chosen)) (visits : ℕ) (st counted' st' : State) (a a' : Activation)
     (sees : (s : Setting) (h : History) → Stands s st a h → scopes ≡ scopes_in s h (home_of a)) (counting : visits ≡ count_choices choices) where
-  pub classes_raised : (handed : List Handed) → choices ≡ setting_choices scopes promises.Classes p.promise →
+  pub classes_raised : (handed : List Handed) → is_acting p.type ≡ false → choices ≡ setting_choices scopes promises.Classes p.promise →
       ((s : Setting) (h : History) → Stands s st a h → handed ≡ handed_by s h a.path guard scopes p.promise choices) →
       visits ≤ st.left → counted' ≡ record st { left = st.left - visits } → IsSame a a' →
       ((s : Setting) (h : History) → Stands s counted' a h → Stands s st' a' (raise_handed (place_of is_common (home_of a)) handed h)) →
       HasQuietlyDone policy is_common (classes_level is_common p guard) st st' a a'
-  classes_raised handed choosing handing enough counts same does =
+  classes_raised handed acts choosing handing enough counts same does =
       at_home policy is_common (classes_level is_common p guard) st st' a a' same (λ s t h stands.
       let home : Home = home_of a in
       let S : InScope = scopes_in s h home in
@@ -254,16 +293,30 @@ module _ (policy : PolicyTree) (is_common : Bool) (p : Numbered) (guard : Status
       let over : handed ≡ handed_by s h a.path guard S p.promise C =
       handing s h stands ∙ (ap (handed_by s h a.path guard scopes p.promise) chosen ∙ ap (λ (x : InScope). handed_by s h a.path guard x p.promise C) (sees s h stands)) in
       let P : History → Type 0 = λ k. Stands s st' a' k × Passed is_common a.path h k in
-      let k : History = Reached a.path p.id guard false visits ∷ h in
+      let k : History = Reached (home_of a) p guard false visits ∷ h in
       let place : Where = place_of is_common home in
       let done : GoesTo (goes (raise_handed place handed k)) P = (
-        does s k (subst (λ (x : State). Stands s x a k) (sym counts) (stands_reached s st a a.path p.id guard false visits h enough stands)),
-        passed_then is_common a.path h k (raise_handed place handed k) (passed_reached is_common a.path a.path p.id guard false visits h) (passed_handed is_common home handed k),
+        does s k (subst (λ (x : State). Stands s x a k) (sym counts) (stands_counted s st a (home_of a) p guard false visits h enough (none_unsettled s h home p guard (inr acts)) (inr acts) stands)),
+        passed_then is_common a.path h k (raise_handed place handed k) (passed_reached is_common a.path (home_of a) p guard false visits h (omega arith) (inr acts)) (passed_handed is_common home handed k),
       ) in
       let in_guard : Option (List ℕ) = first_maybe_of_guard p.promise.guard (status_in s h a.path) in
       let raises : List Raise = raises_of (status_in s h a.path) S p.promise C in
       let all : raise_handed place handed k ≡ raise_all h place a.path guard in_guard raises k =
       ap (λ (x : List Handed). raise_handed place x k) over ∙ all_raised h place a.path guard in_guard raises k in
       subst (λ (v : ℕ). GoesTo (reached home p guard false v (λ x. goes (raise_all h place a.path guard in_guard raises x)) h) P) visited
-      (reached_goes home p guard false visits (λ x. goes (raise_all h place a.path guard in_guard raises x)) h P (fits st.left visits (visits_in h) enough stands.0.1.1.1.1)
+      (reached_goes home p guard false visits (λ x. goes (raise_all h place a.path guard in_guard raises x)) h P (fits st.left visits (visits_in h) enough stands.0.1.1.1.1.0)
       (subst (λ (x : History). GoesTo (goes x) P) all done)))
+
+-- a pattern that one of its calls builds
+pub classes_build : (policy : PolicyTree) (is_common : Bool) (p : Numbered) (guard : Status) (scopes : InScope) (choices : Option (List Chosen)) (st : State) (a : Activation) (text : List ℕ) →
+    ((s : Setting) (h : History) → Stands s st a h → scopes ≡ scopes_in s h (home_of a)) → (guard ≡ No → ⊥) → choices ≡ setting_choices scopes promises.Classes p.promise →
+    (refused : Option (List ℕ)) (pats pats' : Shown (List (List ℕ))) → refused ≡ Some text → SizeRefusal (BuiltBy scopes p.promise choices) refused pats pats' →
+    HasQuietlyBuilt policy is_common (classes_level is_common p guard) st a text
+classes_build policy is_common p guard scopes choices st a text sees set choosing refused pats pats' is refusal = λ s home status t h stands.
+    let built : BuiltBy scopes p.promise choices text = size_refused (BuiltBy scopes p.promise choices) refused text pats pats' is refusal in
+    let S : InScope = scopes_in s h home in
+    let seen : scopes ≡ S = sees s h stands.1.1.1 ∙ ap (λ (x : Home). scopes_in s h x) stands.1.0 in
+    let chosen : choices ≡ setting_choices S promises.Classes p.promise = choosing ∙ ap (λ (x : InScope). setting_choices x promises.Classes p.promise) seen in
+    let there : BuiltBy S p.promise (setting_choices S promises.Classes p.promise) text =
+    subst (λ (x : Option (List Chosen)). BuiltBy S p.promise x text) chosen (subst (λ (x : InScope). BuiltBy x p.promise choices text) seen built) in
+    classes_built s text (place_of is_common home) home p guard (setting_choices S promises.Classes p.promise) h (built_where s text guard h home p set (inl there))

@@ -1,5 +1,5 @@
 -- The classes that are raised for an outcome, and the parameters that are bound, one after the other.
-use Rattle.std.proofs.Common.{◌≡◌, ℕ, zero, suc, ◌+◌, ◌<◌, ◌≤◌, Bool, true, List, [], ◌∷◌, ◌++◌, length, map, take, get_or, Some, refl, sym, ap, subst, ◌∙◌, add-one, arith}
+use Rattle.std.proofs.Common.{◌≡◌, ℕ, zero, suc, ◌+◌, ◌<◌, ◌≤◌, Bool, true, false, List, [], ◌∷◌, ◌++◌, length, map, take, get_or, Some, refl, sym, ap, subst, ◌∙◌, add-one, arith}
 use Rattle.std.specs.Str.{bytes_eq}
 use Rattle.std.proofs.lemmas.List.{take_more}
 use Rattle.std.proofs.lemmas.List.Folds.{list_any_at}
@@ -7,6 +7,7 @@ use Rattle.std.proofs.lemmas.Slice.Eq.{bytes_eq-Decides}
 use Rattle.cfa_base.specs.declared.places.PromiseId.{PromiseId}
 use Rattle.cfa_classes.specs.declared.levels.Status.{Status}
 use Rattle.cfa_outcomes.specs.declared.outcomes.Outcome.{Outcome}
+use Rattle.cfa_outcomes.specs.declared.outcomes.Outcome.TheVariants.{Kept, Repaired}
 use Rattle.cfa_resolve.specs.declared.instances.Instance.{Instance}
 use Rattle.cfa_tree.specs.declared.blocks.Named.{Named}
 use Rattle.cfa_tree.specs.Plain.{plain_named}
@@ -45,6 +46,30 @@ outcome_one_more s st' instance outcome status classes i class copy source h are
     ∙ (sym (raise_each-last instance (outcome ∷ []) status (take i classes) class h)
     ∙ ap (λ (x : List (List ℕ)). raise_each instance (outcome ∷ []) status x h)
     (ap (λ (x : List ℕ). take i classes ++ x ∷ []) here ∙ sym (take_more classes i class within)))))) keeps
+
+-- one more class of an instance that may be kept or repaired is raised
+pub both_one_more : (s : Setting) (st' : State) (instance : Instance) (outcomes : List Outcome) (status to : Status) (classes : List (List ℕ)) (i : ℕ) (class copy : List ℕ) (source : PromiseId) (h : History) →
+    i < length classes → class ≡ get_or classes i class → copy ≡ class → source ≡ instance.source → to ≡ raised_to status (in_every_list instance outcomes class) →
+    Keeps s st' (Raised everywhere copy to (Some source) ∷ raise_each instance outcomes status (take i classes) h) →
+    Keeps s st' (raise_each instance outcomes status (take (i + 1) classes) h)
+both_one_more s st' instance outcomes status to classes i class copy source h within here copies sources is keeps =
+    let before : History = raise_each instance outcomes status (take i classes) h in
+    subst (λ (k : History). Keeps s st' k)
+    (ap (λ (x : List ℕ). Raised everywhere x to (Some source) ∷ before) copies
+    ∙ (ap (λ (x : PromiseId). Raised everywhere class to (Some x) ∷ before) sources
+    ∙ (ap (λ (x : Status). Raised everywhere class x (Some instance.source) ∷ before) is
+    ∙ (sym (raise_each-last instance outcomes status (take i classes) class h)
+    ∙ ap (λ (x : List (List ℕ)). raise_each instance outcomes status x h)
+    (ap (λ (x : List ℕ). take i classes ++ x ∷ []) here ∙ sym (take_more classes i class within)))))) keeps
+
+-- whether the lists of an instance that may be kept or repaired have a class
+module _ (i : Instance) (class : List ℕ) where
+  pub not_in_kept : is_among i.kept class ≡ false → in_every_list i (Kept ∷ (Repaired ∷ [])) class ≡ false
+  not_in_kept lacks = rw (lacks, in_every_list) refl
+
+  pub by_repaired : (b : Bool) → is_among i.kept class ≡ true → is_among i.repaired class ≡ b → in_every_list i (Kept ∷ (Repaired ∷ [])) class ≡ b
+  by_repaired true has is = rw (has, in_every_list) (rw (is, in_every_list) refl)
+  by_repaired false has is = rw (has, in_every_list) (rw (is, in_every_list) refl)
 
 -- ---- parameters
 

@@ -1,5 +1,5 @@
 -- What is kept of a history stays so over each event that doesn't touch it.
-use Rattle.std.proofs.Common.{◌≡◌, ◌≢◌, ℕ, ◌-◌, ◌≤◌, Bool, true, false, List, [], ◌∷◌, map, Option, None, refl, sym, ap, subst, ◌∙◌, arith}
+use Rattle.std.proofs.Common.{◌≡◌, ◌≢◌, ℕ, ◌+◌, ◌-◌, ◌≤◌, Bool, true, false, List, [], ◌∷◌, ◌++◌, map, Option, Some, None, refl, sym, ap, subst, ◌∙◌, arith}
 use Rattle.std.specs.Prelude.{◌&&◌}
 use Rattle.std.specs.Option.{option_or}
 use Rattle.std.specs.Str.{bytes_eq}
@@ -14,31 +14,64 @@ use Rattle.cfa_resolve.specs.declared.instances.Instance.{Instance}
 use Rattle.cfa_tree.specs.Tree.{PolicyTree}
 use Rattle.cfa_vars.specs.declared.scoping.Datum.{Datum}
 use Rattle.cfa_walk.specs.declared.states.State.{State}
-use Rattle.cfa_walk.specs.History.{History, Begun, Set, Raised, Reached, Listed, Told, everywhere, within, scope_in, globally, global_source, mark_in, is_named}
-use Rattle.cfa_walk.specs.Kept.{Keeps}
+use Rattle.cfa_walk.specs.History.{History, Home, Begun, Set, Raised, Reached, Listed, Told, everywhere, within, scope_in, globally, global_source, mark_in, is_named, visits_in}
+use Rattle.cfa_base.specs.TextMaps.{TextMap}
+use Rattle.cfa_walk.specs.declared.waits.Wait.{Wait}
+use Rattle.cfa_walk.specs.declared.walks.Blame.{Blame}
+use Rattle.cfa_walk.specs.Kept.{Keeps, KeepsWaits, KeepsLog, wait_at}
+use Rattle.cfa_walk.specs.Logs.{Rows, logged_blames, first_log}
+use Rattle.cfa_walk.specs.Numbered.{Numbered}
 use Rattle.cfa_walk.specs.Passes.{most_visits}
 use Rattle.cfa_walk.specs.Views.{Setting, from_start, global_status, is_listed, shared_names, shared_in}
+use Rattle.cfa_walk.specs.Waits.{wait_of_call}
+use Rattle.cfa_walk.specs.Walks.{listed_instances, listings, unsettled_promises, own_unsettled, edits_unsettled}
 use Rattle.cfa_walk.proofs.SharedLemmas.{same_name, is_same, as_it_was}
+use Rattle.cfa_walk.proofs.WaitLemmas.{log_reached, logged_none}
+
+-- ---- what is counted, waited for and listed
+
+log_same : (s : Setting) (log : Option Rows) (h k : History) → listed_instances k ≡ listed_instances h → listings s k ≡ listings s h → unsettled_promises s k ≡ unsettled_promises s h →
+    KeepsLog s log h → KeepsLog s log k
+log_same s None h k instances visits unsettled keeps = tt
+log_same s (Some rows) h k instances visits unsettled keeps = (keeps.0 ∙ sym instances, (keeps.1.0 ∙ sym visits, keeps.1.1 ∙ sym unsettled))
+
+abbrev pub KeepsCounts : Setting → State → History → Type 0
+KeepsCounts s st h = (st.left + visits_in h ≡ most_visits) × (KeepsWaits s st.calls h × KeepsLog s st.log h)
+
+pub counts_same : (s : Setting) (st : State) (h k : History) → visits_in k ≡ visits_in h → ((path : List ℕ) → wait_of_call s k path ≡ wait_of_call s h path) →
+    listed_instances k ≡ listed_instances h → listings s k ≡ listings s h → unsettled_promises s k ≡ unsettled_promises s h → KeepsCounts s st h → KeepsCounts s st k
+counts_same s st h k visits waits instances visited unsettled keeps =
+    (ap (λ (n : ℕ). st.left + n) visits ∙ keeps.0, (λ path. keeps.1.0 path ∙ sym (waits path), log_same s st.log h k instances visited unsettled keeps.1.1))
 
 -- ---- events that touch nothing of it
 
 pub keeps_told : (s : Setting) (st : State) (h : History) (instance : Instance) (outcomes : List Outcome) → Keeps s st h → Keeps s st (Told instance outcomes ∷ h)
 unfolding shared_in
-keeps_told s st h instance outcomes keeps = keeps
+keeps_told s st h instance outcomes keeps =
+    (keeps.0, (keeps.1.0, (keeps.1.1.0, (keeps.1.1.1.0, counts_same s st h (Told instance outcomes ∷ h) refl (λ _. refl) refl refl refl keeps.1.1.1.1))))
 
 pub keeps_raised_within : (s : Setting) (st : State) (h : History) (path class : List ℕ) (status : Status) (source : Option PromiseId) →
     Keeps s st h → Keeps s st (Raised (within path) class status source ∷ h)
 unfolding shared_in
-keeps_raised_within s st h path class status source keeps = keeps
+keeps_raised_within s st h path class status source keeps =
+    (keeps.0, (keeps.1.0, (keeps.1.1.0, (keeps.1.1.1.0, counts_same s st h (Raised (within path) class status source ∷ h) refl (λ _. refl) refl refl refl keeps.1.1.1.1))))
 
 -- visits that are counted
-pub keeps_reached : (s : Setting) (st st' : State) (h : History) (path : List ℕ) (promise : PromiseId) (guard : Status) (sets : Bool) (visits : ℕ) →
-    visits ≤ st.left → st' ≡ record st { left = st.left - visits } → Keeps s st h → Keeps s st' (Reached path promise guard sets visits ∷ h)
+pub keeps_reached : (s : Setting) (st : State) (h : History) (home : Home) (promise : Numbered) (guard : Status) (sets : Bool) (visits : ℕ) (blames : List Blame) →
+    visits ≤ st.left → blames ≡ own_unsettled s h home promise guard sets ++ edits_unsettled s h home promise guard →
+    Keeps s st h → Keeps s (record st { left = st.left - visits; log = logged_blames blames st.log }) (Reached home promise guard sets visits ∷ h)
 unfolding shared_in
-keeps_reached s st st' h path promise guard sets visits enough is keeps =
-    let counted = keeps.1.1.1.1 in
-    subst (λ x. Keeps s x (Reached path promise guard sets visits ∷ h)) (sym is)
-    (keeps.0, (keeps.1.0, (keeps.1.1.0, (keeps.1.1.1.0, omega arith))))
+keeps_reached s st h home promise guard sets visits blames enough is keeps =
+    let counted = keeps.1.1.1.1.0 in
+    (keeps.0, (keeps.1.0, (keeps.1.1.0, (keeps.1.1.1.0, (omega arith, (keeps.1.1.1.1.1.0, log_reached s h home promise guard sets visits st.log blames is keeps.1.1.1.1.1.1))))))
+
+-- where nothing is unsettled
+pub keeps_counted : (s : Setting) (st : State) (h : History) (home : Home) (promise : Numbered) (guard : Status) (sets : Bool) (visits : ℕ) →
+    visits ≤ st.left → [] ≡ own_unsettled s h home promise guard sets ++ edits_unsettled s h home promise guard →
+    Keeps s st h → Keeps s (record st { left = st.left - visits }) (Reached home promise guard sets visits ∷ h)
+keeps_counted s st h home promise guard sets visits enough is keeps =
+    subst (λ (log : Option Rows). Keeps s (record st { left = st.left - visits; log = log }) (Reached home promise guard sets visits ∷ h)) (logged_none st.log)
+    (keeps_reached s st h home promise guard sets visits [] enough is keeps)
 
 -- ---- scopes that aren't shared
 
@@ -63,12 +96,14 @@ shared_set policy h path variable datum own =
 pub keeps_begun : (s : Setting) (st : State) (h : History) (path : List ℕ) (arguments : List Datum) → is_listed (shared_names s.policy) path ≡ false →
     Keeps s st h → Keeps s st (Begun path arguments ∷ h)
 keeps_begun s st h path arguments own keeps =
-    (keeps.0, (keeps.1.0, (keeps.1.1.0, (keeps.1.1.1.0 ∙ sym (shared_begun s.policy h path arguments own), keeps.1.1.1.1))))
+    let counts = counts_same s st h (Begun path arguments ∷ h) refl (λ _. refl) refl refl refl keeps.1.1.1.1 in
+    (keeps.0, (keeps.1.0, (keeps.1.1.0, (keeps.1.1.1.0 ∙ sym (shared_begun s.policy h path arguments own), counts))))
 
 pub keeps_set : (s : Setting) (st : State) (h : History) (path variable : List ℕ) (datum : Datum) → is_listed (shared_names s.policy) path ≡ false →
     Keeps s st h → Keeps s st (Set path variable datum ∷ h)
 keeps_set s st h path variable datum own keeps =
-    (keeps.0, (keeps.1.0, (keeps.1.1.0, (keeps.1.1.1.0 ∙ sym (shared_set s.policy h path variable datum own), keeps.1.1.1.1))))
+    let counts = counts_same s st h (Set path variable datum ∷ h) refl (λ _. refl) refl refl refl keeps.1.1.1.1 in
+    (keeps.0, (keeps.1.0, (keeps.1.1.0, (keeps.1.1.1.0 ∙ sym (shared_set s.policy h path variable datum own), counts))))
 
 both_true : (b c : Bool) → (b && c) ≡ true → (b ≡ true) × (c ≡ true)
 both_true true c e = (refl, e)
@@ -164,7 +199,8 @@ module _ (s : Setting) (st : State) (e : EnvironmentMaps) (h : History) (keeps :
         Keeps s (record st { environment = e }) (Raised everywhere class to source ∷ h)
     unfolding shared_in
     keeps_raised status other_statuses given other_sources marks =
-        (raised_status status other_statuses, (raised_source given other_sources, (λ path text. marks path text ∙ keeps.1.1.0 path text, keeps.1.1.1)))
+        let counts = counts_same s st h (Raised everywhere class to source ∷ h) refl (λ _. refl) refl refl refl keeps.1.1.1.1 in
+        (raised_status status other_statuses, (raised_source given other_sources, (λ path text. marks path text ∙ keeps.1.1.0 path text, (keeps.1.1.1.0, counts))))
 
   -- ---- instances that are listed
 
@@ -196,21 +232,45 @@ module _ (s : Setting) (st : State) (e : EnvironmentMaps) (h : History) (keeps :
               ∙ keeps.1.1.0 path text ∙ sym (listed_elsewhere path text differ)
         ] refl
 
-    pub keeps_listed : (at key : List ℕ) → at ≡ instance.path → key ≡ instance.text →
+    pub keeps_listed : (calls : Option (TextMap Wait)) (log : Option Rows) (at key : List ℕ) → at ≡ instance.path → key ≡ instance.text →
         mark_of e at key ≡ greater (mark_of st.environment at key) to →
         ((other_path other_text : List ℕ) → ¬ ((other_path ≡ at) × (other_text ≡ key)) → mark_of e other_path other_text ≡ mark_of st.environment other_path other_text) →
         ((class : List ℕ) → status_of e class ≡ status_of st.environment class) →
         ((class : List ℕ) → source_of e class ≡ source_of st.environment class) →
-        Keeps s (record st { environment = e }) (Listed instance to ∷ h)
+        KeepsWaits s calls (Listed instance to ∷ h) → KeepsLog s log (Listed instance to ∷ h) →
+        Keeps s (record st { environment = e; calls = calls; log = log }) (Listed instance to ∷ h)
     unfolding shared_in
-    keeps_listed at key is_path is_text becomes others statuses sources =
-        (λ class. statuses class ∙ keeps.0 class, (λ class. sources class ∙ keeps.1.0 class, (marked at key is_path is_text becomes others, keeps.1.1.1)))
+    keeps_listed calls log at key is_path is_text becomes others statuses sources waits logs = (
+      λ class. statuses class ∙ keeps.0 class,
+      (λ class. sources class ∙ keeps.1.0 class, (marked at key is_path is_text becomes others, (keeps.1.1.1.0, (keeps.1.1.1.1.0, (waits, logs))))),
+    )
 
 -- ---- at first
 
+log_first : (s : Setting) (is_logged : Bool) → KeepsLog s (first_log is_logged) []
+log_first s true = (refl, (refl, refl))
+log_first s false = tt
+
 pub keeps_first : (s : Setting) (st : State) → ((class : List ℕ) → status_of st.environment class ≡ from_start s class) →
     ((class : List ℕ) → source_of st.environment class ≡ None) → ((path text : List ℕ) → mark_of st.environment path text ≡ No) →
-    st.shared.items ≡ map (λ name. (name, [])) (shared_names s.policy) → st.left ≡ most_visits → Keeps s st []
+    st.shared.items ≡ map (λ name. (name, [])) (shared_names s.policy) → st.left ≡ most_visits → st.calls ≡ None → (is_logged : Bool) → st.log ≡ first_log is_logged → Keeps s st []
 unfolding shared_in
-keeps_first s st statuses sources marks shared left =
-    (λ class. statuses class ∙ sym (greater_with_none (from_start s class)), (sources, (marks, (shared, omega arith))))
+keeps_first s st statuses sources marks shared left none is_logged log = (
+  λ class. statuses class ∙ sym (greater_with_none (from_start s class)),
+  (
+    sources,
+    (
+      marks,
+      (
+        shared,
+        (
+          omega arith,
+          (
+            λ path. ap (λ (x : Option (TextMap Wait)). wait_at x path) none,
+            subst (λ (x : Option Rows). KeepsLog s x []) (sym log) (log_first s is_logged),
+          ),
+        ),
+      ),
+    ),
+  ),
+)

@@ -13,6 +13,8 @@ use Rattle.cfa_walk.specs.declared.activations.Activation.{Activation}
 use Rattle.cfa_walk.specs.History.{History, Event}
 use Rattle.cfa_walk.specs.Kept.{SpareShorter, SpareLocals}
 use Rattle.cfa_walk.specs.Levels.{GoesTo, IsTooLarge, is_quiet, Faults, Later, Stops, Level, StandsAt, PatternsAre, HasDone, LevelDone, FaultsAre, Ends, QuietLevel, Quietly, nothing, one_more, SpareIf, HasQuietlyDone, QuietDone}
+use Rattle.cfa_walk.specs.Builds.{BuiltOn}
+use Rattle.cfa_walk.proofs.BuiltLemmas.{KeepsBuilt, then_kept}
 use Rattle.cfa_walk.specs.Passes.{Course, goes, too_large, then_on, each}
 use Rattle.cfa_walk.specs.Tellers.{Teller}
 use Rattle.cfa_walk.specs.Views.{Setting, Home}
@@ -30,6 +32,17 @@ past_first (too_large h) next past = tt
 pub past_then : (c : Course) (next : History → Course) (P : History → Type 0) → GoesTo c P → ((k : History) → P k → IsTooLarge (next k)) → IsTooLarge (then_on c next)
 past_then (goes h) next P p q = q h p
 past_then (too_large h) next P p q = absurd p
+
+pub built_then : (s : Setting) (text : List ℕ) (c : Course) (next : History → Course) (P : History → Type 0) → GoesTo c P → ((k : History) → P k → BuiltOn s (next k) text) → BuiltOn s (then_on c next) text
+built_then s text (goes h) next P p q = q h p
+built_then s text (too_large h) next P p q = absurd p
+
+-- a level keeps what was built before it
+abbrev pub LevelKeeps : Level → Type 0
+LevelKeeps level = (text : List ℕ) (s : Setting) (home : Home) (status : Status) (t : Teller) → KeepsBuilt s text (level s home status t)
+
+abbrev pub QuietKeeps : QuietLevel → Type 0
+QuietKeeps level = (text : List ℕ) (s : Setting) (home : Home) (t : Teller) → KeepsBuilt s text (level s home t)
 
 pub goes_weaker : (c : Course) (P Q : History → Type 0) → ((k : History) → P k → Q k) → GoesTo c P → GoesTo c Q
 goes_weaker (goes h) P Q pq p = pq h p
@@ -101,13 +114,14 @@ patterns_then p q r result same are = subst (λ x. PatternsAre result x r) same 
 -- ---- what is local to shorter paths
 
 pub spare_same : (bound : ℕ) (h : History) → SpareShorter bound h h
-spare_same bound h = record { locals = λ path class short. refl; sources = λ path class short. refl; worst = λ path short. refl; scopes = λ path short. refl }
+spare_same bound h = record { locals = λ path class short. refl; sources = λ path class short. refl; worst = λ path short. refl; waits = λ s path short. refl; scopes = λ path short. refl }
 
 pub spare_then : (bound : ℕ) (h k m : History) → SpareShorter bound h k → SpareShorter bound k m → SpareShorter bound h m
 spare_then bound h k m hk km = record {
   locals = λ path class short. km.locals path class short ∙ hk.locals path class short;
   sources = λ path class short. km.sources path class short ∙ hk.sources path class short;
   worst = λ path short. km.worst path short ∙ hk.worst path short;
+  waits = λ s path short. km.waits s path short ∙ hk.waits s path short;
   scopes = λ path short. km.scopes path short ∙ hk.scopes path short;
 }
 
@@ -138,7 +152,9 @@ module _ {W X : Type 0} (teller : X → Teller) (agrees : W → X → Type 0) (b
   level_is level other w w' st st' a a' (Err Visits) is does = λ s home status x h agree.
       let d = does s home status x h agree in
       (d.0, λ stands stays. subst (λ c. IsTooLarge c) (sym (is s home status (teller x) h stands)) (d.1 stands stays))
-  level_is level other w w' st st' a a' (Err (Pattern text)) is does = tt
+  level_is level other w w' st st' a a' (Err (Pattern text)) is does = λ s home status x h agree.
+      let d = does s home status x h agree in
+      (d.0, λ stands stays. subst (λ c. BuiltOn s c text) (sym (is s home status (teller x) h stands)) (d.1 stands stays))
 
   pub level_then : (level next : Level) (w w' w'' : W) (st st' st'' : State) (a a' a'' : Activation) (result : Result (Unit {0}) Stop)
       → HasDone teller agrees behind policy level w w' st st' a a' → LevelDone teller agrees behind policy next w' w'' st' st'' a' a'' result
@@ -161,18 +177,26 @@ module _ {W X : Type 0} (teller : X → Teller) (agrees : W → X → Type 0) (b
         λ stands stays.
             past_then (level s home status (teller x) h) (next s home status (teller x)) _ (before.1 stands stays) (λ k p. (second s home status x k agree).1 p.0 p.1.0),
       )
-  level_then level next w w' w'' st st' st'' a a' a'' (Err (Pattern text)) first second = tt
+  level_then level next w w' w'' st st' st'' a a' a'' (Err (Pattern text)) first second = λ s home status x h agree.
+      let last = second s home status x h agree in
+      let before = first s home status x h last.0 in (
+        before.0,
+        λ stands stays.
+            built_then s text (level s home status (teller x) h) (next s home status (teller x)) _ (before.1 stands stays) (λ k p. (second s home status x k agree).1 p.0 p.1.0),
+      )
 
   -- a level that was stopped stops those behind it
-  pub level_stops : (level next : Level) (w w' : W) (st st' : State) (a a' : Activation) (stop : Stop)
+  pub level_stops : (level next : Level) → LevelKeeps next → (w w' : W) (st st' : State) (a a' : Activation) (stop : Stop)
       → LevelDone teller agrees behind policy level w w' st st' a a' (Err stop)
       → LevelDone teller agrees behind policy (λ s home status t h. then_on (level s home status t h) (next s home status t)) w w' st st' a a' (Err stop)
-  level_stops level next w w' st st' a a' (Outside object) first = tt
-  level_stops level next w w' st st' a a' Memory first = tt
-  level_stops level next w w' st st' a a' Visits first = λ s home status x h agree.
+  level_stops level next keeps w w' st st' a a' (Outside object) first = tt
+  level_stops level next keeps w w' st st' a a' Memory first = tt
+  level_stops level next keeps w w' st st' a a' Visits first = λ s home status x h agree.
       let before = first s home status x h agree in
       (before.0, λ stands stays. past_first (level s home status (teller x) h) (next s home status (teller x)) (before.1 stands stays))
-  level_stops level next w w' st st' a a' (Pattern text) first = tt
+  level_stops level next keeps w w' st st' a a' (Pattern text) first = λ s home status x h agree.
+      let before = first s home status x h agree in
+      (before.0, λ stands stays. then_kept s text (level s home status (teller x) h) (next s home status (teller x)) (before.1 stands stays) (keeps text s home status (teller x)))
 
   -- ---- how levels end
 
@@ -187,10 +211,10 @@ module _ {W X : Type 0} (teller : X → Teller) (agrees : W → X → Type 0) (b
     ),
   )
 
-  pub ends_stops : (level next : Level) (w w' : W) (st st' : State) (a a' : Activation) (p p' : Shown (List (List ℕ))) (stop : Stop)
+  pub ends_stops : (level next : Level) → LevelKeeps next → (w w' : W) (st st' : State) (a a' : Activation) (p p' : Shown (List (List ℕ))) (stop : Stop)
       → Ends teller agrees behind faults policy level w w' st st' a a' p p' (Err stop)
       → Ends teller agrees behind faults policy (λ s home status t h. then_on (level s home status t h) (next s home status t)) w w' st st' a a' p p' (Err stop)
-  ends_stops level next w w' st st' a a' p p' stop first = (level_stops level next w w' st st' a a' stop first.0, first.1)
+  ends_stops level next keeps w w' st st' a a' p p' stop first = (level_stops level next keeps w w' st st' a a' stop first.0, first.1)
 
   pub ends_is : (level other : Level) (w w' : W) (st st' : State) (a a' : Activation) (p p' : Shown (List (List ℕ))) (result : Result (Unit {0}) Stop)
       → ((s : Setting) (home : Home) (status : Status) (t : Teller) (h : History) → StandsAt policy s home status st a h → other s home status t h ≡ level s home status t h)
@@ -222,7 +246,7 @@ module _ {W X : Type 0} (teller : X → Teller) (agrees : W → X → Type 0) (b
   quiet_level w steady level is_common st st' a a' (Err (Outside object)) does = tt
   quiet_level w steady level is_common st st' a a' (Err Memory) does = tt
   quiet_level w steady level is_common st st' a a' (Err Visits) does = λ s home status x h agree. (agree, λ stands stays. does s home status (teller x) h stands)
-  quiet_level w steady level is_common st st' a a' (Err (Pattern text)) does = tt
+  quiet_level w steady level is_common st st' a a' (Err (Pattern text)) does = λ s home status x h agree. (agree, λ stands stays. does s home status (teller x) h stands)
 
 -- ---- quiet levels one after the other
 
@@ -235,10 +259,11 @@ spare_all_then h k m hk km = record {
   locals = λ path class. km.locals path class ∙ hk.locals path class;
   sources = λ path class. km.sources path class ∙ hk.sources path class;
   worst = λ path. km.worst path ∙ hk.worst path;
+  waits = λ s path. km.waits s path ∙ hk.waits s path;
 }
 
 pub spare_all_same : (h : History) → SpareLocals h h
-spare_all_same h = record { locals = λ path class. refl; sources = λ path class. refl; worst = λ path. refl }
+spare_all_same h = record { locals = λ path class. refl; sources = λ path class. refl; worst = λ path. refl; waits = λ s path. refl }
 
 spare_if_then : (is_common : Bool) (h k m : History) → SpareIf is_common h k → SpareIf is_common k m → SpareIf is_common h m
 spare_if_then true h k m hk km = spare_all_then h k m hk km
@@ -265,7 +290,7 @@ module _ (policy : PolicyTree) (is_common : Bool) where
   quiet_is level other st st' a a' (Err (Outside object)) is does = does
   quiet_is level other st st' a a' (Err Memory) is does = tt
   quiet_is level other st st' a a' (Err Visits) is does = λ s home status t h stands. subst (λ c. IsTooLarge c) (sym (is s home status t h stands)) (does s home status t h stands)
-  quiet_is level other st st' a a' (Err (Pattern text)) is does = tt
+  quiet_is level other st st' a a' (Err (Pattern text)) is does = λ s home status t h stands. subst (λ c. BuiltOn s c text) (sym (is s home status t h stands)) (does s home status t h stands)
 
   pub quiet_then : (level next : QuietLevel) (st st' st'' : State) (a a' a'' : Activation) (result : Result (Unit {0}) Stop)
       → HasQuietlyDone policy is_common level st st' a a' → QuietDone policy is_common next st' st'' a' a'' result
@@ -279,12 +304,14 @@ module _ (policy : PolicyTree) (is_common : Bool) where
   quiet_then level next st st' st'' a a' a'' (Err Memory) first second = tt
   quiet_then level next st st' st'' a a' a'' (Err Visits) first second = λ s home status t h stands.
       past_then (level s home t h) (next s home t) _ (first s home status t h stands) (λ k p. second s home status t k p.0)
-  quiet_then level next st st' st'' a a' a'' (Err (Pattern text)) first second = tt
+  quiet_then level next st st' st'' a a' a'' (Err (Pattern text)) first second = λ s home status t h stands.
+      built_then s text (level s home t h) (next s home t) _ (first s home status t h stands) (λ k p. second s home status t k p.0)
 
-  pub quiet_stops : (level next : QuietLevel) (st st' : State) (a a' : Activation) (stop : Stop)
+  pub quiet_stops : (level next : QuietLevel) → QuietKeeps next → (st st' : State) (a a' : Activation) (stop : Stop)
       → QuietDone policy is_common level st st' a a' (Err stop)
       → QuietDone policy is_common (λ s home t h. then_on (level s home t h) (next s home t)) st st' a a' (Err stop)
-  quiet_stops level next st st' a a' (Outside object) first = first
-  quiet_stops level next st st' a a' Memory first = tt
-  quiet_stops level next st st' a a' Visits first = λ s home status t h stands. past_first (level s home t h) (next s home t) (first s home status t h stands)
-  quiet_stops level next st st' a a' (Pattern text) first = tt
+  quiet_stops level next keeps st st' a a' (Outside object) first = first
+  quiet_stops level next keeps st st' a a' Memory first = tt
+  quiet_stops level next keeps st st' a a' Visits first = λ s home status t h stands. past_first (level s home t h) (next s home t) (first s home status t h stands)
+  quiet_stops level next keeps st st' a a' (Pattern text) first = λ s home status t h stands.
+      then_kept s text (level s home t h) (next s home t) (first s home status t h stands) (keeps text s home t)

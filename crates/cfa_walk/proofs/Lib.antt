@@ -1,9 +1,14 @@
 mod Rows
+pub mod BuiltLemmas
 pub mod LevelLemmas
 pub mod FactLemmas
 pub mod CommonLemmas
 pub mod SharedLemmas
 pub mod KeptLemmas
+pub mod WaitLemmas
+pub mod IndexLemmas
+pub mod ListingLemmas
+pub mod LogLemmas
 pub mod LocalLemmas
 pub mod SpareLemmas
 pub mod LastLemmas

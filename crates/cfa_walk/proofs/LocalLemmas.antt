@@ -7,9 +7,12 @@ use Rattle.cfa_resolve.specs.declared.instances.Instance.{Instance}
 use Rattle.cfa_tree.specs.Tree.{PolicyTree}
 use Rattle.cfa_vars.specs.Scopes.{Table}
 use Rattle.cfa_walk.specs.declared.activations.Activation.{Activation}
-use Rattle.cfa_walk.specs.History.{History, Raised, Reached, Listed, everywhere, scope_in, locally, local_source}
+use Rattle.cfa_walk.specs.History.{History, Home, Raised, Reached, Listed, everywhere, scope_in, locally, local_source}
 use Rattle.cfa_walk.specs.Kept.{KeepsLocally, OwnScope}
+use Rattle.cfa_walk.specs.declared.waits.Wait.{Wait}
+use Rattle.cfa_walk.specs.Numbered.{Numbered}
 use Rattle.cfa_walk.specs.Tellers.{worst_in}
+use Rattle.cfa_walk.specs.Waits.{waits_in}
 use Rattle.cfa_walk.specs.Views.{Setting, is_listed, shared_names}
 
 -- ---- the scope of an activation
@@ -44,22 +47,30 @@ has_own policy (Some place) own path h is same unshared = absurd (cc)
 -- ---- events of other places
 
 pub local_same : (s : Setting) (a : Activation) (h k : History) → ((class : List ℕ) → locally k a.path class ≡ locally h a.path class) →
-    ((class : List ℕ) → local_source k a.path class ≡ local_source h a.path class) → worst_in k a.path ≡ worst_in h a.path → scope_in k a.path ≡ scope_in h a.path →
+    ((class : List ℕ) → local_source k a.path class ≡ local_source h a.path class) → worst_in k a.path ≡ worst_in h a.path → waits_in s k a.path ≡ waits_in s h a.path → scope_in k a.path ≡ scope_in h a.path →
     KeepsLocally s a h → KeepsLocally s a k
-local_same s a h k locals sources worst scope keeps = (
+local_same s a h k locals sources worst waits scope keeps = (
   λ class. keeps.0 class ∙ sym (locals class),
   (
     λ class. keeps.1.0 class ∙ sym (sources class),
-    (keeps.1.1.0 ∙ sym worst, own_scope_same s.policy a.place a.own a.path h k scope keeps.1.1.1),
+    ((keeps.1.1.0.0 ∙ sym worst, keeps.1.1.0.1 ∙ sym waits), own_scope_same s.policy a.place a.own a.path h k scope keeps.1.1.1),
   ),
 )
 
 module _ (s : Setting) (a : Activation) (h : History) where
   pub local_raised_everywhere : (class : List ℕ) (status : Status) (source : Option PromiseId) → KeepsLocally s a h → KeepsLocally s a (Raised everywhere class status source ∷ h)
-  local_raised_everywhere class status source = local_same s a h (Raised everywhere class status source ∷ h) (λ _. refl) (λ _. refl) refl refl
+  local_raised_everywhere class status source = local_same s a h (Raised everywhere class status source ∷ h) (λ _. refl) (λ _. refl) refl refl refl
 
-  pub local_reached : (path : List ℕ) (promise : PromiseId) (guard : Status) (sets : Bool) (visits : ℕ) → KeepsLocally s a h → KeepsLocally s a (Reached path promise guard sets visits ∷ h)
-  local_reached path promise guard sets visits = local_same s a h (Reached path promise guard sets visits ∷ h) (λ _. refl) (λ _. refl) refl refl
+  pub local_reached : (home : Home) (promise : Numbered) (guard : Status) (sets : Bool) (visits : ℕ) →
+      waits_in s (Reached home promise guard sets visits ∷ h) a.path ≡ waits_in s h a.path → KeepsLocally s a h → KeepsLocally s a (Reached home promise guard sets visits ∷ h)
+  local_reached home promise guard sets visits waits = local_same s a h (Reached home promise guard sets visits ∷ h) (λ _. refl) (λ _. refl) refl waits refl
+
+  -- its instances are visited next
+  pub local_waits : (home : Home) (promise : Numbered) (guard : Status) (sets : Bool) (visits : ℕ) (waits : Option Wait) →
+      waits ≡ waits_in s (Reached home promise guard sets visits ∷ h) a.path → KeepsLocally s a h →
+      KeepsLocally s (record a { waits = waits }) (Reached home promise guard sets visits ∷ h)
+  local_waits home promise guard sets visits waits is keeps =
+      (keeps.0, (keeps.1.0, ((keeps.1.1.0.0, is), own_scope_same s.policy a.place a.own a.path h (Reached home promise guard sets visits ∷ h) refl keeps.1.1.1)))
 
   pub local_listed : (instance : Instance) (status : Status) → KeepsLocally s a h → KeepsLocally s a (Listed instance status ∷ h)
-  local_listed instance status = local_same s a h (Listed instance status ∷ h) (λ _. refl) (λ _. refl) refl refl
+  local_listed instance status = local_same s a h (Listed instance status ∷ h) (λ _. refl) (λ _. refl) refl refl refl

@@ -10,7 +10,8 @@ use Rattle.cfa_walk.specs.History.{History}
 use Rattle.cfa_walk.specs.Levels.{Faults, Level, Ends}
 use Rattle.cfa_walk.specs.Passes.{then_on, each}
 use Rattle.cfa_walk.specs.Tellers.{Teller}
-use Rattle.cfa_walk.proofs.LevelLemmas.{each_more, ends_then, ends_stops, ends_is, ends_nothing}
+use Rattle.cfa_walk.proofs.BuiltLemmas.{each_kept}
+use Rattle.cfa_walk.proofs.LevelLemmas.{LevelKeeps, each_more, ends_then, ends_stops, ends_is, ends_nothing}
 use Rattle.cfa_walk.proofs.CommonLemmas.{each_append}
 
 abbrev pub each_level : {Y : Type 0} → (Y → Level) → List Y → Level
@@ -34,12 +35,13 @@ module _ {W X : Type 0} (teller : X → Teller) (agrees : W → X → Type 0) (b
       (ends_then teller agrees behind faults policy (each_level does xs) (does y) w w' w'' st st' st'' a a' a'' p p' p'' tt result so_far next)
 
   -- those behind a stop aren't done
-  pub loop_stops : {Y : Type 0} (does : Y → Level) (all xs ys : List Y) (w w' : W) (st st' : State) (a a' : Activation)
+  pub loop_stops : {Y : Type 0} (does : Y → Level) → ((y : Y) → LevelKeeps (does y)) → (all xs ys : List Y) (w w' : W) (st st' : State) (a a' : Activation)
       (p p' : Shown (List (List ℕ))) (stop : Stop) → all ≡ xs ++ ys →
       Ends teller agrees behind faults policy (each_level does xs) w w' st st' a a' p p' (Err stop) →
       Ends teller agrees behind faults policy (each_level does all) w w' st st' a a' p p' (Err stop)
-  loop_stops does all xs ys w w' st st' a a' p p' stop is first =
+  loop_stops does keeps all xs ys w w' st st' a a' p p' stop is first =
       ends_is teller agrees behind faults policy (λ s home status t h. then_on (each_level does xs s home status t h) (each_level does ys s home status t)) (each_level does all)
       w w' st st' a a' p p' (Err stop)
       (λ s home status t h stands. ap (λ zs. each (λ x. does x s home status t) zs h) is ∙ each_append (λ x. does x s home status t) xs ys h)
-      (ends_stops teller agrees behind faults policy (each_level does xs) (each_level does ys) w w' st st' a a' p p' stop first)
+      (ends_stops teller agrees behind faults policy (each_level does xs) (each_level does ys)
+      (λ text s home status t. each_kept s text (λ x. does x s home status t) (λ y. keeps y text s home status t) ys) w w' st st' a a' p p' stop first)

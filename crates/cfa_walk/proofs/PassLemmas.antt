@@ -14,15 +14,17 @@ use Rattle.cfa_tree.specs.Tree.{PolicyTree}
 use Rattle.cfa_walk.specs.declared.states.State.{State}
 use Rattle.cfa_walk.specs.declared.activations.Activation.{Activation}
 use Rattle.cfa_walk.specs.History.{History, Event, within}
+use Rattle.cfa_resolve.specs.declared.instances.Instance.{Instance}
 use Rattle.cfa_resolve.specs.Resolution.{is_acting}
 use Rattle.cfa_walk.specs.Kept.{Stands}
 use Rattle.cfa_walk.specs.Levels.{Faults, Level, StandsAt, Ends, FaultsAre, PatternsAre, QuietLevel, QuietDone, is_quiet}
-use Rattle.cfa_walk.specs.Numbered.{Numbered, is_type, of_type}
+use Rattle.cfa_walk.specs.Numbered.{Numbered, is_type, of_type, agent_types}
 use Rattle.cfa_walk.specs.Passes.{Course, goes, too_large, then_on, each, guarded, kept_by, acting_reached, passes, calls_of, reach}
-use Rattle.cfa_walk.specs.Steps.{type_level, pass_level, passes_level, reach_level, acting_level, idle_level, vars_level, classes_level}
+use Rattle.cfa_walk.specs.Steps.{type_level, pass_level, passes_level, reach_level, acting_level, visit_level, idle_level, vars_level, classes_level}
 use Rattle.cfa_walk.specs.Tellers.{Teller}
 use Rattle.cfa_walk.specs.Views.{Setting, Home, guard_status}
-use Rattle.cfa_walk.proofs.LevelLemmas.{then_goes, each_one, ends_then, ends_stops, ends_is, ends_nothing, later_same, quiet_level}
+use Rattle.cfa_walk.proofs.BuiltLemmas.{calls_kept, visit_kept, promises_kept, types_kept}
+use Rattle.cfa_walk.proofs.LevelLemmas.{LevelKeeps, then_goes, each_one, ends_then, ends_stops, ends_is, ends_nothing, later_same, quiet_level}
 use Rattle.cfa_walk.proofs.CommonLemmas.{each_append, on_stop}
 
 -- ---- three passes
@@ -39,6 +41,16 @@ pub three_passes : (depth : ℕ) (ps : List Numbered) (s : Setting) (home : Home
     → passes_level depth ps s home status t h ≡ then_on (then_on (pass_level depth ps s home status t h) (pass_level depth ps s home status t)) (pass_level depth ps s home status t)
 unfolding passes
 three_passes depth ps s home status t h = three (pass_level depth ps s home status t h) (pass_level depth ps s home status t)
+
+-- what was built before stays so
+pub pass_keeps : (depth : ℕ) (ps : List Numbered) → LevelKeeps (pass_level depth ps)
+pass_keeps depth ps text s home status t = types_kept s text t (calls_of s t depth) (calls_kept s text t depth) (within home.path) home status ps agent_types
+
+pub type_keeps : (depth : ℕ) (ps : List Numbered) (type : PromiseType) → LevelKeeps (type_level depth ps type)
+type_keeps depth ps type text s home status t = promises_kept s text t (calls_of s t depth) (calls_kept s text t depth) (within home.path) home status (of_type type ps)
+
+pub visit_keeps : (depth : ℕ) (guard : Status) (instance : Instance) → LevelKeeps (visit_level depth guard instance)
+visit_keeps depth guard instance text s home status t = visit_kept s text t (calls_of s t depth) (calls_kept s text t depth) guard status instance
 
 module _ {W X : Type 0} (teller : X → Teller) (agrees : W → X → Type 0) (behind : W → X → History → Type 0) (faults : W → Faults) (policy : PolicyTree) (depth : ℕ) (ps : List Numbered) where
   abbrev twice : Level
@@ -57,8 +69,8 @@ module _ {W X : Type 0} (teller : X → Teller) (agrees : W → X → Type 0) (b
       Ends teller agrees behind faults policy (passes_level depth ps) w w' st st' a a' p p' (Err stop)
   first_stops w w' st st' a a' p p' stop first =
       thrice_is w w' st st' a a' p p' (Err stop)
-      (ends_stops teller agrees behind faults policy twice (pass_level depth ps) w w' st st' a a' p p' stop
-      (ends_stops teller agrees behind faults policy (pass_level depth ps) (pass_level depth ps) w w' st st' a a' p p' stop first))
+      (ends_stops teller agrees behind faults policy twice (pass_level depth ps) (pass_keeps depth ps) w w' st st' a a' p p' stop
+      (ends_stops teller agrees behind faults policy (pass_level depth ps) (pass_level depth ps) (pass_keeps depth ps) w w' st st' a a' p p' stop first))
 
   pub second_stops : (w w' w'' : W) (st st' st'' : State) (a a' a'' : Activation) (p p' p'' : Shown (List (List ℕ))) (stop : Stop) →
       Ends teller agrees behind faults policy (pass_level depth ps) w w' st st' a a' p p' (Ok tt) →
@@ -66,7 +78,7 @@ module _ {W X : Type 0} (teller : X → Teller) (agrees : W → X → Type 0) (b
       Ends teller agrees behind faults policy (passes_level depth ps) w w'' st st'' a a'' p p'' (Err stop)
   second_stops w w' w'' st st' st'' a a' a'' p p' p'' stop first second =
       thrice_is w w'' st st'' a a'' p p'' (Err stop)
-      (ends_stops teller agrees behind faults policy twice (pass_level depth ps) w w'' st st'' a a'' p p'' stop
+      (ends_stops teller agrees behind faults policy twice (pass_level depth ps) (pass_keeps depth ps) w w'' st st'' a a'' p p'' stop
       (ends_then teller agrees behind faults policy (pass_level depth ps) (pass_level depth ps) w w' w'' st st' st'' a a' a'' p p' p'' tt (Err stop) first second))
 
   pub passes_end : (w w1 w2 w3 : W) (st st1 st2 st3 : State) (a a1 a2 a3 : Activation) (p p1 p2 p3 : Shown (List (List ℕ))) (result : Result (Unit {0}) Stop) →
@@ -147,7 +159,7 @@ module _ {W X : Type 0} (teller : X → Teller) (agrees : W → X → Type 0) (b
       ends_is teller agrees behind faults policy (λ s home status t h. then_on (type_level depth xs type s home status t h) (type_level depth ys type s home status t)) (type_level depth all type)
       w w' st st' a a' p p' (Err stop)
       (λ s home status t h stands. ap (λ ps. type_level depth ps type s home status t h) is ∙ type_append depth type xs ys s home status t h)
-      (ends_stops teller agrees behind faults policy (type_level depth xs type) (type_level depth ys type) w w' st st' a a' p p' stop first)
+      (ends_stops teller agrees behind faults policy (type_level depth xs type) (type_level depth ys type) (type_keeps depth ys type) w w' st st' a a' p p' stop first)
 
 -- ---- quiet levels
 

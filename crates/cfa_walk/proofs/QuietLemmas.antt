@@ -10,16 +10,31 @@ use Rattle.cfa_schema.specs.Served.{common_bundles_of}
 use Rattle.cfa_walk.specs.declared.states.State.{State}
 use Rattle.cfa_walk.specs.declared.activations.Activation.{Activation}
 use Rattle.cfa_walk.specs.Bundles.{Walk, IsClear, KeepsClear, HasQuietlyGone, QuietWalkDone, common_walk, commons_walk, passes_walk}
-use Rattle.cfa_walk.specs.History.{History}
+use Rattle.cfa_walk.specs.Builds.{BuiltOn}
+use Rattle.cfa_walk.specs.History.{History, everywhere}
 use Rattle.cfa_walk.specs.Kept.{Keeps, Stands, IsOf, IsUntouched, SpareLocals}
 use Rattle.cfa_walk.specs.Levels.{GoesTo, IsTooLarge, StandsAt, Quietly, nothing, HasQuietlyDone, QuietDone}
-use Rattle.cfa_walk.specs.Numbered.{Numbered, name_of, numbered_in}
-use Rattle.cfa_walk.specs.Passes.{Course, goes, too_large, then_on, through_common, common_passes}
+use Rattle.cfa_walk.specs.Numbered.{Numbered, name_of, numbered_in, common_types}
+use Rattle.cfa_walk.specs.Passes.{Course, goes, too_large, then_on, all_calls, through_common, common_passes}
 use Rattle.cfa_walk.specs.Steps.{common_type_level, common_level}
 use Rattle.cfa_walk.specs.Tellers.{Teller}
 use Rattle.cfa_walk.specs.Views.{Setting, Home}
-use Rattle.cfa_walk.proofs.LevelLemmas.{goes_then, past_first, past_then, goes_weaker, then_goes, each_more, quietly_then, quiet_is, quiet_then, quiet_stops}
-use Rattle.cfa_walk.proofs.CommonLemmas.{each_append}
+use Rattle.cfa_walk.proofs.BuiltLemmas.{KeepsBuilt, then_kept, each_kept, types_kept, calls_kept}
+use Rattle.cfa_walk.proofs.LevelLemmas.{built_then, goes_then, past_first, past_then, goes_weaker, then_goes, each_more, quietly_then, quiet_is, quiet_then, quiet_stops}
+use Rattle.cfa_walk.proofs.CommonLemmas.{common_keeps, each_append}
+
+-- ---- what was built before stays so
+
+abbrev pub WalkKeeps : Walk → Type 0
+WalkKeeps walk = (text : List ℕ) (s : Setting) (t : Teller) → KeepsBuilt s text (walk s t)
+
+pub commons_keep : (blocks : List BlockTree) → WalkKeeps (commons_walk blocks)
+commons_keep blocks text s t =
+    each_kept s text (through_common s t)
+    (λ block. types_kept s text t (all_calls s t) (calls_kept s text t (length s.policy)) everywhere (record { path = name_of block; bundle = name_of block }) Yes (numbered_in block) common_types) blocks
+
+pub twice_keeps : (blocks : List BlockTree) → WalkKeeps (λ s t h. then_on (commons_walk blocks s t h) (commons_walk blocks s t))
+twice_keeps blocks text s t h built = then_kept s text (commons_walk blocks s t h) (commons_walk blocks s t) (commons_keep blocks text s t h built) (commons_keep blocks text s t)
 
 -- ---- quiet walks
 
@@ -36,7 +51,7 @@ module _ (policy : PolicyTree) where
   walk_is walk other st st' (Err (Outside object)) is does = does
   walk_is walk other st st' (Err Memory) is does = tt
   walk_is walk other st st' (Err Visits) is does = λ s t h keeps. subst (λ c. IsTooLarge c) (sym (is s t h keeps)) (does s t h keeps)
-  walk_is walk other st st' (Err (Pattern text)) is does = tt
+  walk_is walk other st st' (Err (Pattern text)) is does = λ s t h keeps. subst (λ c. BuiltOn s c text) (sym (is s t h keeps)) (does s t h keeps)
 
   pub walk_then : (walk next : Walk) (st st' st'' : State) (result : Result (Unit {0}) Stop) → HasQuietlyGone policy walk st st' → QuietWalkDone policy next st' st'' result →
       QuietWalkDone policy (λ s t h. then_on (walk s t h) (next s t)) st st'' result
@@ -47,14 +62,15 @@ module _ (policy : PolicyTree) where
   walk_then walk next st st' st'' (Err Memory) first second = tt
   walk_then walk next st st' st'' (Err Visits) first second = λ s t h keeps.
       past_then (walk s t h) (next s t) _ (first s t h keeps) (λ k p. second s t k p.0)
-  walk_then walk next st st' st'' (Err (Pattern text)) first second = tt
+  walk_then walk next st st' st'' (Err (Pattern text)) first second = λ s t h keeps.
+      built_then s text (walk s t h) (next s t) _ (first s t h keeps) (λ k p. second s t k p.0)
 
-  pub walk_stops : (walk next : Walk) (st st' : State) (stop : Stop) → QuietWalkDone policy walk st st' (Err stop) →
+  pub walk_stops : (walk next : Walk) → WalkKeeps next → (st st' : State) (stop : Stop) → QuietWalkDone policy walk st st' (Err stop) →
       QuietWalkDone policy (λ s t h. then_on (walk s t h) (next s t)) st st' (Err stop)
-  walk_stops walk next st st' (Outside object) first = first
-  walk_stops walk next st st' Memory first = tt
-  walk_stops walk next st st' Visits first = λ s t h keeps. past_first (walk s t h) (next s t) (first s t h keeps)
-  walk_stops walk next st st' (Pattern text) first = tt
+  walk_stops walk next kept st st' (Outside object) first = first
+  walk_stops walk next kept st st' Memory first = tt
+  walk_stops walk next kept st st' Visits first = λ s t h keeps. past_first (walk s t h) (next s t) (first s t h keeps)
+  walk_stops walk next kept st st' (Pattern text) first = λ s t h keeps. then_kept s text (walk s t h) (next s t) (first s t h keeps) (kept text s t)
 
   -- ---- a common bundle
 
@@ -63,10 +79,11 @@ module _ (policy : PolicyTree) where
     locals = λ path class. spare.locals path class ∙ clear.locals path class;
     sources = λ path class. spare.sources path class ∙ clear.sources path class;
     worst = λ path. spare.worst path ∙ clear.worst path;
+    waits = λ s path. spare.waits s path ∙ clear.waits s path;
   }
 
   untouched : (h : History) (path : List ℕ) → IsClear h → IsUntouched h path
-  untouched h path clear = record { statuses = clear.locals path; sources = clear.sources path; worst = clear.worst path }
+  untouched h path clear = record { statuses = clear.locals path; sources = clear.sources path; worst = clear.worst path; waits = λ s. clear.waits s path }
 
   abbrev home_for : (name : List ℕ) → Home
   home_for name = record { path = name; bundle = name }
@@ -101,7 +118,15 @@ module _ (policy : PolicyTree) where
       course : (s : Setting) (t : Teller) (h : History) → s.policy ≡ policy → common_level (length policy) ps s (home_for (name_of block)) t h ≡ common_walk block s t h
       course s t h same =
           ap (λ n. common_level n ps s (home_for (name_of block)) t h) (sym (ap length same)) ∙ ap (λ xs. common_level (length s.policy) xs s (home_for (name_of block)) t h) is
-  common_gone block ps st st' a a' (Err (Pattern text)) of stands is does = tt
+  common_gone block ps st st' a a' (Err (Pattern text)) of stands is does = λ s t h keeps.
+      subst (λ c. BuiltOn s c text) (course s t h keeps.0) (does s (home_for (name_of block)) Yes t h (at s h keeps))
+    where
+      at : (s : Setting) (h : History) → KeepsClear policy s st h → StandsAt policy s (home_for (name_of block)) Yes st a h
+      at s h keeps = (keeps.0, (home_is a (name_of block) of, (of.status, stands s h keeps.1.0 (untouched h (name_of block) keeps.1.1))))
+
+      course : (s : Setting) (t : Teller) (h : History) → s.policy ≡ policy → common_level (length policy) ps s (home_for (name_of block)) t h ≡ common_walk block s t h
+      course s t h same =
+          ap (λ n. common_level n ps s (home_for (name_of block)) t h) (sym (ap length same)) ∙ ap (λ xs. common_level (length s.policy) xs s (home_for (name_of block)) t h) is
 
 -- vars, and then classes
 module _ (policy : PolicyTree) (depth : ℕ) (ps : List Numbered) where
@@ -126,7 +151,7 @@ module _ (policy : PolicyTree) (depth : ℕ) (ps : List Numbered) where
   types_stop st st' a a' stop first =
       quiet_is policy true (λ s home t h. then_on (common_type_level depth ps Vars s home t h) (common_type_level depth ps Classes s home t)) (common_level depth ps) st st' a a' (Err stop)
       (λ s home status t h stands. both_types s home t h)
-      (quiet_stops policy true (common_type_level depth ps Vars) (common_type_level depth ps Classes) st st' a a' stop first)
+      (quiet_stops policy true (common_type_level depth ps Vars) (common_type_level depth ps Classes) (common_keeps depth ps Classes) st st' a a' stop first)
 
 -- ---- many common bundles
 
@@ -149,7 +174,7 @@ module _ (policy : PolicyTree) where
   commons_stop all xs ys st st' stop is first =
       walk_is policy (λ s t h. then_on (commons_walk xs s t h) (commons_walk ys s t)) (commons_walk all) st st' (Err stop)
       (λ s t h keeps. ap (λ bs. commons_walk bs s t h) is ∙ each_append (through_common s t) xs ys h)
-      (walk_stops policy (commons_walk xs) (commons_walk ys) st st' stop first)
+      (walk_stops policy (commons_walk xs) (commons_walk ys) (commons_keep ys) st st' stop first)
 
   -- three times
   pub commons_thrice : (blocks : List BlockTree) (st st' : State) (result : Result (Unit {0}) Stop) → blocks ≡ common_bundles_of policy →

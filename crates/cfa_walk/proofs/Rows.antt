@@ -102,7 +102,7 @@ told_in (Told instance outcomes ∷ h) = (instance.text, outcomes) ∷ told_in h
 told_in (Begun p arguments ∷ h) = told_in h
 told_in (Set p name datum ∷ h) = told_in h
 told_in (Raised place name status source ∷ h) = told_in h
-told_in (Reached p id guard sets visits ∷ h) = told_in h
+told_in (Reached home promise guard sets visits ∷ h) = told_in h
 told_in (Listed instance status ∷ h) = told_in h
 
 -- the visits, the newest first
@@ -112,7 +112,7 @@ listed_in (Listed instance status ∷ h) = (instance.text, status) ∷ listed_in
 listed_in (Begun p arguments ∷ h) = listed_in h
 listed_in (Set p name datum ∷ h) = listed_in h
 listed_in (Raised place name status source ∷ h) = listed_in h
-listed_in (Reached p id guard sets visits ∷ h) = listed_in h
+listed_in (Reached home promise guard sets visits ∷ h) = listed_in h
 listed_in (Told instance outcomes ∷ h) = listed_in h
 
 abbrev outcome_by_work : Outcome → History → Instance → Work → Outcome

@@ -11,11 +11,13 @@ use Rattle.cfa_outcomes.specs.declared.outcomes.Outcome.{Outcome}
 use Rattle.cfa_resolve.specs.declared.instances.Instance.{Instance}
 use Rattle.cfa_vars.specs.declared.scoping.Datum.{Datum}
 use Rattle.cfa_walk.specs.declared.activations.Activation.{Activation}
-use Rattle.cfa_walk.specs.History.{History, Begun, Set, Raised, Reached, Listed, Told, everywhere, within, scope_in, locally, local_source}
+use Rattle.cfa_walk.specs.History.{History, Home, Begun, Set, Raised, Reached, Listed, Told, everywhere, within, scope_in, locally, local_source}
 use Rattle.cfa_walk.specs.Kept.{KeepsLocally, SpareShorter, SpareLocals, IsUntouched}
+use Rattle.cfa_walk.specs.Numbered.{Numbered}
 use Rattle.cfa_walk.specs.Tellers.{worst_in, inner_path}
 use Rattle.cfa_walk.specs.Views.{Setting}
 use Rattle.cfa_walk.proofs.SharedLemmas.{apart}
+use Rattle.cfa_walk.proofs.WaitLemmas.{IsIdle, waits_idle, waits_elsewhere, waits_begun}
 use Rattle.cfa_walk.proofs.LocalLemmas.{local_same}
 
 -- ---- events of one path, at another
@@ -53,19 +55,19 @@ module _ (s : Setting) (a : Activation) (h : History) where
   pub local_begun_elsewhere : (at : List ℕ) (given : List Datum) → bytes_eq at a.path ≡ false → KeepsLocally s a h → KeepsLocally s a (Begun at given ∷ h)
   local_begun_elsewhere at given differ =
       local_same s a h (Begun at given ∷ h) (locally_begun h at a.path differ given) (source_begun h at a.path differ given)
-      (worst_begun h at a.path differ given) (scope_begun h at a.path differ given)
+      (worst_begun h at a.path differ given) (waits_begun s h at given a.path differ) (scope_begun h at a.path differ given)
 
   pub local_set_elsewhere : (at name : List ℕ) (datum : Datum) → bytes_eq at a.path ≡ false → KeepsLocally s a h → KeepsLocally s a (Set at name datum ∷ h)
-  local_set_elsewhere at name datum differ = local_same s a h (Set at name datum ∷ h) (λ _. refl) (λ _. refl) refl (scope_set h at a.path differ name datum)
+  local_set_elsewhere at name datum differ = local_same s a h (Set at name datum ∷ h) (λ _. refl) (λ _. refl) refl refl (scope_set h at a.path differ name datum)
 
   pub local_raised_elsewhere : (at class : List ℕ) (status : Status) (source : Option PromiseId) → bytes_eq at a.path ≡ false →
       KeepsLocally s a h → KeepsLocally s a (Raised (within at) class status source ∷ h)
   local_raised_elsewhere at class status source differ =
-      local_same s a h (Raised (within at) class status source ∷ h) (locally_raised h at a.path differ class status source) (source_raised h at a.path differ class status source) refl refl
+      local_same s a h (Raised (within at) class status source ∷ h) (locally_raised h at a.path differ class status source) (source_raised h at a.path differ class status source) refl refl refl
 
   pub local_told_elsewhere : (instance : Instance) (outcomes : List Outcome) → bytes_eq instance.path a.path ≡ false → KeepsLocally s a h → KeepsLocally s a (Told instance outcomes ∷ h)
   local_told_elsewhere instance outcomes differ =
-      local_same s a h (Told instance outcomes ∷ h) (λ _. refl) (λ _. refl) (worst_told h instance outcomes a.path differ) refl
+      local_same s a h (Told instance outcomes ∷ h) (λ _. refl) (λ _. refl) (worst_told h instance outcomes a.path differ) refl refl
 
 -- ---- shorter paths
 
@@ -75,13 +77,14 @@ longer_is_other at path longer = apart at path (λ same. let e = ap length same 
 
 pub spare_none : (bound : ℕ) (h : History) → SpareShorter bound h h
 spare_none bound h =
-    record { locals = λ path class short. refl; sources = λ path class short. refl; worst = λ path short. refl; scopes = λ path short. refl }
+    record { locals = λ path class short. refl; sources = λ path class short. refl; worst = λ path short. refl; waits = λ s path short. refl; scopes = λ path short. refl }
 
 pub spare_then : (bound : ℕ) (h k l : History) → SpareShorter bound h k → SpareShorter bound k l → SpareShorter bound h l
 spare_then bound h k l first next = record {
   locals = λ path class short. next.locals path class short ∙ first.locals path class short;
   sources = λ path class short. next.sources path class short ∙ first.sources path class short;
   worst = λ path short. next.worst path short ∙ first.worst path short;
+  waits = λ s path short. next.waits s path short ∙ first.waits s path short;
   scopes = λ path short. next.scopes path short ∙ first.scopes path short;
 }
 
@@ -90,6 +93,7 @@ spare_fewer bound fewer h k less spare = record {
   locals = λ path class short. spare.locals path class (omega arith);
   sources = λ path class short. spare.sources path class (omega arith);
   worst = λ path short. spare.worst path (omega arith);
+  waits = λ s path short. spare.waits s path (omega arith);
   scopes = λ path short. spare.scopes path (omega arith);
 }
 
@@ -102,6 +106,7 @@ module _ (bound : ℕ) (h : History) where
     locals = λ path class short. locally_begun h at path (other at path long short) given class;
     sources = λ path class short. source_begun h at path (other at path long short) given class;
     worst = λ path short. worst_begun h at path (other at path long short) given;
+    waits = λ s path short. waits_begun s h at given path (other at path long short);
     scopes = λ path short. scope_begun h at path (other at path long short) given;
   }
 
@@ -110,6 +115,7 @@ module _ (bound : ℕ) (h : History) where
     locals = λ path class short. refl;
     sources = λ path class short. refl;
     worst = λ path short. refl;
+    waits = λ s path short. refl;
     scopes = λ path short. scope_set h at path (other at path long short) name datum;
   }
 
@@ -118,6 +124,7 @@ module _ (bound : ℕ) (h : History) where
     locals = λ path class short. locally_raised h at path (other at path long short) raised status source class;
     sources = λ path class short. source_raised h at path (other at path long short) raised status source class;
     worst = λ path short. refl;
+    waits = λ s path short. refl;
     scopes = λ path short. refl;
   }
 
@@ -126,55 +133,64 @@ module _ (bound : ℕ) (h : History) where
     locals = λ path class short. refl;
     sources = λ path class short. refl;
     worst = λ path short. worst_told h instance outcomes path (other instance.path path long short);
+    waits = λ s path short. refl;
     scopes = λ path short. refl;
   }
 
   pub spare_raised_everywhere : (class : List ℕ) (status : Status) (source : Option PromiseId) → SpareShorter bound h (Raised everywhere class status source ∷ h)
   spare_raised_everywhere raised status source =
-      record { locals = λ path class short. refl; sources = λ path class short. refl; worst = λ path short. refl; scopes = λ path short. refl }
+      record { locals = λ path class short. refl; sources = λ path class short. refl; worst = λ path short. refl; waits = λ s path short. refl; scopes = λ path short. refl }
 
-  pub spare_reached : (at : List ℕ) (promise : PromiseId) (guard : Status) (sets : Bool) (visits : ℕ) → SpareShorter bound h (Reached at promise guard sets visits ∷ h)
-  spare_reached at promise guard sets visits =
-      record { locals = λ path class short. refl; sources = λ path class short. refl; worst = λ path short. refl; scopes = λ path short. refl }
+  pub spare_reached : (at : Home) (promise : Numbered) (guard : Status) (sets : Bool) (visits : ℕ) → bound ≤ length at.path → SpareShorter bound h (Reached at promise guard sets visits ∷ h)
+  spare_reached at promise guard sets visits long = record {
+    locals = λ path class short. refl;
+    sources = λ path class short. refl;
+    worst = λ path short. refl;
+    waits = λ s path short. waits_elsewhere s at promise sets visits h path guard (other at.path path long short);
+    scopes = λ path short. refl;
+  }
 
   pub spare_listed : (instance : Instance) (status : Status) → SpareShorter bound h (Listed instance status ∷ h)
   spare_listed instance status =
-      record { locals = λ path class short. refl; sources = λ path class short. refl; worst = λ path short. refl; scopes = λ path short. refl }
+      record { locals = λ path class short. refl; sources = λ path class short. refl; worst = λ path short. refl; waits = λ s path short. refl; scopes = λ path short. refl }
 
 -- an activation of a shorter path is kept
 pub local_spared : (bound : ℕ) (s : Setting) (a : Activation) (h k : History) → SpareShorter bound h k → length a.path < bound → KeepsLocally s a h → KeepsLocally s a k
 local_spared bound s a h k spare short =
-    local_same s a h k (λ class. spare.locals a.path class short) (λ class. spare.sources a.path class short) (spare.worst a.path short) (spare.scopes a.path short)
+    local_same s a h k (λ class. spare.locals a.path class short) (λ class. spare.sources a.path class short) (spare.worst a.path short) (spare.waits s a.path short) (spare.scopes a.path short)
 
 -- ---- what is local to any path
 
 pub locals_none : (h : History) → SpareLocals h h
-locals_none h = record { locals = λ path class. refl; sources = λ path class. refl; worst = λ path. refl }
+locals_none h = record { locals = λ path class. refl; sources = λ path class. refl; worst = λ path. refl; waits = λ s path. refl }
 
 pub locals_then : (h k l : History) → SpareLocals h k → SpareLocals k l → SpareLocals h l
 locals_then h k l first next = record {
   locals = λ path class. next.locals path class ∙ first.locals path class;
   sources = λ path class. next.sources path class ∙ first.sources path class;
   worst = λ path. next.worst path ∙ first.worst path;
+  waits = λ s path. next.waits s path ∙ first.waits s path;
 }
 
 pub locals_set : (h : History) (at name : List ℕ) (datum : Datum) → SpareLocals h (Set at name datum ∷ h)
-locals_set h at name datum = record { locals = λ path class. refl; sources = λ path class. refl; worst = λ path. refl }
+locals_set h at name datum = record { locals = λ path class. refl; sources = λ path class. refl; worst = λ path. refl; waits = λ s path. refl }
 
 pub locals_raised_everywhere : (h : History) (class : List ℕ) (status : Status) (source : Option PromiseId) → SpareLocals h (Raised everywhere class status source ∷ h)
-locals_raised_everywhere h raised status source = record { locals = λ path class. refl; sources = λ path class. refl; worst = λ path. refl }
+locals_raised_everywhere h raised status source = record { locals = λ path class. refl; sources = λ path class. refl; worst = λ path. refl; waits = λ s path. refl }
 
-pub locals_reached : (h : History) (at : List ℕ) (promise : PromiseId) (guard : Status) (sets : Bool) (visits : ℕ) → SpareLocals h (Reached at promise guard sets visits ∷ h)
-locals_reached h at promise guard sets visits = record { locals = λ path class. refl; sources = λ path class. refl; worst = λ path. refl }
+pub locals_reached : (h : History) (at : Home) (promise : Numbered) (guard : Status) (sets : Bool) (visits : ℕ) → IsIdle promise guard → SpareLocals h (Reached at promise guard sets visits ∷ h)
+locals_reached h at promise guard sets visits idle =
+    record { locals = λ path class. refl; sources = λ path class. refl; worst = λ path. refl; waits = λ s path. waits_idle s at promise sets visits h path guard idle }
 
 pub untouched_first : (path : List ℕ) → IsUntouched [] path
-untouched_first path = record { statuses = λ class. refl; sources = λ class. refl; worst = refl }
+untouched_first path = record { statuses = λ class. refl; sources = λ class. refl; worst = refl; waits = λ s. refl }
 
 pub still_untouched : (h k : History) (path : List ℕ) → SpareLocals h k → IsUntouched h path → IsUntouched k path
 still_untouched h k path spare untouched = record {
   statuses = λ class. spare.locals path class ∙ untouched.statuses class;
   sources = λ class. spare.sources path class ∙ untouched.sources class;
   worst = spare.worst path ∙ untouched.worst;
+  waits = λ s. spare.waits s path ∙ untouched.waits s;
 }
 
 -- ---- the path of a call

@@ -18,9 +18,14 @@ use Rattle.cfa_walk.specs.declared.activations.Activation.{Activation}
 use Rattle.cfa_walk.specs.History.{History, Event, Raised, Listed, Told, everywhere}
 use Rattle.cfa_walk.specs.Kept.{Keeps, KeepsLocally, IsSame, SpareShorter, home_of}
 use Rattle.cfa_walk.specs.Levels.{GoesTo, IsTooLarge, is_quiet, visited_by, outcomes_of, Faults, Later, Stops, IsTellersStop, HasVisited, HasTold, StandsAt, Ends}
-use Rattle.cfa_walk.specs.Passes.{Course, goes, then_on, Calls, classes_for, in_every_list, raised_to, raise_each, told, worked, unless_skipped, visited, visit_status, calls_of, visit}
+use Rattle.cfa_walk.specs.Builds.{BuiltOn}
+use Rattle.cfa_walk.proofs.BuiltLemmas.{then_kept, told_kept}
+use Rattle.cfa_walk.specs.Passes.{Course, goes, then_on, Calls, classes_for, in_every_list, raised_to, raise_each, raise_lists, told, worked, unless_skipped, visited, visit_status, calls_of, visit}
 use Rattle.cfa_walk.specs.Steps.{visit_level, call_course, CallEnds}
-use Rattle.cfa_walk.specs.Tellers.{Teller, worst_in, inner_path}
+use Rattle.cfa_walk.specs.declared.tellers.Ending.{Ending}
+use Rattle.cfa_walk.specs.Ending.{raise_ending}
+use Rattle.cfa_walk.specs.Waits.{waits_in}
+use Rattle.cfa_walk.specs.Tellers.{Teller, outcomes_in, worst_in, inner_path}
 use Rattle.cfa_walk.specs.Views.{Setting, Home}
 use Rattle.cfa_walk.proofs.LevelLemmas.{goes_then, past_first, later_then, stops_later, ends_nothing}
 use Rattle.cfa_walk.proofs.KeptLemmas.{keeps_told}
@@ -59,10 +64,10 @@ module _ (s : Setting) (t : Teller) (depth : ℕ) (instance : Instance) where
       visited_unless its h set ∙ (ap (λ (b : Bool). unless_skipped t calls instance its b (Listed instance its ∷ h)) skips
       ∙ worked_by instance.work its (Listed instance its ∷ h))
 
-told_one : (instance : Instance) (outcome : Outcome) (its : Status) (k : History) →
-    told instance (outcome ∷ []) its k ≡ raise_each instance (outcome ∷ []) its (classes_for instance outcome) (Told instance (outcome ∷ []) ∷ k)
+told_is : (instance : Instance) (ending : Ending) (its : Status) (k : History) →
+    told instance (outcomes_in ending) its k ≡ raise_ending instance ending its (Told instance (outcomes_in ending) ∷ k)
 unfolding told
-told_one instance outcome its k = refl
+told_is instance ending its k = refl
 
 -- ---- what is kept
 
@@ -74,7 +79,7 @@ worst_skipped h instance path = by_test (bytes_eq instance.path path) refl
     by_test false is = rw (is, worst_in) refl
 
 local_skipped : (s : Setting) (a : Activation) (h : History) (instance : Instance) → KeepsLocally s a h → KeepsLocally s a (Told instance [] ∷ h)
-local_skipped s a h instance = local_same s a h (Told instance [] ∷ h) (λ _. refl) (λ _. refl) (worst_skipped h instance a.path) refl
+local_skipped s a h instance = local_same s a h (Told instance [] ∷ h) (λ _. refl) (λ _. refl) (worst_skipped h instance a.path) refl refl
 
 module _ (instance : Instance) (outcomes : List Outcome) (its : Status) where
   abbrev raised : List ℕ → Event
@@ -97,6 +102,27 @@ module _ (instance : Instance) (outcomes : List Outcome) (its : Status) where
       (classes : List (List ℕ)) (h : History) → Behind h → Behind (raise_each instance outcomes its classes h)
   behind_raised_each Behind steady [] h stays = stays
   behind_raised_each Behind steady (class ∷ classes) h stays = behind_raised_each Behind steady classes (raised class ∷ h) (steady (raised class) h refl stays)
+
+module _ (instance : Instance) (all : List Outcome) (its : Status) where
+  local_raised_lists : (s : Setting) (a : Activation) (outcomes : List Outcome) (h : History) → KeepsLocally s a h → KeepsLocally s a (raise_lists instance all outcomes its h)
+  local_raised_lists s a [] h keeps = keeps
+  local_raised_lists s a (outcome ∷ others) h keeps =
+      local_raised_lists s a others (raise_each instance all its (classes_for instance outcome) h)
+      (local_raised_each instance all its s a (classes_for instance outcome) h keeps)
+
+  spare_raised_lists : (bound : ℕ) (outcomes : List Outcome) (h : History) → SpareShorter bound h (raise_lists instance all outcomes its h)
+  spare_raised_lists bound [] h = spare_none bound h
+  spare_raised_lists bound (outcome ∷ others) h =
+      let k : History = raise_each instance all its (classes_for instance outcome) h in
+      spare_then bound h k (raise_lists instance all others its k)
+      (spare_raised_each instance all its bound (classes_for instance outcome) h) (spare_raised_lists bound others k)
+
+  behind_raised_lists : (Behind : History → Type 0) → ((event : Event) (h : History) → IsTrue (is_quiet event) → Behind h → Behind (event ∷ h)) →
+      (outcomes : List Outcome) (h : History) → Behind h → Behind (raise_lists instance all outcomes its h)
+  behind_raised_lists Behind steady [] h stays = stays
+  behind_raised_lists Behind steady (outcome ∷ others) h stays =
+      behind_raised_lists Behind steady others (raise_each instance all its (classes_for instance outcome) h)
+      (behind_raised_each instance all its Behind steady (classes_for instance outcome) h stays)
 
 -- ---- the status of a visit
 
@@ -132,7 +158,12 @@ module _ {W X : Type 0} (teller : X → Teller) (agrees : W → X → Type 0) (b
   teller_stops w' st' a' b b' Visits stops own same = absurd own
   teller_stops w' st' a' b b' (Pattern text) stops own same = absurd own
 
-  module _ (set : its ≡ No → ⊥) (at : instance.path ≡ a.path) (st1 : State) (marks : (s : Setting) (h : History) → Keeps s st h → Keeps s st1 (Listed instance its ∷ h)) where
+  module _ (set : its ≡ No → ⊥) (at : instance.path ≡ a.path) (st1 : State)
+      (lists : (s : Setting) (h : History) → a.waits ≡ waits_in s h instance.path → Keeps s st h → Keeps s st1 (Listed instance its ∷ h)) where
+    -- what it waits for is kept with the activation
+    marks : (s : Setting) (h : History) → KeepsLocally s a h → Keeps s st h → Keeps s st1 (Listed instance its ∷ h)
+    marks s h locals keeps = lists s h (locals.1.1.0.1 ∙ ap (λ (path : List ℕ). waits_in s h path) (sym at)) keeps
+
     long : (home : Home) → home_of a ≡ home → length home.path ≤ length instance.path
     long home same =
         let e : length instance.path ≡ length home.path = ap length (at ∙ ap (λ (x : Home). x.path) same) in
@@ -157,7 +188,7 @@ module _ {W X : Type 0} (teller : X → Teller) (agrees : W → X → Type 0) (b
                       stands.1.0,
                       (
                         stands.1.1.0,
-                        (keeps_told s st1 k instance [] (marks s h stands.1.1.1.0), local_skipped s a k instance (local_listed s a h instance its stands.1.1.1.1)),
+                        (keeps_told s st1 k instance [] (marks s h stands.1.1.1.1 stands.1.1.1.0), local_skipped s a k instance (local_listed s a h instance its stands.1.1.1.1)),
                       ),
                     ),
                   ),
@@ -189,11 +220,25 @@ module _ {W X : Type 0} (teller : X → Teller) (agrees : W → X → Type 0) (b
                   let heard = v.1 stays in
                   subst (λ (c : Course). IsTooLarge c) (sym (course s home status (teller x) h stands heard.0))
                   (past_first (call_course depth instance instance.work its s (teller x) k) (λ m. goes (told instance (outcomes_of (teller x) m instance instance.work) its m))
-                  (called.1 stands.0 (marks s h stands.1.1.1.0) heard.1)),
+                  (called.1 stands.0 (marks s h stands.1.1.1.1 stands.1.1.1.0) heard.1)),
             ),
         (stops_later (faults w) (faults w1) (faults w2) Visits later1 call.1.0, call.1.1),
       )
-      call_stops w2 st2 b b' (Pattern text) call = (tt, (stops_later (faults w) (faults w1) (faults w2) (Pattern text) later1 call.1.0, call.1.1))
+      call_stops w2 st2 b b' (Pattern text) call = (
+        λ s home status x h agree.
+            let k : History = Listed instance its ∷ h in
+            let called = call.0 s x k agree in
+            let v = hears x h called.0 in (
+              v.0,
+              λ stands stays.
+                  let heard = v.1 stays in
+                  subst (λ (c : Course). BuiltOn s c text) (sym (course s home status (teller x) h stands heard.0))
+                  (then_kept s text (call_course depth instance instance.work its s (teller x) k) (λ m. goes (told instance (outcomes_of (teller x) m instance instance.work) its m))
+                  (called.1 stands.0 (marks s h stands.1.1.1.1 stands.1.1.1.0) heard.1)
+                  (λ m built. told_kept s text instance (outcomes_of (teller x) m instance instance.work) its m built)),
+            ),
+        (stops_later (faults w) (faults w1) (faults w2) (Pattern text) later1 call.1.0, call.1.1),
+      )
 
       -- its call was gone through
       module _ (w2 : W) (st2 : State) (b b' : Shown (List (List ℕ))) (worst_of : Outcome)
@@ -204,7 +249,7 @@ module _ {W X : Type 0} (teller : X → Teller) (agrees : W → X → Type 0) (b
             teller_stops w3 st2 a' b b' stop
             (stops_later (faults w) (faults w2) (faults w3) stop (later_then (faults w) (faults w1) (faults w2) later1 call.1.0) stops) own call.1.1
 
-        module _ (w3 : W) (outcome : Outcome) (tells : HasTold teller agrees behind w2 w3 instance worst_of outcome) (later3 : Later (faults w2) (faults w3)) where
+        module _ (w3 : W) (ending : Ending) (tells : HasTold teller agrees behind w2 w3 instance worst_of ending) (later3 : Later (faults w2) (faults w3)) where
           all_later : Later (faults w) (faults w3)
           all_later = later_then (faults w) (faults w2) (faults w3) (later_then (faults w) (faults w1) (faults w2) later1 call.1.0) later3
 
@@ -213,23 +258,23 @@ module _ {W X : Type 0} (teller : X → Teller) (agrees : W → X → Type 0) (b
 
           module _ (steady : (x : X) (event : Event) (h : History) → IsTrue (is_quiet event) → behind w3 x h → behind w3 x (event ∷ h))
               (st3 : State) (a' : Activation) (same : IsSame a a')
-              (notes : (s : Setting) (h : History) (i : Instance) → i.path ≡ a.path → KeepsLocally s a h → KeepsLocally s a' (Told i (outcome ∷ []) ∷ h))
-              (raises : (s : Setting) (h : History) → Keeps s st2 h → Keeps s st3 (raise_each instance (outcome ∷ []) its (classes_for instance outcome) h)) where
+              (notes : (s : Setting) (h : History) (i : Instance) → i.path ≡ a.path → KeepsLocally s a h → KeepsLocally s a' (Told i (outcomes_in ending) ∷ h))
+              (raises : (s : Setting) (h : History) → Keeps s st2 h → Keeps s st3 (raise_ending instance ending its h)) where
             abbrev end : History → History
-            end k = raise_each instance (outcome ∷ []) its (classes_for instance outcome) (Told instance (outcome ∷ []) ∷ k)
+            end k = raise_ending instance ending its (Told instance (outcomes_in ending) ∷ k)
 
             short : length a.path < length (inner_path instance)
             short = let e : length instance.path ≡ length a.path = ap length at in let more = inner_is_longer instance in omega arith
 
             -- what holds at the end, where it holds after the call
             at_end : (s : Setting) (home : Home) (status : Status) (x : X) (h k : History) → StandsAt policy s home status st a h → Keeps s st2 k →
-                SpareShorter (length (inner_path instance)) (Listed instance its ∷ h) k → behind w3 x (Told instance (outcome ∷ []) ∷ k) →
+                SpareShorter (length (inner_path instance)) (Listed instance its ∷ h) k → behind w3 x (Told instance (outcomes_in ending) ∷ k) →
                 StandsAt policy s home status st3 a' (end k) × (behind w3 x (end k) × SpareShorter (length home.path) h (end k))
             at_end s home status x h k stands keeps spare stays =
                 let l : History = Listed instance its ∷ h in
-                let m : History = Told instance (outcome ∷ []) ∷ k in
+                let all : List Outcome = outcomes_in ending in
+                let m : History = Told instance all ∷ k in
                 let n : ℕ = length home.path in
-                let classes = classes_for instance outcome in
                 let less : n ≤ length instance.path = long home stands.1.0 in
                 let more = inner_is_longer instance in
                 let few : n ≤ length (inner_path instance) = omega arith in (
@@ -240,18 +285,18 @@ module _ {W X : Type 0} (teller : X → Teller) (agrees : W → X → Type 0) (b
                       (
                         same.status ∙ stands.1.1.0,
                         (
-                          raises s m (keeps_told s st2 k instance (outcome ∷ []) keeps),
-                          local_raised_each instance (outcome ∷ []) its s a' classes m
+                          raises s m (keeps_told s st2 k instance all keeps),
+                          local_raised_lists instance all its s a' all m
                               (notes s k instance at (local_spared (length (inner_path instance)) s a l k spare short (local_listed s a h instance its stands.1.1.1.1))),
                         ),
                       ),
                     ),
                   ),
                   (
-                    behind_raised_each instance (outcome ∷ []) its (λ y. behind w3 x y) (steady x) classes m stays,
+                    behind_raised_lists instance all its (λ y. behind w3 x y) (steady x) all m stays,
                     spare_then n h l (end k) (spare_listed n h instance its)
                         (spare_then n l k (end k) (spare_fewer (length (inner_path instance)) n l k few spare)
-                        (spare_then n k m (end k) (spare_told n k instance (outcome ∷ []) less) (spare_raised_each instance (outcome ∷ []) its n classes m))),
+                        (spare_then n k m (end k) (spare_told n k instance all less) (spare_raised_lists instance all its n all m))),
                   ),
                 )
 
@@ -268,10 +313,10 @@ module _ {W X : Type 0} (teller : X → Teller) (agrees : W → X → Type 0) (b
                         let tell : History → Course = λ m. goes (told instance (outcomes_of (teller x) m instance instance.work) its m) in
                         subst (λ (c : Course). GoesTo c P) (sym (course s home status (teller x) h stands heard.0))
                         (goes_then (call_course depth instance instance.work its s (teller x) l) tell _ P
-                        (called.1 stands.0 (marks s h stands.1.1.1.0) heard.1)
+                        (called.1 stands.0 (marks s h stands.1.1.1.1 stands.1.1.1.0) heard.1)
                         (λ k q.
                         let y = (tells x k agree).1 q.1.0 q.1.1.1 in
-                        subst P (sym (ap (λ (os : List Outcome). told instance os its k) y.0 ∙ told_one instance outcome its k))
+                        subst P (sym (ap (λ (os : List Outcome). told instance os its k) y.0 ∙ told_is instance ending its k))
                         (at_end s home status x h k stands q.0 q.1.1.0 y.1))),
                   ),
               (all_later, call.1.1),

@@ -1,28 +1,44 @@
 -- Bundles of the sequence one after the other, and the whole run.
-use Rattle.std.proofs.Common.{◌≡◌, ◌∙◌, ℕ, List, [], ◌∷◌, ◌++◌, length, IsTrue, Some, refl, ap, sym, subst}
+use Rattle.std.proofs.Common.{◌≡◌, ◌∙◌, ℕ, List, [], ◌∷◌, ◌++◌, length, IsTrue, IsErrAnd, Option, Some, None, refl, ap, sym, subst}
 use Rattle.std.specs.Prelude.{Result, Ok, Err}
 use Rattle.cfa_base.specs.Shown.{Shown}
 use Rattle.cfa_classes.specs.declared.levels.Status.TheVariants.{Yes}
 use Rattle.cfa_output.specs.declared.ends.Stop.{Stop}
 use Rattle.cfa_output.specs.declared.ends.Stop.TheVariants.{Outside, Memory, Visits, Pattern}
-use Rattle.cfa_kinds.specs.declared.kinds.BundleType.TheVariants.{Agent}
+use Rattle.cfa_kinds.specs.declared.kinds.BundleType.{BundleType}
+use Rattle.cfa_kinds.specs.declared.kinds.BundleType.TheVariants.{Agent, Common, EditLine}
 use Rattle.cfa_schema.specs.Control.{sequence_of}
 use Rattle.cfa_schema.specs.Served.{bundle_of}
 use Rattle.cfa_tree.specs.Tree.{NamedTree, BlockTree, PolicyTree}
 use Rattle.cfa_walk.specs.declared.states.State.{State}
 use Rattle.cfa_walk.specs.declared.activations.Activation.{Activation}
 use Rattle.cfa_walk.specs.Bundles.{Walk, IsClear, HasQuietlyGone, QuietWalkDone, passes_walk, HasGone, WalkDone, WalkEnds, agent_walk, sequence_walk, bundle_walk}
+use Rattle.cfa_walk.specs.Builds.{BuiltOn}
 use Rattle.cfa_walk.specs.History.{History, Event, Begun, within}
 use Rattle.cfa_walk.specs.Kept.{Keeps, Stands, IsOf, home_of}
-use Rattle.cfa_walk.specs.Levels.{GoesTo, IsTooLarge, is_quiet, Faults, FaultsAre, StandsAt, LevelDone}
+use Rattle.cfa_walk.specs.Levels.{GoesTo, IsTooLarge, is_quiet, Faults, FaultsAre, StandsAt, LevelDone, done_of}
 use Rattle.cfa_walk.specs.Numbered.{Numbered, name_of, numbered_in, params_of}
-use Rattle.cfa_walk.specs.Passes.{goes, then_on, passes, calls_of, bind, by_type, in_sequence, type_of_block, run}
+use Rattle.cfa_walk.specs.Passes.{goes, then_on, passes, calls_of, all_calls, bind, by_type, in_sequence, type_of_block, run}
 use Rattle.cfa_walk.specs.Steps.{passes_level}
 use Rattle.cfa_walk.specs.Tellers.{Teller}
 use Rattle.cfa_walk.specs.Views.{Setting, Home}
-use Rattle.cfa_walk.specs.Walked.{HasRun}
-use Rattle.cfa_walk.proofs.LevelLemmas.{goes_then, past_first, past_then, goes_weaker, each_more, quietly_behind, later_same, faults_then, patterns_then}
+use Rattle.cfa_walk.specs.Walked.{HasRun, HasRunTo}
+use Rattle.cfa_walk.proofs.BuiltLemmas.{KeepsBuilt, then_kept, each_kept, calls_kept, activation_kept}
+use Rattle.cfa_walk.proofs.QuietLemmas.{WalkKeeps}
+use Rattle.cfa_walk.proofs.LevelLemmas.{built_then, goes_then, past_first, past_then, goes_weaker, each_more, quietly_behind, later_same, faults_then, patterns_then}
 use Rattle.cfa_walk.proofs.CommonLemmas.{each_append}
+
+-- what was built before the sequence stays so
+named_keeps : (text : List ℕ) (s : Setting) (t : Teller) (name : List ℕ) (type : Option BundleType) (found : Option BlockTree) → KeepsBuilt s text (by_type s t name type found)
+named_keeps text s t name None found h built = built
+named_keeps text s t name (Some Agent) found h built = activation_kept s text t (all_calls s t) (calls_kept s text t (length s.policy)) name Yes [] found h built
+named_keeps text s t name (Some Common) found h built = built
+named_keeps text s t name (Some EditLine) found h built = built
+
+sequence_keeps : (names : List (List ℕ)) → WalkKeeps (sequence_walk names)
+sequence_keeps names text s t =
+    each_kept s text (λ name. in_sequence s t name (bundle_of s.policy name))
+    (λ name. named_keeps text s t name (type_of_block s t (bundle_of s.policy name)) (bundle_of s.policy name)) names
 
 module _ {W X : Type 0} (teller : X → Teller) (agrees : W → X → Type 0) (behind : W → X → History → Type 0) (policy : PolicyTree) where
   pub gone_nothing : (walk : Walk) (w : W) (st : State) → ((s : Setting) (t : Teller) (h : History) → s.policy ≡ policy → walk s t h ≡ goes h) →
@@ -41,7 +57,9 @@ module _ {W X : Type 0} (teller : X → Teller) (agrees : W → X → Type 0) (b
   gone_is walk other w w' st st' (Err Visits) is does = λ s x h agree.
       let d = does s x h agree in
       (d.0, λ same keeps stays. subst (λ c. IsTooLarge c) (sym (is s (teller x) h same)) (d.1 same keeps stays))
-  gone_is walk other w w' st st' (Err (Pattern text)) is does = tt
+  gone_is walk other w w' st st' (Err (Pattern text)) is does = λ s x h agree.
+      let d = does s x h agree in
+      (d.0, λ same keeps stays. subst (λ c. BuiltOn s c text) (sym (is s (teller x) h same)) (d.1 same keeps stays))
 
   pub gone_then : (walk next : Walk) (w w' w'' : W) (st st' st'' : State) (result : Result (Unit {0}) Stop) → HasGone teller agrees behind policy walk w w' st st' →
       WalkDone teller agrees behind policy next w' w'' st' st'' result → WalkDone teller agrees behind policy (λ s t h. then_on (walk s t h) (next s t)) w w'' st st'' result
@@ -61,16 +79,24 @@ module _ {W X : Type 0} (teller : X → Teller) (agrees : W → X → Type 0) (b
         λ same keeps stays.
             past_then (walk s (teller x) h) (next s (teller x)) _ (before.1 same keeps stays) (λ k p. (second s x k agree).1 same p.0 p.1),
       )
-  gone_then walk next w w' w'' st st' st'' (Err (Pattern text)) first second = tt
+  gone_then walk next w w' w'' st st' st'' (Err (Pattern text)) first second = λ s x h agree.
+      let last = second s x h agree in
+      let before = first s x h last.0 in (
+        before.0,
+        λ same keeps stays.
+            built_then s text (walk s (teller x) h) (next s (teller x)) _ (before.1 same keeps stays) (λ k p. (second s x k agree).1 same p.0 p.1),
+      )
 
-  pub gone_stops : (walk next : Walk) (w w' : W) (st st' : State) (stop : Stop) → WalkDone teller agrees behind policy walk w w' st st' (Err stop) →
+  pub gone_stops : (walk next : Walk) → WalkKeeps next → (w w' : W) (st st' : State) (stop : Stop) → WalkDone teller agrees behind policy walk w w' st st' (Err stop) →
       WalkDone teller agrees behind policy (λ s t h. then_on (walk s t h) (next s t)) w w' st st' (Err stop)
-  gone_stops walk next w w' st st' (Outside object) first = tt
-  gone_stops walk next w w' st st' Memory first = tt
-  gone_stops walk next w w' st st' Visits first = λ s x h agree.
+  gone_stops walk next kept w w' st st' (Outside object) first = tt
+  gone_stops walk next kept w w' st st' Memory first = tt
+  gone_stops walk next kept w w' st st' Visits first = λ s x h agree.
       let before = first s x h agree in
       (before.0, λ same keeps stays. past_first (walk s (teller x) h) (next s (teller x)) (before.1 same keeps stays))
-  gone_stops walk next w w' st st' (Pattern text) first = tt
+  gone_stops walk next kept w w' st st' (Pattern text) first = λ s x h agree.
+      let before = first s x h agree in
+      (before.0, λ same keeps stays. then_kept s text (walk s (teller x) h) (next s (teller x)) (before.1 same keeps stays) (kept text s (teller x)))
 
 -- ---- an agent bundle
 
@@ -124,7 +150,13 @@ module _ {W X : Type 0} (teller : X → Teller) (agrees : W → X → Type 0) (b
             subst (λ c. IsTooLarge c) (agent_course policy name block ps depth s (teller x) h named is deep same)
             (d.1 (stands_at st st' a s h of stands same keeps) (steady x (Begun name []) h refl stays)),
       )
-  agent_gone w' st st' st'' a a' (Err (Pattern text)) of stands does = tt
+  agent_gone w' st st' st'' a a' (Err (Pattern text)) of stands does = λ s x h agree.
+      let d = does s (home_for name) Yes x (Begun name [] ∷ h) agree in (
+        d.0,
+        λ same keeps stays.
+            subst (λ c. BuiltOn s c text) (agent_course policy name block ps depth s (teller x) h named is deep same)
+            (d.1 (stands_at st st' a s h of stands same keeps) (steady x (Begun name []) h refl stays)),
+      )
 
 -- ---- bundles of the sequence
 
@@ -149,7 +181,7 @@ module _ {W X : Type 0} (teller : X → Teller) (agrees : W → X → Type 0) (b
   names_stop all xs ys w w' st st' p p' stop is first = (
     gone_is teller agrees behind policy (λ s t h. then_on (sequence_walk xs s t h) (sequence_walk ys s t)) (sequence_walk all) w w' st st' (Err stop)
         (λ s t h same. ap (λ ns. sequence_walk ns s t h) is ∙ each_append (λ name. bundle_walk name s t) xs ys h)
-        (gone_stops teller agrees behind policy (sequence_walk xs) (sequence_walk ys) w w' st st' stop first.0),
+        (gone_stops teller agrees behind policy (sequence_walk xs) (sequence_walk ys) (sequence_keeps ys) w w' st st' stop first.0),
     first.1,
   )
 
@@ -174,7 +206,7 @@ unfolding run
 run_course s t = refl
 
 first_clear : IsClear []
-first_clear = record { locals = λ path class. refl; sources = λ path class. refl; worst = λ path. refl }
+first_clear = record { locals = λ path class. refl; sources = λ path class. refl; worst = λ path. refl; waits = λ s path. refl }
 
 module _ {W X : Type 0} (teller : X → Teller) (agrees : W → X → Type 0) (behind : W → X → History → Type 0) (s : Setting) (names : List (List ℕ))
     (listed : names ≡ sequence_of s.policy) (w : W)
@@ -183,28 +215,35 @@ module _ {W X : Type 0} (teller : X → Teller) (agrees : W → X → Type 0) (b
   course_is t = ap (λ ns. then_on (passes_walk s t []) (sequence_walk ns s t)) listed ∙ sym (run_course s t)
 
   -- after the common bundles the sequence
-  pub has_run : (w' : W) (st st' st'' : State) (result : Result (Unit {0}) Stop) → Keeps s st [] → HasQuietlyGone s.policy passes_walk st st' →
-      WalkDone teller agrees behind s.policy (sequence_walk names) w w' st' st'' result → HasRun teller agrees behind s w w' result
-  has_run w' st st' st'' (Ok done) keeps first second = λ x agree. (
+  pub has_run : (w' : W) (st st' st'' : State) → Keeps s st [] → HasQuietlyGone s.policy passes_walk st st' →
+      WalkDone teller agrees behind s.policy (sequence_walk names) w w' st' st'' (Ok tt) → HasRunTo teller agrees behind s w w' (Ok st'')
+  has_run w' st st' st'' keeps first second = λ x agree. (
     (second s x [] agree).0,
-    λ stays. subst (λ c. GoesTo c (λ k. behind w' x k)) (course_is (teller x))
+    λ stays. subst (λ c. GoesTo c (λ k. Keeps s st'' k × behind w' x k)) (course_is (teller x))
         (goes_then (passes_walk s (teller x) []) (sequence_walk names s (teller x)) _ _ (first s (teller x) [] (refl, (keeps, first_clear))) (λ k p.
-        goes_weaker (sequence_walk names s (teller x) k) _ _ (λ m q. q.1)
-        ((second s x k agree).1 refl p.0.1.0 (quietly_behind teller agrees behind (λ v. (0, 0)) s.policy w x (steady x) p.1 stays)))),
+        (second s x k agree).1 refl p.0.1.0 (quietly_behind teller agrees behind (λ v. (0, 0)) s.policy w x (steady x) p.1 stays))),
   )
-  has_run w' st st' st'' (Err (Outside object)) keeps first second = tt
-  has_run w' st st' st'' (Err Memory) keeps first second = tt
-  has_run w' st st' st'' (Err Visits) keeps first second = λ x agree. (
+
+  pub sequence_stops : (w' : W) (st st' st'' : State) (stop : Stop) → Keeps s st [] → HasQuietlyGone s.policy passes_walk st st' →
+      WalkDone teller agrees behind s.policy (sequence_walk names) w w' st' st'' (Err stop) → HasRunTo teller agrees behind s w w' (Err stop)
+  sequence_stops w' st st' st'' (Outside object) keeps first second = tt
+  sequence_stops w' st st' st'' Memory keeps first second = tt
+  sequence_stops w' st st' st'' Visits keeps first second = λ x agree. (
     (second s x [] agree).0,
     λ stays. subst (λ c. IsTooLarge c) (course_is (teller x))
         (past_then (passes_walk s (teller x) []) (sequence_walk names s (teller x)) _ (first s (teller x) [] (refl, (keeps, first_clear))) (λ k p.
         (second s x k agree).1 refl p.0.1.0 (quietly_behind teller agrees behind (λ v. (0, 0)) s.policy w x (steady x) p.1 stays))),
   )
-  has_run w' st st' st'' (Err (Pattern text)) keeps first second = tt
+  sequence_stops w' st st' st'' (Pattern text) keeps first second = λ x agree. (
+    (second s x [] agree).0,
+    λ stays. subst (λ c. BuiltOn s c text) (course_is (teller x))
+        (built_then s text (passes_walk s (teller x) []) (sequence_walk names s (teller x)) _ (first s (teller x) [] (refl, (keeps, first_clear))) (λ k p.
+        (second s x k agree).1 refl p.0.1.0 (quietly_behind teller agrees behind (λ v. (0, 0)) s.policy w x (steady x) p.1 stays))),
+  )
 
 -- the common bundles alone stopped it
 module _ {W X : Type 0} (teller : X → Teller) (agrees : W → X → Type 0) (behind : W → X → History → Type 0) (s : Setting) (w : W) where
-  pub run_stops : (st st' : State) (stop : Stop) → Keeps s st [] → QuietWalkDone s.policy passes_walk st st' (Err stop) → HasRun teller agrees behind s w w (Err stop)
+  pub run_stops : (st st' : State) (stop : Stop) → Keeps s st [] → QuietWalkDone s.policy passes_walk st st' (Err stop) → HasRunTo teller agrees behind s w w (Err stop)
   run_stops st st' (Outside object) keeps first = tt
   run_stops st st' Memory keeps first = tt
   run_stops st st' Visits keeps first = λ x agree. (
@@ -212,7 +251,25 @@ module _ {W X : Type 0} (teller : X → Teller) (agrees : W → X → Type 0) (b
     λ stays. subst (λ c. IsTooLarge c) (sym (run_course s (teller x)))
         (past_first (passes_walk s (teller x) []) (sequence_walk (sequence_of s.policy) s (teller x)) (first s (teller x) [] (refl, (keeps, first_clear)))),
   )
-  run_stops st st' (Pattern text) keeps first = tt
+  run_stops st st' (Pattern text) keeps first = λ x agree. (
+    agree,
+    λ stays. subst (λ c. BuiltOn s c text) (sym (run_course s (teller x)))
+        (then_kept s text (passes_walk s (teller x) []) (sequence_walk (sequence_of s.policy) s (teller x)) (first s (teller x) [] (refl, (keeps, first_clear)))
+        (sequence_keeps (sequence_of s.policy) text s (teller x))),
+  )
+
+  -- what is kept of it aside
+  pub run_alone : (w' : W) (result : Result State Stop) → HasRunTo teller agrees behind s w w' result → HasRun teller agrees behind s w w' (done_of result)
+  run_alone w' (Ok st) ran = λ x agree. ((ran x agree).0, λ stays. goes_weaker (run s (teller x)) _ _ (λ k p. p.1) ((ran x agree).1 stays))
+  run_alone w' (Err (Outside object)) ran = tt
+  run_alone w' (Err Memory) ran = tt
+  run_alone w' (Err Visits) ran = ran
+  run_alone w' (Err (Pattern text)) ran = ran
+
+-- what the exit of a `?` answers
+pub on_stopped : (P : Result State Stop → Type 0) (result : Result State Stop) (stop : Stop) → IsErrAnd result (λ e. e ≡ stop) → P (Err stop) → P result
+on_stopped P (Ok done) stop same stopped = absurd same
+on_stopped P (Err e) stop same stopped = subst (λ (x : Stop). P (Err x)) (sym same) stopped
 
 -- nothing was told yet
 pub quiet_stop : (policy : PolicyTree) (walk : Walk) (st st' : State) (stop : Stop) (faults : Faults) → QuietWalkDone policy walk st st' (Err stop) → FaultsAre faults faults (Err stop)

@@ -17,9 +17,11 @@ use Rattle.cfa_walk.specs.History.{History, locally, local_source}
 use Rattle.cfa_walk.specs.Kept.{Keeps}
 use Rattle.cfa_walk.specs.Levels.{GoesTo, IsTooLarge, Quietly, Faults, FaultsAre, PatternsAre}
 use Rattle.cfa_walk.specs.Numbered.{name_of}
+use Rattle.cfa_walk.specs.Builds.{BuiltOn}
 use Rattle.cfa_walk.specs.Passes.{Course, through_common, commons_from, common_passes, activation, all_calls, in_sequence, sequence_from}
 use Rattle.cfa_walk.specs.Tellers.{Teller, worst_in}
 use Rattle.cfa_walk.specs.Views.{Setting, is_listed, shared_names}
+use Rattle.cfa_walk.specs.Waits.{waits_in}
 
 -- the types of promises of a common bundle
 abbrev pub is_in_common : PromiseType → Bool
@@ -42,6 +44,7 @@ pub record IsClear (h : History) : Type 0 where
   pub locals : (path class : List ℕ) → locally h path class ≡ No
   pub sources : (path class : List ℕ) → local_source h path class ≡ None
   pub worst : (path : List ℕ) → worst_in h path ≡ Kept
+  pub waits : (s : Setting) (path : List ℕ) → waits_in s h path ≡ None
 
 abbrev pub KeepsClear : PolicyTree → Setting → State → History → Type 0
 KeepsClear policy s st h = (s.policy ≡ policy) × (Keeps s st h × IsClear h)
@@ -56,12 +59,16 @@ module _ (policy : PolicyTree) where
   QuietWalkPastLimit walk st =
       (s : Setting) (t : Teller) (h : History) → KeepsClear policy s st h → IsTooLarge (walk s t h)
 
+  abbrev pub QuietWalkHasBuilt : Walk → (st : State) → (text : List ℕ) → Type 0
+  QuietWalkHasBuilt walk st text =
+      (s : Setting) (t : Teller) (h : History) → KeepsClear policy s st h → BuiltOn s (walk s t h) text
+
   abbrev pub QuietWalkDone : Walk → (st st' : State) → Result (Unit {0}) Stop → Type 0
   QuietWalkDone walk st st' (Ok done) = HasQuietlyGone walk st st'
   QuietWalkDone walk st st' (Err (Outside object)) = ⊥
   QuietWalkDone walk st st' (Err Memory) = ⊤
   QuietWalkDone walk st st' (Err Visits) = QuietWalkPastLimit walk st
-  QuietWalkDone walk st st' (Err (Pattern text)) = ⊤
+  QuietWalkDone walk st st' (Err (Pattern text)) = QuietWalkHasBuilt walk st text
 
 abbrev pub common_walk : BlockTree → Walk
 common_walk block s t = through_common s t block
@@ -93,12 +100,17 @@ module _ {W X : Type 0} (teller : X → Teller) (agrees : W → X → Type 0) (b
       (s : Setting) (x : X) (h : History) → agrees w' x →
       agrees w x × ((s.policy ≡ policy) → Keeps s st h → behind w x h → IsTooLarge (walk s (teller x) h))
 
+  abbrev pub WalkHasBuilt : Walk → (w w' : W) → (st : State) → (text : List ℕ) → Type 0
+  WalkHasBuilt walk w w' st text =
+      (s : Setting) (x : X) (h : History) → agrees w' x →
+      agrees w x × ((s.policy ≡ policy) → Keeps s st h → behind w x h → BuiltOn s (walk s (teller x) h) text)
+
   abbrev pub WalkDone : Walk → (w w' : W) → (st st' : State) → Result (Unit {0}) Stop → Type 0
   WalkDone walk w w' st st' (Ok done) = HasGone walk w w' st st'
   WalkDone walk w w' st st' (Err (Outside object)) = ⊤
   WalkDone walk w w' st st' (Err Memory) = ⊤
   WalkDone walk w w' st st' (Err Visits) = WalkPastLimit walk w w' st
-  WalkDone walk w w' st st' (Err (Pattern text)) = ⊤
+  WalkDone walk w w' st st' (Err (Pattern text)) = WalkHasBuilt walk w w' st text
 
 -- how a walk ended: what came of it, the counts of faults, and the builder of patterns
 module _ {W X : Type 0} (teller : X → Teller) (agrees : W → X → Type 0) (behind : W → X → History → Type 0) (faults : W → Faults) (policy : PolicyTree) where

@@ -14,8 +14,14 @@ use Rattle.cfa_vars.specs.Named.{put}
 use Rattle.cfa_vars.specs.Scopes.{Table}
 use Rattle.cfa_resolve.specs.declared.instances.Instance.{Instance}
 use Rattle.cfa_outcomes.specs.declared.outcomes.Outcome.{Outcome}
+use Rattle.cfa_walk.specs.Numbered.{Numbered}
 
 -- ---- events
+
+-- where a promise is reached: the path of its activation, and its bundle
+pub record Home : Type 0 where
+  pub path : List ℕ
+  pub bundle : List ℕ
 
 -- where a class is raised
 pub data Where : Type 0 where
@@ -30,7 +36,7 @@ pub data Event : Type 0 where
   -- a class is raised, with a source or none
   Raised : (place : Where) (class : List ℕ) (status : Status) (source : Option PromiseId) → Event
   -- a promise is reached, with the status of its guard, and counts so many visits; some promises set what others read
-  Reached : (path : List ℕ) (promise : PromiseId) (guard : Status) (sets : Bool) (visits : ℕ) → Event
+  Reached : (home : Home) (promise : Numbered) (guard : Status) (sets : Bool) (visits : ℕ) → Event
   -- an instance is visited
   Listed : (instance : Instance) (status : Status) → Event
   -- how the instance may end; none where it is skipped
@@ -47,7 +53,7 @@ scope_in [] path = []
 scope_in (Begun p arguments ∷ h) path = elim (bytes_eq p path) [ true ↦ [] | false ↦ scope_in h path ]
 scope_in (Set p name datum ∷ h) path = elim (bytes_eq p path) [ true ↦ put (scope_in h path) name datum | false ↦ scope_in h path ]
 scope_in (Raised place class status source ∷ h) path = scope_in h path
-scope_in (Reached p promise guard sets visits ∷ h) path = scope_in h path
+scope_in (Reached home promise guard sets visits ∷ h) path = scope_in h path
 scope_in (Listed instance status ∷ h) path = scope_in h path
 scope_in (Told instance outcomes ∷ h) path = scope_in h path
 
@@ -61,7 +67,7 @@ globally (Raised everywhere c status source ∷ h) class =
 globally (Raised (within p) c status source ∷ h) class = globally h class
 globally (Begun p arguments ∷ h) class = globally h class
 globally (Set p name datum ∷ h) class = globally h class
-globally (Reached p promise guard sets visits ∷ h) class = globally h class
+globally (Reached home promise guard sets visits ∷ h) class = globally h class
 globally (Listed instance status ∷ h) class = globally h class
 globally (Told instance outcomes ∷ h) class = globally h class
 
@@ -73,7 +79,7 @@ locally (Raised everywhere c status source ∷ h) path class = locally h path cl
 locally (Raised (within p) c status source ∷ h) path class =
     elim (bytes_eq p path && bytes_eq c class) [ true ↦ greater status (locally h path class) | false ↦ locally h path class ]
 locally (Set p name datum ∷ h) path class = locally h path class
-locally (Reached p promise guard sets visits ∷ h) path class = locally h path class
+locally (Reached home promise guard sets visits ∷ h) path class = locally h path class
 locally (Listed instance status ∷ h) path class = locally h path class
 locally (Told instance outcomes ∷ h) path class = locally h path class
 
@@ -85,7 +91,7 @@ global_source (Raised everywhere c status source ∷ h) class =
 global_source (Raised (within p) c status source ∷ h) class = global_source h class
 global_source (Begun p arguments ∷ h) class = global_source h class
 global_source (Set p name datum ∷ h) class = global_source h class
-global_source (Reached p promise guard sets visits ∷ h) class = global_source h class
+global_source (Reached home promise guard sets visits ∷ h) class = global_source h class
 global_source (Listed instance status ∷ h) class = global_source h class
 global_source (Told instance outcomes ∷ h) class = global_source h class
 
@@ -97,7 +103,7 @@ local_source (Raised everywhere c status source ∷ h) path class = local_source
 local_source (Raised (within p) c status source ∷ h) path class =
     elim (bytes_eq p path && bytes_eq c class) [ true ↦ option_or (local_source h path class) source | false ↦ local_source h path class ]
 local_source (Set p name datum ∷ h) path class = local_source h path class
-local_source (Reached p promise guard sets visits ∷ h) path class = local_source h path class
+local_source (Reached home promise guard sets visits ∷ h) path class = local_source h path class
 local_source (Listed instance status ∷ h) path class = local_source h path class
 local_source (Told instance outcomes ∷ h) path class = local_source h path class
 
@@ -117,13 +123,13 @@ mark_in (Listed instance status ∷ h) path key =
 mark_in (Begun p arguments ∷ h) path key = mark_in h path key
 mark_in (Set p name datum ∷ h) path key = mark_in h path key
 mark_in (Raised place class status source ∷ h) path key = mark_in h path key
-mark_in (Reached p promise guard sets visits ∷ h) path key = mark_in h path key
+mark_in (Reached home promise guard sets visits ∷ h) path key = mark_in h path key
 mark_in (Told instance outcomes ∷ h) path key = mark_in h path key
 
 -- the visits so far
 abbrev pub visits_in : History → ℕ
 visits_in [] = 0
-visits_in (Reached p promise guard sets visits ∷ h) = visits + visits_in h
+visits_in (Reached home promise guard sets visits ∷ h) = visits + visits_in h
 visits_in (Begun p arguments ∷ h) = visits_in h
 visits_in (Set p name datum ∷ h) = visits_in h
 visits_in (Raised place class status source ∷ h) = visits_in h

@@ -22,8 +22,10 @@ use Rattle.cfa_walk.specs.declared.states.State.{State}
 use Rattle.cfa_walk.specs.declared.activations.Activation.{Activation}
 use Rattle.cfa_walk.specs.History.{History, Event, Begun, Set, Raised, Reached, Listed, Told}
 use Rattle.cfa_walk.specs.Kept.{Stands, home_of, SpareShorter, SpareLocals}
+use Rattle.cfa_walk.specs.Builds.{BuiltOn}
 use Rattle.cfa_walk.specs.Passes.{Course, goes, too_large}
-use Rattle.cfa_walk.specs.Tellers.{Teller, worst_in, inner_path}
+use Rattle.cfa_walk.specs.declared.tellers.Ending.{Ending}
+use Rattle.cfa_walk.specs.Tellers.{Teller, outcomes_in, worst_in, inner_path}
 use Rattle.cfa_walk.specs.Views.{Setting, Home, is_listed, shared_names}
 
 -- ---- courses
@@ -44,7 +46,7 @@ abbrev pub is_quiet : Event → Bool
 is_quiet (Begun path arguments) = true
 is_quiet (Set path name datum) = true
 is_quiet (Raised place class status source) = true
-is_quiet (Reached path promise guard sets visits) = true
+is_quiet (Reached home promise guard sets visits) = true
 is_quiet (Listed instance status) = false
 is_quiet (Told instance outcomes) = false
 
@@ -97,12 +99,12 @@ module _ {W X : Type 0} (teller : X → Teller) (agrees : W → X → Type 0) (b
       agrees w x × (behind w x h → ((teller x).skips h instance ≡ is_skipped)
       × behind w' x (visited_by instance status is_skipped h))
 
-  -- it was told how an instance ended
-  abbrev pub HasTold : (w w' : W) → Instance → (called outcome : Outcome) → Type 0
-  HasTold w w' instance called outcome =
+  -- it was told how an instance ended, or may end
+  abbrev pub HasTold : (w w' : W) → Instance → (called : Outcome) → Ending → Type 0
+  HasTold w w' instance called ending =
       (x : X) (h : History) → agrees w' x →
       agrees w x × (behind w x h → EndedAs instance.work instance called h →
-      (outcomes_of (teller x) h instance instance.work ≡ outcome ∷ []) × behind w' x (Told instance (outcome ∷ []) ∷ h))
+      (outcomes_of (teller x) h instance instance.work ≡ outcomes_in ending) × behind w' x (Told instance (outcomes_in ending) ∷ h))
 
 -- ---- levels
 
@@ -141,13 +143,19 @@ module _ {W X : Type 0} (teller : X → Teller) (agrees : W → X → Type 0) (b
       (s : Setting) (home : Home) (status : Status) (x : X) (h : History) → agrees w' x →
       agrees w x × (StandsAt policy s home status st a h → behind w x h → IsTooLarge (level s home status (teller x) h))
 
+  -- a text was refused for its size that the level builds
+  abbrev pub HasBuilt : Level → (w w' : W) → (st : State) → (a : Activation) → (text : List ℕ) → Type 0
+  HasBuilt level w w' st a text =
+      (s : Setting) (home : Home) (status : Status) (x : X) (h : History) → agrees w' x →
+      agrees w x × (StandsAt policy s home status st a h → behind w x h → BuiltOn s (level s home status (teller x) h) text)
+
   -- what came of a level
   abbrev pub LevelDone : Level → (w w' : W) → (st st' : State) → (a a' : Activation) → Result (Unit {0}) Stop → Type 0
   LevelDone level w w' st st' a a' (Ok done) = HasDone level w w' st st' a a'
   LevelDone level w w' st st' a a' (Err (Outside object)) = ⊤
   LevelDone level w w' st st' a a' (Err Memory) = ⊤
   LevelDone level w w' st st' a a' (Err Visits) = IsPastLimit level w w' st a
-  LevelDone level w w' st st' a a' (Err (Pattern text)) = ⊤
+  LevelDone level w w' st st' a a' (Err (Pattern text)) = HasBuilt level w w' st a text
 
 -- the counts of faults afterwards
 abbrev pub FaultsAre : (before after : Faults) → Result (Unit {0}) Stop → Type 0
@@ -190,12 +198,17 @@ module _ (policy : PolicyTree) (is_common : Bool) where
       (s : Setting) (home : Home) (status : Status) (t : Teller) (h : History) → StandsAt policy s home status st a h →
       IsTooLarge (level s home t h)
 
+  abbrev pub HasQuietlyBuilt : QuietLevel → (st : State) → (a : Activation) → (text : List ℕ) → Type 0
+  HasQuietlyBuilt level st a text =
+      (s : Setting) (home : Home) (status : Status) (t : Teller) (h : History) → StandsAt policy s home status st a h →
+      BuiltOn s (level s home t h) text
+
   abbrev pub QuietDone : QuietLevel → (st st' : State) → (a a' : Activation) → Result (Unit {0}) Stop → Type 0
   QuietDone level st st' a a' (Ok done) = HasQuietlyDone level st st' a a'
   QuietDone level st st' a a' (Err (Outside object)) = ⊥
   QuietDone level st st' a a' (Err Memory) = ⊤
   QuietDone level st st' a a' (Err Visits) = QuietPastLimit level st a
-  QuietDone level st st' a a' (Err (Pattern text)) = ⊤
+  QuietDone level st st' a a' (Err (Pattern text)) = HasQuietlyBuilt level st a text
 
 -- no shared scope has a path with a newline
 abbrev pub HasPlainNames : PolicyTree → Type 0

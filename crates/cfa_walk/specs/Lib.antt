@@ -1,6 +1,7 @@
 pub mod History
 pub mod Numbered
 pub mod Passes
+pub mod Builds
 pub mod Tellers
 pub mod Views
 pub mod Settings
@@ -12,4 +13,9 @@ pub mod Raising
 pub mod Walked
 pub mod Facts
 pub mod Bundles
+pub mod Waits
+pub mod Logs
+pub mod Ending
+pub mod Tellings
+pub mod Listed
 pub mod Walks

@@ -4,7 +4,7 @@
 -- text order. A promise's guard is read once, when it is reached; where it isn't set the promise does nothing. Its instances
 -- are visited in the order of their combinations, and the call of a visit activates its bundle there and then.
 --
--- A promise with which more than 1,000,000 visits are counted does nothing, and the history ends at it as too large.
+-- A promise with which more than 1,000,000 visits are counted does nothing, and the history ends as too large where it is reached.
 use Rattle.std.specs.Prelude.{ℕ, zero, suc, ◌+◌, Bool, true, false, List, [], ◌∷◌, length, nat_le, Option, Some, None}
 use Rattle.std.specs.List.{list_any}
 use Rattle.std.specs.Str.{bytes_eq}
@@ -167,7 +167,8 @@ within_limit false course h = too_large h
 -- a promise is reached: it counts its visits, and does what it does, unless that would be too many
 abbrev pub reached : Home → Numbered → (guard : Status) → (sets : Bool) → (visits : ℕ) → (History → Course) → History → Course
 reached home p guard sets visits next h =
-    within_limit (nat_le (visits + visits_in h) most_visits) (next (Reached home.path p.id guard sets visits ∷ h)) h
+    within_limit (nat_le (visits + visits_in h) most_visits) (next (Reached home p guard sets visits ∷ h))
+    (Reached home p guard sets visits ∷ h)
 
 module _ (s : Setting) where
   abbrev pub vars_reached : Home → Numbered → Status → Option (List Chosen) → History → Course

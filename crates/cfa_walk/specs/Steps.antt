@@ -21,6 +21,7 @@ use Rattle.cfa_walk.specs.History.{History, Where, everywhere, within, Reached, 
 use Rattle.cfa_walk.specs.Kept.{Keeps, SpareShorter}
 use Rattle.cfa_walk.specs.Levels.{Level, QuietLevel, GoesTo, IsTooLarge, EndedAs, StandsAt, Faults, FaultsAre, PatternsAre, done_of}
 use Rattle.cfa_walk.specs.Numbered.{Numbered, of_type, agent_types, common_types}
+use Rattle.cfa_walk.specs.Builds.{BuiltOn, BuiltWhere}
 use Rattle.cfa_walk.specs.Passes.{Course, goes, most_visits, reached, visit, instances_from, acting_reached, reach, promises_from, types_from, passes, calls_of, vars_reached, classes_reached, sets_variable}
 use Rattle.cfa_walk.specs.Tellers.{Teller, inner_path}
 use Rattle.cfa_walk.specs.Views.{Setting, Home, scopes_in, global_status}
@@ -109,21 +110,23 @@ resolution_at s home p h =
     resolution (reached_at s.policy p.id (scopes_in s h home) (global_status s h) home.path (p.type, p.promise))
 
 abbrev pub reached_event : Home → Numbered → (guard : Status) → Resolved → History → History
-reached_event home p guard resolved h = Reached home.path p.id guard false resolved.visits ∷ h
+reached_event home p guard resolved h = Reached home p guard false resolved.visits ∷ h
 
-module _ (policy : PolicyTree) (p : Numbered) where
-  abbrev pub Counts : (st st' : State) → (a : Activation) → Result (List Instance) Stop → Type 0
-  Counts st st' a (Ok instances) =
-      (s : Setting) (home : Home) (status guard : Status) (h : History) → StandsAt policy s home status st a h →
+module _ (policy : PolicyTree) (p : Numbered) (guard : Status) where
+  abbrev pub Counts : (st st' : State) → (a a' : Activation) → Result (List Instance) Stop → Type 0
+  Counts st st' a a' (Ok instances) =
+      (s : Setting) (home : Home) (status : Status) (h : History) → StandsAt policy s home status st a h →
       (instances ≡ (resolution_at s home p h).instances)
       × (IsTrue (nat_le ((resolution_at s home p h).visits + visits_in h) most_visits)
-      × StandsAt policy s home status st' a (reached_event home p guard (resolution_at s home p h) h))
-  Counts st st' a (Err (Outside object)) = ⊥
-  Counts st st' a (Err Memory) = ⊤
-  Counts st st' a (Err Visits) =
+      × StandsAt policy s home status st' a' (reached_event home p guard (resolution_at s home p h) h))
+  Counts st st' a a' (Err (Outside object)) = ⊥
+  Counts st st' a a' (Err Memory) = ⊤
+  Counts st st' a a' (Err Visits) =
       (s : Setting) (home : Home) (status : Status) (h : History) → StandsAt policy s home status st a h →
       nat_le ((resolution_at s home p h).visits + visits_in h) most_visits ≡ false
-  Counts st st' a (Err (Pattern text)) = ⊤
+  Counts st st' a a' (Err (Pattern text)) =
+      (s : Setting) (home : Home) (status : Status) (h : History) → StandsAt policy s home status st a h →
+      BuiltWhere s guard h home p text
 
 -- a call's bundle was gone through
 module _ {W X : Type 0} (teller : X → Teller) (agrees : W → X → Type 0) (behind : W → X → History → Type 0) (policy : PolicyTree) where
@@ -141,12 +144,18 @@ module _ {W X : Type 0} (teller : X → Teller) (agrees : W → X → Type 0) (b
       agrees w x × ((s.policy ≡ policy) → Keeps s st h → behind w x h →
       IsTooLarge (call_course depth instance instance.work status s (teller x) h))
 
+  abbrev pub CallHasBuilt : (depth : ℕ) → Instance → Status → (w w' : W) → (st : State) → (text : List ℕ) → Type 0
+  CallHasBuilt depth instance status w w' st text =
+      (s : Setting) (x : X) (h : History) → agrees w' x →
+      agrees w x × ((s.policy ≡ policy) → Keeps s st h → behind w x h →
+      BuiltOn s (call_course depth instance instance.work status s (teller x) h) text)
+
   abbrev pub CallDone : (depth : ℕ) → Instance → Status → (w w' : W) → (st st' : State) → Result Outcome Stop → Type 0
   CallDone depth instance status w w' st st' (Ok called) = HasCalled depth instance status w w' st st' called
   CallDone depth instance status w w' st st' (Err (Outside object)) = ⊤
   CallDone depth instance status w w' st st' (Err Memory) = ⊤
   CallDone depth instance status w w' st st' (Err Visits) = CallsPastLimit depth instance status w w' st
-  CallDone depth instance status w w' st st' (Err (Pattern text)) = ⊤
+  CallDone depth instance status w w' st st' (Err (Pattern text)) = CallHasBuilt depth instance status w w' st text
 
 -- how a call ended: what came of it, the counts of faults, and the builder of patterns
 module _ {W X : Type 0} (teller : X → Teller) (agrees : W → X → Type 0) (behind : W → X → History → Type 0) (faults : W → Faults) (policy : PolicyTree) where

@@ -18,11 +18,18 @@ use Rattle.cfa_resolve.specs.declared.instances.Work.{Work}
 use Rattle.cfa_resolve.specs.declared.instances.Work.TheVariants.{Acts, Call, Report}
 use Rattle.cfa_outcomes.specs.declared.outcomes.Outcome.{Outcome}
 use Rattle.cfa_outcomes.specs.declared.outcomes.Outcome.TheVariants.{Kept, Repaired, Failed}
+use Rattle.cfa_walk.specs.declared.tellers.Ending.{Ending}
+use Rattle.cfa_walk.specs.declared.tellers.Ending.TheVariants.{One, KeptOrRepaired}
 use Rattle.cfa_walk.specs.History.{History, Begun, Set, Raised, Reached, Listed, Told}
 
 pub record Teller : Type 0 where
   pub skips : History → Instance → Bool
   pub tells : History → Instance → List Outcome
+
+-- the outcomes with which an instance may end
+abbrev pub outcomes_in : Ending → List Outcome
+outcomes_in (One outcome) = outcome ∷ []
+outcomes_in KeptOrRepaired = Kept ∷ Repaired ∷ []
 
 -- every instance is kept
 abbrev pub all_kept : Teller
@@ -103,7 +110,7 @@ worst_in (Told instance outcomes ∷ h) path =
     elim (bytes_eq instance.path path) [ true ↦ worse (worst outcomes) (worst_in h path) | false ↦ worst_in h path ]
 worst_in (Set p name datum ∷ h) path = worst_in h path
 worst_in (Raised place class status source ∷ h) path = worst_in h path
-worst_in (Reached p promise guard sets visits ∷ h) path = worst_in h path
+worst_in (Reached home promise guard sets visits ∷ h) path = worst_in h path
 worst_in (Listed instance status ∷ h) path = worst_in h path
 
 -- the path of a called bundle: that of the caller, a newline, and the key text of the call

@@ -12,6 +12,7 @@ use Rattle.cfa_classes.specs.Status.{greater, value_of}
 use Rattle.cfa_schema.specs.Control.{sequence_of}
 use Rattle.cfa_schema.specs.Served.{common_bundles_of}
 use Rattle.cfa_vars.specs.Scopes.{Table, InScope}
+pub use Rattle.cfa_walk.specs.History.{Home}
 use Rattle.cfa_walk.specs.History.{History, scope_in, globally, locally, source_in}
 use Rattle.cfa_walk.specs.Numbered.{name_of}
 
@@ -19,11 +20,6 @@ use Rattle.cfa_walk.specs.Numbered.{name_of}
 pub record Setting : Type 0 where
   pub policy : PolicyTree
   pub classes : List (List ℕ)
-
--- where a promise is reached: the path of its activation, and its bundle
-pub record Home : Type 0 where
-  pub path : List ℕ
-  pub bundle : List ℕ
 
 -- ---- variables
 

@@ -3,7 +3,10 @@
 use Rattle.std.specs.Prelude.{[], ⊤, Result, Ok, Err}
 use Rattle.cfa_output.specs.declared.ends.Stop.{Stop}
 use Rattle.cfa_output.specs.declared.ends.Stop.TheVariants.{Outside, Memory, Visits, Pattern}
+use Rattle.cfa_walk.specs.declared.states.State.{State}
 use Rattle.cfa_walk.specs.History.{History}
+use Rattle.cfa_walk.specs.Kept.{Keeps}
+use Rattle.cfa_walk.specs.Builds.{BuiltOn}
 use Rattle.cfa_walk.specs.Levels.{GoesTo, IsTooLarge}
 use Rattle.cfa_walk.specs.Passes.{run}
 use Rattle.cfa_walk.specs.Tellers.{Teller}
@@ -17,4 +20,16 @@ module _ {W X : Type 0} (teller : X → Teller) (agrees : W → X → Type 0) (b
   HasRun w w' (Err (Outside object)) = ⊤
   HasRun w w' (Err Memory) = ⊤
   HasRun w w' (Err Visits) = (x : X) → agrees w' x → agrees w x × (behind w x [] → IsTooLarge (run s (teller x)))
-  HasRun w w' (Err (Pattern text)) = ⊤
+  HasRun w w' (Err (Pattern text)) =
+      (x : X) → agrees w' x → agrees w x × (behind w x [] → BuiltOn s (run s (teller x)) text)
+
+  -- with what is kept of it
+  abbrev pub HasRunTo : (w w' : W) → Result State Stop → Type 0
+  HasRunTo w w' (Ok st) =
+      (x : X) → agrees w' x →
+      agrees w x × (behind w x [] → GoesTo (run s (teller x)) (λ k. Keeps s st k × behind w' x k))
+  HasRunTo w w' (Err (Outside object)) = ⊤
+  HasRunTo w w' (Err Memory) = ⊤
+  HasRunTo w w' (Err Visits) = (x : X) → agrees w' x → agrees w x × (behind w x [] → IsTooLarge (run s (teller x)))
+  HasRunTo w w' (Err (Pattern text)) =
+      (x : X) → agrees w' x → agrees w x × (behind w x [] → BuiltOn s (run s (teller x)) text)

@@ -9,10 +9,12 @@ ghost use Rattle.cfa_resolve.specs.declared.instances.Instance.{Instance};
 ghost use Rattle.cfa_walk.specs.declared.states.State.{State};
 ghost use Rattle.cfa_walk.specs.History.{History, Begun, Set, Raised, Told, within, source_in};
 ghost use Rattle.cfa_walk.specs.Kept.{Keeps, KeepsLocally, Stands, IsSame, IsOf, IsFresh, IsUntouched, home_of, scope_at};
-ghost use Rattle.cfa_walk.specs.Tellers.{worse, inner_path};
+ghost use Rattle.cfa_walk.specs.Tellers.{outcomes_in, worse, worst, inner_path};
 ghost use Rattle.cfa_walk.specs.Views.{Setting, scopes_in, guard_status, is_listed, shared_names};
 
 use crate::states::State;
+use crate::tellers::Ending;
+use crate::waits::Wait;
 use cfa_base::{Name, Names, NoMemory, PromiseId};
 use cfa_classes::{Status, value};
 use cfa_outcomes::{Environment, Outcome};
@@ -22,7 +24,8 @@ use cfa_vars::{Datum, Scope, Scopes};
 use std::alloc::Global;
 
 /// An activation: its path and its bundle, the status that it was called with, its local classes, the worst outcome of its
-/// instances so far, and the place of its scope among the shared ones, or a scope of its own.
+/// instances so far, what the instances of the promise that was reached last wait for, and the place of its scope among the
+/// shared ones, or a scope of its own.
 #[derive(Drop)]
 pub(crate) struct Activation {
     pub path: Name,
@@ -30,6 +33,7 @@ pub(crate) struct Activation {
     pub status: Status,
     pub local: Environment,
     pub worst: Outcome,
+    pub waits: Option<Wait>,
     pub place: Option<usize>,
     pub own: Scope,
 }
@@ -120,6 +124,7 @@ impl Activation {
             status,
             local: Environment::new(alloc, &Names::new(alloc))?,
             worst: Outcome::Kept,
+            waits: None,
             place,
             own: Scope::new(alloc),
         })
@@ -205,14 +210,24 @@ impl Activation {
         Ok(())
     }
 
-    /// Notes how an instance of the activation ended.
-    pub fn note(&mut self, outcome: Outcome)
+    /// Notes how an instance of the activation ended, or may end.
+    pub fn note(&mut self, ending: Ending)
         ensures same { IsSame self.old self.new }
         ensures keeps { (s : Setting) (h : History) (instance : Instance)
             → instance.path ≡ self.old.path → KeepsLocally s self.old h
-            → KeepsLocally s self.new (Told instance (outcome ∷ []) ∷ h) }
+            → KeepsLocally s self.new (Told instance (outcomes_in ending) ∷ h) }
     {
-        self.worst = worse(outcome, self.worst);
+        self.worst = worse(worst_of(ending), self.worst);
+    }
+}
+
+// The worst outcome with which an instance may end.
+fn worst_of(ending: Ending) -> Outcome
+    ensures { result ≡ worst (outcomes_in ending) }
+{
+    match ending {
+        Ending::One(outcome) => outcome,
+        Ending::KeptOrRepaired => Outcome::Repaired,
     }
 }
 

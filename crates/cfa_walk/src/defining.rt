@@ -1,16 +1,19 @@
 // Promises that define variables and classes.
-ghost use Rattle.std.specs.Prelude.{◌≡◌, ℕ, List, [], ◌∷◌, Bool, IfOk, OnOk, map, option_copied};
+ghost use Rattle.std.specs.Prelude.{◌≡◌, ◌≢◌, ℕ, List, [], ◌∷◌, Bool, false, IfOk, OnOk, map, option_copied};
+ghost use Rattle.std.specs.List.{cons_option};
 ghost use Rattle.cfa_base.specs.Patterns.{SizeRefusal};
 ghost use Rattle.cfa_base.specs.Shown.{Shown};
 ghost use Rattle.cfa_defines.specs.Builds.{BuiltBy};
 ghost use Rattle.cfa_defines.specs.SeenRaises.{seen_raise};
 ghost use Rattle.cfa_functions.specs.Builds.{refused_in};
+ghost use Rattle.cfa_resolve.specs.Resolution.{is_acting};
 ghost use Rattle.cfa_tree.specs.Plain.{plain_promise};
 ghost use Rattle.cfa_tree.specs.Tree.{PolicyTree};
 ghost use Rattle.cfa_vars.specs.Scopes.{in_scope};
 ghost use Rattle.cfa_walk.specs.History.{History, source_in};
 ghost use Rattle.cfa_walk.specs.Kept.{Stands, IsSame, home_of};
 ghost use Rattle.cfa_walk.specs.Levels.{QuietDone, PatternsAre};
+ghost use Rattle.cfa_walk.specs.Logs.{logged_blames};
 ghost use Rattle.cfa_walk.specs.Passes.{handed, set_each};
 ghost use Rattle.cfa_walk.specs.Raising.{hand, handed_by, raise_handed};
 ghost use Rattle.cfa_walk.specs.SeenNumbered.{seen_numbered};
@@ -20,6 +23,8 @@ ghost use Rattle.cfa_walk.specs.Views.{Setting};
 use crate::activations::{Activation, scopes_of, set_variable, source_of};
 use crate::numbered::Numbered;
 use crate::states::State;
+use crate::waits::own_unsettled;
+use crate::walks::Blame;
 use cfa_base::{Name, NoMemory, Patterns, PromiseId};
 use cfa_classes::Status;
 use cfa_defines::{
@@ -70,6 +75,16 @@ fn set_each(
     Ok(())
 }
 
+fn log_own(unsettled: Option<Blame>, state: &mut State) -> Result<(), NoMemory>
+    ensures { OnOk result (state.new ≡ record state.old
+        { log = logged_blames (cons_option unsettled []) state.old.log }) }
+{
+    match unsettled {
+        None => Ok(()),
+        Some(blame) => state.log_blame(blame),
+    }
+}
+
 /// Reaches a vars promise whose guard may hold: its variable is set in each of its combinations.
 pub(crate) fn reach_vars(
     alloc: Global,
@@ -78,6 +93,7 @@ pub(crate) fn reach_vars(
     state: &mut State,
     activation: &mut Activation,
 ) -> Result<(), Stop>
+    requires { is_acting promise.now.promise_type ≡ false }
     ensures done { (policy : PolicyTree) (is_common : Bool) → QuietDone policy is_common
         (vars_level (seen_numbered promise.now) guard)
         state.old state.new activation.old activation.new result }
@@ -87,9 +103,11 @@ pub(crate) fn reach_vars(
     let scopes = scopes_of(state, activation);
     let choices = setting_choices(alloc, PromiseType::Vars, promise.promise, &scopes)?;
     let data = data_set(alloc, promise.promise, &choices, &scopes)?;
+    let unsettled = own_unsettled(alloc, promise, guard, state, activation)?;
     if !state.count(count_choices(&choices)) {
         return Err(Stop::Visits);
     }
+    log_own(unsettled, state)?;
     set_each(alloc, &promise.promise.promiser, data, state, activation)?;
     Ok(())
 }
@@ -278,6 +296,8 @@ pub(crate) fn reach_classes<P: Patterns>(
     activation: &mut Activation,
     pats: &mut P,
 ) -> Result<(), Stop>
+    requires acting { is_acting promise.now.promise_type ≡ false }
+    requires set { guard ≢ Status.No }
     ensures done { (policy : PolicyTree) → QuietDone policy is_common
         (classes_level is_common (seen_numbered promise.now) guard)
         state.old state.new activation.old activation.new result }

@@ -1,12 +1,15 @@
 // What follows when an instance has ended.
-ghost use Rattle.std.specs.Prelude.{◌≡◌, [], ◌∷◌, OnOk};
+ghost use Rattle.std.specs.Prelude.{◌≡◌, [], ◌∷◌, IfOk, OnOk};
 ghost use Rattle.cfa_walk.specs.History.{History};
 ghost use Rattle.cfa_walk.specs.Kept.{Keeps};
-ghost use Rattle.cfa_walk.specs.Passes.{classes_for, raise_each, visit_status};
+ghost use Rattle.cfa_resolve.specs.declared.instances.Instance.{Instance as AnyInstance};
+ghost use Rattle.cfa_walk.specs.Ending.{raise_ending};
+ghost use Rattle.cfa_walk.specs.Passes.{classes_for, in_every_list, raise_each, raised_to, visit_status};
 ghost use Rattle.cfa_walk.specs.Views.{Setting};
 
 use crate::states::State;
-use cfa_base::{Names, NoMemory};
+use crate::tellers::Ending;
+use cfa_base::{Name, NameIndex, Names, NoMemory};
 use cfa_classes::Status;
 use cfa_outcomes::Outcome;
 use cfa_resolve::{Instance, copy_id};
@@ -23,8 +26,8 @@ fn classes_for(instance: &Instance, outcome: Outcome) -> &Names
     }
 }
 
-/// Raises the classes of an outcome to the status of the visit, everywhere.
-pub(crate) fn raise_outcome(
+// Raises the classes of an outcome to the status of the visit, everywhere.
+fn raise_outcome(
     alloc: Global,
     instance: &Instance,
     outcome: Outcome,
@@ -39,6 +42,97 @@ pub(crate) fn raise_outcome(
         state.raise(class.copy(alloc)?, status, Some(source))?;
     }
     Ok(())
+}
+
+// The classes of a list, to be looked up.
+fn indexed<'a>(alloc: Global, classes: &'a Names) -> Result<NameIndex<'a>, NoMemory>
+    ensures { IfOk result (λ index. index ≡ classes.entry.now) }
+{
+    let mut index = NameIndex::new(alloc);
+    for class in classes.as_slice() {
+        index.add(class.as_str())?;
+    }
+    Ok(index)
+}
+
+// The status to which a class of an instance is raised that may be kept or repaired: that of the visit where both lists have
+// the class, and else Maybe.
+fn raised_to(kept: &NameIndex<'_>, repaired: &NameIndex<'_>, class: &Name, status: Status) -> Status
+    ensures { (i : AnyInstance) → kept.now ≡ i.kept → repaired.now ≡ i.repaired → result
+        ≡ raised_to status (in_every_list i (Outcome.Kept ∷ (Outcome.Repaired ∷ [])) class.now) }
+{
+    if kept.find(class.as_str()).is_none() {
+        return Status::Maybe;
+    }
+    if repaired.find(class.as_str()).is_none() {
+        return Status::Maybe;
+    }
+    status
+}
+
+// Raises classes of an instance that may be kept or repaired.
+fn raise_classes(
+    alloc: Global,
+    instance: &Instance,
+    classes: &Names,
+    kept: &NameIndex<'_>,
+    repaired: &NameIndex<'_>,
+    status: Status,
+    state: &mut State,
+) -> Result<(), NoMemory>
+    requires kept { kept.now ≡ instance.now.kept }
+    requires repaired { repaired.now ≡ instance.now.repaired }
+    ensures { OnOk result ((s : Setting) (h : History) → Keeps s state.old h → Keeps s state.new
+        (raise_each instance.now (Outcome.Kept ∷ (Outcome.Repaired ∷ [])) status classes.now h)) }
+{
+    for class in classes.as_slice() {
+        let to = raised_to(kept, repaired, class, status);
+        let source = copy_id(alloc, &instance.source)?;
+        state.raise(class.copy(alloc)?, to, Some(source))?;
+    }
+    Ok(())
+}
+
+// Raises the classes of an instance that may be kept or repaired.
+fn raise_both(
+    alloc: Global,
+    instance: &Instance,
+    status: Status,
+    state: &mut State,
+) -> Result<(), NoMemory>
+    ensures { OnOk result ((s : Setting) (h : History) → Keeps s state.old h → Keeps s state.new
+        (raise_ending instance.now Ending.KeptOrRepaired status h)) }
+{
+    let (kept, repaired) = (&instance.kept, &instance.repaired);
+    let in_kept = indexed(alloc, kept)?;
+    let in_repaired = indexed(alloc, repaired)?;
+    raise_classes(alloc, instance, kept, &in_kept, &in_repaired, status, state)?;
+    raise_classes(
+        alloc,
+        instance,
+        repaired,
+        &in_kept,
+        &in_repaired,
+        status,
+        state,
+    )
+}
+
+/// Raises the classes of an instance by how it ended or may end, everywhere.
+pub(crate) fn raise_ending(
+    alloc: Global,
+    instance: &Instance,
+    ending: Ending,
+    status: Status,
+    state: &mut State,
+) -> Result<(), NoMemory>
+    ensures { OnOk result ((s : Setting) (h : History) → Keeps s state.old h → Keeps s state.new
+        (raise_ending instance.now ending status h)) }
+{
+    match ending {
+        Ending::One(outcome) => raise_outcome(alloc, instance, outcome, status, state),
+        Ending::KeptOrRepaired => raise_both(alloc, instance, status, state),
+    }
 }
 
 /// The status of a visit: the least of what the guard, the activation and earlier visits allow.

@@ -1,5 +1,5 @@
 // The passes of an activation, and the calls in them.
-ghost use Rattle.std.specs.Prelude.{◌≡◌, All, IsTrue, OnOk, map};
+ghost use Rattle.std.specs.Prelude.{◌≡◌, ◌≢◌, All, IsTrue, OnOk, map};
 ghost use Rattle.cfa_resolve.specs.Resolution.{is_acting};
 ghost use Rattle.cfa_schema.specs.Laws.{IsCounted};
 ghost use Rattle.cfa_schema.specs.Seen.{tree_of};
@@ -11,7 +11,7 @@ use crate::activations::{Activation, guard_status, inner_path};
 use crate::binding::bind;
 use crate::counting::count_instances;
 use crate::defining::{pass_over, reach_classes, reach_vars};
-use crate::ending::{raise_outcome, visit_status};
+use crate::ending::{raise_ending, visit_status};
 use crate::facts::ids_are_counted;
 use crate::numbered::{Numbered, numbered_in};
 use crate::states::State;
@@ -35,6 +35,7 @@ pub(crate) struct Scene<'a> {
 
 // Goes through the bundle of a call, and answers its worst outcome.
 #[cycle(passes)]
+#[tactic(none)]
 fn activate<S, O, T: Teller<S, O>, P: Patterns>(
     scene: &Scene<'_>,
     instance: &Instance,
@@ -90,6 +91,7 @@ fn activate<S, O, T: Teller<S, O>, P: Patterns>(
 
 // Goes through the bundle of an instance that calls one; of another nothing is known.
 #[cycle(passes)]
+#[tactic(none)]
 fn call<S, O, T: Teller<S, O>, P: Patterns>(
     scene: &Scene<'_>,
     instance: &Instance,
@@ -119,6 +121,7 @@ fn call<S, O, T: Teller<S, O>, P: Patterns>(
 
 // Visits an instance, unless it was.
 #[cycle(passes)]
+#[tactic(none)]
 fn visit<S, O, T: Teller<S, O>, P: Patterns>(
     scene: &Scene<'_>,
     instance: &Instance,
@@ -145,19 +148,26 @@ fn visit<S, O, T: Teller<S, O>, P: Patterns>(
     if status == Status::No {
         return Ok(());
     }
-    state.mark(scene.alloc, instance, status)?;
+    state.list(
+        scene.alloc,
+        instance,
+        status,
+        mark,
+        activation.waits.as_ref(),
+    )?;
     if teller.visit(scene.alloc, instance, status, site, out)? {
         return Ok(());
     }
     let called = call(scene, instance, status, state, teller, site, out, pats)?;
-    let outcome = teller.tell(scene.alloc, instance, called, site, out)?;
-    activation.note(outcome);
-    raise_outcome(scene.alloc, instance, outcome, status, state)?;
+    let ending = teller.tell(scene.alloc, instance, called, site, out)?;
+    activation.note(ending);
+    raise_ending(scene.alloc, instance, ending, status, state)?;
     Ok(())
 }
 
 // Visits the instances of a promise one after the other.
 #[cycle(passes)]
+#[tactic(none)]
 fn visit_each<S, O, T: Teller<S, O>, P: Patterns>(
     scene: &Scene<'_>,
     instances: &[Instance],
@@ -188,6 +198,7 @@ fn visit_each<S, O, T: Teller<S, O>, P: Patterns>(
 
 // Reaches a promise that has instances, whose guard may hold.
 #[cycle(passes)]
+#[tactic(none)]
 fn reach_instances<S, O, T: Teller<S, O>, P: Patterns>(
     scene: &Scene<'_>,
     promise: &Numbered<'_>,
@@ -202,6 +213,7 @@ fn reach_instances<S, O, T: Teller<S, O>, P: Patterns>(
     requires names { HasPlainNames (tree_of scene.now.checked.now) }
     requires id { IsCounted promise.now.id }
     requires acting { IsTrue (is_acting promise.now.promise_type) }
+    requires set { guard ≢ Status.No }
     ensures ends { Ends T.teller T.agrees T.behind T.faults (tree_of scene.now.checked.now)
         (acting_level scene.now.depth (seen_numbered promise.now) guard)
         (teller.old, (site.old, out.old)) (teller.new, (site.new, out.new))
@@ -209,7 +221,8 @@ fn reach_instances<S, O, T: Teller<S, O>, P: Patterns>(
         (P.shown pats.old) (P.shown pats.new) result }
     ensures path { OnOk result (activation.new.path ≡ activation.old.path) }
 {
-    let instances = count_instances(scene.alloc, scene.checked, promise, state, activation, pats)?;
+    let (alloc, checked) = (scene.alloc, scene.checked);
+    let instances = count_instances(alloc, checked, promise, guard, state, activation, pats)?;
     visit_each(
         scene,
         instances.as_slice(),
@@ -225,6 +238,7 @@ fn reach_instances<S, O, T: Teller<S, O>, P: Patterns>(
 
 // Reaches a promise.
 #[cycle(passes)]
+#[tactic(none)]
 fn reach<S, O, T: Teller<S, O>, P: Patterns>(
     scene: &Scene<'_>,
     promise: &Numbered<'_>,
@@ -265,6 +279,7 @@ fn reach<S, O, T: Teller<S, O>, P: Patterns>(
 
 // Reaches the promises of a type one after the other.
 #[cycle(passes)]
+#[tactic(none)]
 fn reach_type<S, O, T: Teller<S, O>, P: Patterns>(
     scene: &Scene<'_>,
     promises: &[Numbered<'_>],
@@ -295,6 +310,7 @@ fn reach_type<S, O, T: Teller<S, O>, P: Patterns>(
 
 // Goes through the promises of a bundle once, type by type.
 #[cycle(passes)]
+#[tactic(none)]
 fn pass<S, O, T: Teller<S, O>, P: Patterns>(
     scene: &Scene<'_>,
     promises: &[Numbered<'_>],
@@ -340,6 +356,7 @@ fn pass<S, O, T: Teller<S, O>, P: Patterns>(
 
 /// Goes through the promises of a bundle in three passes.
 #[cycle(passes)]
+#[tactic(none)]
 pub(crate) fn go_through<S, O, T: Teller<S, O>, P: Patterns>(
     scene: &Scene<'_>,
     promises: &[Numbered<'_>],

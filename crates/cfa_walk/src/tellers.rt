@@ -11,6 +11,15 @@ use cfa_output::Stop;
 use cfa_resolve::Instance;
 use std::alloc::Global;
 
+/// How an instance ends, or may end.
+#[derive(Clone, Copy, Debug, PartialEq, Eq)]
+pub enum Ending {
+    /// As it did in a run, or as it does wherever all is kept.
+    One(Outcome),
+    /// As kept or as repaired.
+    KeptOrRepaired,
+}
+
 /// Who tells which visits are skipped and how instances end. It stands on a site and a sink, or on whatever else it was made
 /// for.
 pub trait Teller<S, O> {
@@ -37,15 +46,16 @@ pub trait Teller<S, O> {
         site: &mut S,
         out: &mut O,
     ) -> Result<bool, Stop>
-        ensures visited { IfOk result (HasVisited teller agrees behind (self.old, (site.old, out.old))
-            (self.new, (site.new, out.new)) instance.now status) }
+        ensures visited { IfOk result (HasVisited teller agrees behind
+            (self.old, (site.old, out.old)) (self.new, (site.new, out.new))
+            instance.now status) }
         ensures later { IfOk result (λ skipped. Later (faults (self.old, (site.old, out.old)))
             (faults (self.new, (site.new, out.new)))) }
         ensures stopped { IfErr result (Stops (faults (self.old, (site.old, out.old)))
             (faults (self.new, (site.new, out.new)))) }
         ensures own { IfErr result IsTellersStop };
 
-    /// Makes an instance end, and answers how. Of a call it is handed the worst outcome in its bundle.
+    /// Makes an instance end, and answers how it did or may end. Of a call it is handed the worst outcome in its bundle.
     fn tell(
         &mut self,
         alloc: Global,
@@ -53,11 +63,11 @@ pub trait Teller<S, O> {
         called: Outcome,
         site: &mut S,
         out: &mut O,
-    ) -> Result<Outcome, Stop>
+    ) -> Result<Ending, Stop>
         requires { IsCounted instance.now.source }
         ensures told { IfOk result (HasTold teller agrees behind (self.old, (site.old, out.old))
             (self.new, (site.new, out.new)) instance.now called) }
-        ensures later { IfOk result (λ outcome. Later (faults (self.old, (site.old, out.old)))
+        ensures later { IfOk result (λ ending. Later (faults (self.old, (site.old, out.old)))
             (faults (self.new, (site.new, out.new)))) }
         ensures stopped { IfErr result (Stops (faults (self.old, (site.old, out.old)))
             (faults (self.new, (site.new, out.new)))) }

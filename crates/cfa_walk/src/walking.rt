@@ -4,11 +4,11 @@ ghost use Rattle.cfa_schema.specs.Seen.{tree_of};
 ghost use Rattle.cfa_schema.specs.Served.{bundle_of};
 ghost use Rattle.cfa_tree.specs.Tree.{PolicyTree};
 ghost use Rattle.cfa_walk.specs.Bundles.{is_in_common, seen_bundle, IsShared, QuietWalkDone, WalkEnds, common_walk, commons_walk, passes_walk, agent_walk, bundle_walk, sequence_walk};
-ghost use Rattle.cfa_walk.specs.Levels.{FaultsAre, PatternsAre, QuietDone};
+ghost use Rattle.cfa_walk.specs.Levels.{FaultsAre, PatternsAre, QuietDone, done_of};
 ghost use Rattle.cfa_walk.specs.SeenNumbered.{seen_numbered};
 ghost use Rattle.cfa_walk.specs.Settings.{setting_of};
 ghost use Rattle.cfa_walk.specs.Steps.{common_type_level};
-ghost use Rattle.cfa_walk.specs.Walked.{HasRun};
+ghost use Rattle.cfa_walk.specs.Walked.{HasRun, HasRunTo};
 
 use crate::activations::{Activation, guard_status};
 use crate::defining::{pass_over, reach_classes, reach_vars};
@@ -223,6 +223,38 @@ fn through_sequence<S, O, T: Teller<S, O>, P: Patterns>(
     Ok(())
 }
 
+/// Makes the history of a run of a policy in a context, with a log of what it lists where one is asked for, and answers what is
+/// kept of it.
+pub(crate) fn make_run<S, O, T: Teller<S, O>, P: Patterns>(
+    alloc: Global,
+    checked: &Checked,
+    context: &Context,
+    is_logged: bool,
+    teller: &mut T,
+    site: &mut S,
+    out: &mut O,
+    pats: &mut P,
+) -> Result<State, Stop>
+    ensures ran { HasRunTo T.teller T.agrees T.behind (setting_of checked.now context.now)
+        (teller.old, (site.old, out.old)) (teller.new, (site.new, out.new)) result }
+    ensures faults { FaultsAre (T.faults (teller.old, (site.old, out.old)))
+        (T.faults (teller.new, (site.new, out.new))) (done_of result) }
+    ensures patterns { PatternsAre (done_of result) (P.shown pats.old) (P.shown pats.new) }
+{
+    let mut state = State::new(alloc, checked, &context.classes, is_logged)?;
+    through_commons(alloc, checked, &mut state, pats)?;
+    let depth = checked.policy().blocks.as_slice().len();
+    let scene = Scene {
+        alloc,
+        checked,
+        depth,
+    };
+    let names = checked.sequence(alloc)?;
+    let names = names.as_slice();
+    through_sequence(&scene, names, &mut state, teller, site, out, pats)?;
+    Ok(state)
+}
+
 /// Makes the history of a run of a policy in a context, under who tells how its instances end: the common bundles three
 /// times, and then each agent bundle of the sequence in three passes.
 ///
@@ -243,22 +275,8 @@ pub fn run<S, O, T: Teller<S, O>, P: Patterns>(
         (T.faults (teller.new, (site.new, out.new))) result }
     ensures patterns { PatternsAre result (P.shown pats.old) (P.shown pats.new) }
 {
-    let mut state = State::new(alloc, checked, &context.classes)?;
-    through_commons(alloc, checked, &mut state, pats)?;
-    let depth = checked.policy().blocks.as_slice().len();
-    let scene = Scene {
-        alloc,
-        checked,
-        depth,
-    };
-    let names = checked.sequence(alloc)?;
-    through_sequence(
-        &scene,
-        names.as_slice(),
-        &mut state,
-        teller,
-        site,
-        out,
-        pats,
-    )
+    match make_run(alloc, checked, context, false, teller, site, out, pats) {
+        Ok(_) => Ok(()),
+        Err(stop) => Err(stop),
+    }
 }

@@ -1,7 +1,8 @@
-use Rattle.std.proofs.Common.{rules}
-use Rattle.cfa_walk.specs.Views.{shared_in}
+use Rattle.cfa_walk.proofs.DefiningLemmas.{on_ok, raised_within}
 use Rattle.cfa_walk.proofs.defining.raise_one.Goals as goal
 
 pub returns-else-is_common-clause-stands : goal.returns-else-is_common-clause-stands
-unfolding shared_in
-returns-else-is_common-clause-stands c = search rules
+returns-else-is_common-clause-stands c =
+    on_ok _ _ c.raise-else-is_common.result
+    (λ keeps s h stands. raised_within s c.args.state.now c.args.activation.now c.raise-else-is_common.new.self c.args.is_common c.args.handed h c.if-is_common.false (keeps s h) stands)
+    c.raise-else-is_common.ensures.keeps

@@ -1,13 +1,14 @@
-use Rattle.std.proofs.Common.{◌≡◌, true, rules}
+use Rattle.std.proofs.Common.{◌≡◌, [], true, rules}
+use Rattle.std.specs.List.{cons_option}
 use Rattle.cfa_vars.specs.Scopes.{in_scope}
 use Rattle.cfa_walk.specs.SeenNumbered.{seen_numbered}
-use Rattle.cfa_walk.proofs.DefiningLemmas.{vars_set}
+use Rattle.cfa_walk.proofs.DefiningLemmas.{logged, vars_set}
 use Rattle.cfa_walk.proofs.defining.reach_vars.Goals as goal
 
 pub returns-clause-done : goal.returns-clause-done
 returns-clause-done c = λ policy is_common.
     let counts : c.count.result ≡ true = search rules in
     vars_set policy is_common (seen_numbered c.args.promise.now) c.args.guard (in_scope c.scopes_of-scopes.result) c.in_ok-choices.choices c.count_choices.result
-    c.args.state.now c.count.new.self c.set_each.new.state c.args.activation.now c.set_each.new.activation c.scopes_of-scopes.ensures c.count_choices.ensures
-    c.in_ok-data.data.items c.in_ok-choices.ensures c.in_ok-data.ensures (c.count.ensures.within counts) (c.count.ensures.left counts)
+    c.args.state.now c.log_own.new.state c.set_each.new.state c.args.activation.now c.set_each.new.activation c.scopes_of-scopes.ensures c.count_choices.ensures
+    c.in_ok-data.data.items (cons_option c.in_ok-unsettled.unsettled []) c.requires c.in_ok-unsettled.ensures c.in_ok-choices.ensures c.in_ok-data.ensures (c.count.ensures.within counts) (logged c.args.state.now c.count.new.self c.log_own.new.state c.count_choices.result (cons_option c.in_ok-unsettled.unsettled []) (c.count.ensures.left counts) c.in_ok-log_own.ensures)
     c.in_ok-set_each.ensures.same c.in_ok-set_each.ensures.stands

@@ -17,6 +17,7 @@ use Rattle.cfa_walk.specs.Views.{Setting}
 use Rattle.cfa_walk.proofs.ServedLemmas.{all_held, found_name}
 use Rattle.cfa_walk.proofs.passing.+passes.Goals.{reach_type-then-eq+in_ok-reach, reach_type-else-eq, activate-in-Some+in_ok-bind+in_ok-promises+in_ok-go_through, activate-in_default}
 use Rattle.cfa_resolve.specs.declared.instances.Instance.{Instance}
+use Rattle.cfa_resolve.specs.Resolution.{is_acting}
 use Rattle.cfa_schema.specs.Seen.{tree_of}
 use Rattle.cfa_walk.specs.declared.numbered.Numbered.{Numbered as Held}
 use Rattle.cfa_output.specs.declared.ends.Stop.TheVariants.{Memory}
@@ -26,10 +27,10 @@ use Rattle.cfa_walk.specs.SeenNumbered.{seen_numbered}
 use Rattle.cfa_walk.specs.Steps.{IsAt, AreCounted, CallEnds, visit_level, instances_level, acting_level, type_level, types_level, pass_level, passes_level}
 use Rattle.cfa_walk.proofs.CommonLemmas.{one_taken, in_parts, of_item, on_stop, is_same_type, is_other_type, types_agree, types_differ, statuses_agree, statuses_differ}
 use Rattle.cfa_walk.proofs.LoopLemmas.{loop_begins, loop_goes_on, loop_stops}
-use Rattle.cfa_walk.proofs.PassLemmas.{first_stops, second_stops, passes_end, type_begins, type_goes_on, type_leaves, type_stops, reached_unset, reached_vars, reached_classes, reached_acting, reached_left, left_type, acting_type, no_path, any_path, path_then}
+use Rattle.cfa_walk.proofs.PassLemmas.{type_keeps, visit_keeps, first_stops, second_stops, passes_end, type_begins, type_goes_on, type_leaves, type_stops, reached_unset, reached_vars, reached_classes, reached_acting, reached_left, left_type, acting_type, no_path, any_path, path_then}
 use Rattle.cfa_walk.proofs.CountLemmas.{acting_ends, count_stops}
 use Rattle.cfa_walk.proofs.VisitLemmas.{not_visited, teller_stops, skipped, call_stops, tell_stops, raise_stops, visit_done}
-use Rattle.cfa_walk.proofs.CallLemmas.{Begins, halted, no_acts, no_report, call_memory, call_deepest, call_missing, bundle_stops, call_done}
+use Rattle.cfa_walk.proofs.CallLemmas.{Begins, halted, joined, no_acts, no_report, call_memory, call_deepest, call_missing, bundle_stops, call_done}
 use Rattle.cfa_walk.proofs.passing.+passes.Goals as goal
 
 pub go_through-returns-in_err-pass-clause-ends : goal.go_through-returns-in_err-pass-clause-ends
@@ -97,7 +98,7 @@ pass-returns-in_err-reach_type-clause-ends g t c =
     let stop = c.in_err-reach_type.field-0.0 in
     on_stop (λ result. Ends g.T.Teller.teller g.T.Teller.agrees g.T.Teller.behind g.T.Teller.faults policy (pass_level c.args.scene.now.depth ps) (c.args.teller.now, (c.args.site.now, c.args.out.now)) (c.reach_type.new.teller, (c.reach_type.new.site, c.reach_type.new.out)) c.args.state.now c.reach_type.new.state c.args.activation.now c.reach_type.new.activation (g.P.Patterns.shown c.args.pats.now) (g.P.Patterns.shown c.reach_type.new.pats) result)
     c.from_residual.result c.in_err-reach_type.field-0.0 c.from_residual.ensures.1
-    (loop_stops g.T.Teller.teller g.T.Teller.agrees g.T.Teller.behind g.T.Teller.faults policy (λ (x : PromiseType). type_level c.args.scene.now.depth ps x) agent_types (take (i + 1) types) (drop (i + 1) types) (c.args.teller.now, (c.args.site.now, c.args.out.now)) (c.reach_type.new.teller, (c.reach_type.new.site, c.reach_type.new.out)) c.args.state.now c.reach_type.new.state c.args.activation.now c.reach_type.new.activation (g.P.Patterns.shown c.args.pats.now) (g.P.Patterns.shown c.reach_type.new.pats) stop
+    (loop_stops g.T.Teller.teller g.T.Teller.agrees g.T.Teller.behind g.T.Teller.faults policy (λ (x : PromiseType). type_level c.args.scene.now.depth ps x) (type_keeps c.args.scene.now.depth ps) agent_types (take (i + 1) types) (drop (i + 1) types) (c.args.teller.now, (c.args.site.now, c.args.out.now)) (c.reach_type.new.teller, (c.reach_type.new.site, c.reach_type.new.out)) c.args.state.now c.reach_type.new.state c.args.activation.now c.reach_type.new.activation (g.P.Patterns.shown c.args.pats.now) (g.P.Patterns.shown c.reach_type.new.pats) stop
     (sym (take-append-drop (i + 1) types))
     (loop_goes_on g.T.Teller.teller g.T.Teller.agrees g.T.Teller.behind g.T.Teller.faults policy (λ (x : PromiseType). type_level c.args.scene.now.depth ps x) (take (i + 1) types) (take i types) type (c.args.teller.now, (c.args.site.now, c.args.out.now)) (c.loop-promise_type.teller, (c.loop-promise_type.site, c.loop-promise_type.out)) (c.reach_type.new.teller, (c.reach_type.new.site, c.reach_type.new.out)) c.args.state.now c.loop-promise_type.state c.reach_type.new.state c.args.activation.now c.loop-promise_type.activation c.reach_type.new.activation (g.P.Patterns.shown c.args.pats.now) (g.P.Patterns.shown c.loop-promise_type.pats) (g.P.Patterns.shown c.reach_type.new.pats) (Err stop)
     one c.loop-promise_type.invariant.0 c.in_err-reach_type.ensures.ends))
@@ -200,7 +201,7 @@ visit_each-returns-in_err-visit-clause-ends g t c =
     let stop = c.in_err-visit.field-0.0 in
     on_stop (λ result. Ends g.T.Teller.teller g.T.Teller.agrees g.T.Teller.behind g.T.Teller.faults policy (instances_level c.args.scene.now.depth c.args.guard all) (c.args.teller.now, (c.args.site.now, c.args.out.now)) (c.visit.new.teller, (c.visit.new.site, c.visit.new.out)) c.args.state.now c.visit.new.state c.args.activation.now c.visit.new.activation (g.P.Patterns.shown c.args.pats.now) (g.P.Patterns.shown c.visit.new.pats) result)
     c.from_residual.result c.in_err-visit.field-0.0 c.from_residual.ensures.1
-    (loop_stops g.T.Teller.teller g.T.Teller.agrees g.T.Teller.behind g.T.Teller.faults policy (λ (x : Instance). visit_level c.args.scene.now.depth c.args.guard x) all (take (i + 1) all) (drop (i + 1) all) (c.args.teller.now, (c.args.site.now, c.args.out.now)) (c.visit.new.teller, (c.visit.new.site, c.visit.new.out)) c.args.state.now c.visit.new.state c.args.activation.now c.visit.new.activation (g.P.Patterns.shown c.args.pats.now) (g.P.Patterns.shown c.visit.new.pats) stop
+    (loop_stops g.T.Teller.teller g.T.Teller.agrees g.T.Teller.behind g.T.Teller.faults policy (λ (x : Instance). visit_level c.args.scene.now.depth c.args.guard x) (visit_keeps c.args.scene.now.depth c.args.guard) all (take (i + 1) all) (drop (i + 1) all) (c.args.teller.now, (c.args.site.now, c.args.out.now)) (c.visit.new.teller, (c.visit.new.site, c.visit.new.out)) c.args.state.now c.visit.new.state c.args.activation.now c.visit.new.activation (g.P.Patterns.shown c.args.pats.now) (g.P.Patterns.shown c.visit.new.pats) stop
     (sym (take-append-drop (i + 1) all))
     (loop_goes_on g.T.Teller.teller g.T.Teller.agrees g.T.Teller.behind g.T.Teller.faults policy (λ (x : Instance). visit_level c.args.scene.now.depth c.args.guard x) (take (i + 1) all) (take i all) instance (c.args.teller.now, (c.args.site.now, c.args.out.now)) (c.loop-instance.teller, (c.loop-instance.site, c.loop-instance.out)) (c.visit.new.teller, (c.visit.new.site, c.visit.new.out)) c.args.state.now c.loop-instance.state c.visit.new.state c.args.activation.now c.loop-instance.activation c.visit.new.activation (g.P.Patterns.shown c.args.pats.now) (g.P.Patterns.shown c.loop-instance.pats) (g.P.Patterns.shown c.visit.new.pats) (Err stop)
     one c.loop-instance.invariant.0 c.in_err-visit.ensures.ends))
@@ -223,9 +224,9 @@ pub reach_instances-returns-in_err-instances-clause-ends : goal.reach_instances-
 reach_instances-returns-in_err-instances-clause-ends g t c =
     let policy = tree_of c.args.scene.now.checked.now in
     let p = seen_numbered c.args.promise.now in
-    on_stop (λ result. Ends g.T.Teller.teller g.T.Teller.agrees g.T.Teller.behind g.T.Teller.faults policy (acting_level c.args.scene.now.depth p c.args.guard) (c.args.teller.now, (c.args.site.now, c.args.out.now)) (c.args.teller.now, (c.args.site.now, c.args.out.now)) c.args.state.now c.count_instances.new.state c.args.activation.now c.args.activation.now (g.P.Patterns.shown c.args.pats.now) (g.P.Patterns.shown c.count_instances.new.pats) result)
+    on_stop (λ result. Ends g.T.Teller.teller g.T.Teller.agrees g.T.Teller.behind g.T.Teller.faults policy (acting_level c.args.scene.now.depth p c.args.guard) (c.args.teller.now, (c.args.site.now, c.args.out.now)) (c.args.teller.now, (c.args.site.now, c.args.out.now)) c.args.state.now c.count_instances.new.state c.args.activation.now c.count_instances.new.activation (g.P.Patterns.shown c.args.pats.now) (g.P.Patterns.shown c.count_instances.new.pats) result)
     c.from_residual.result c.in_err-instances.field-0.0 c.from_residual.ensures.1
-    (count_stops g.T.Teller.teller g.T.Teller.agrees g.T.Teller.behind g.T.Teller.faults policy c.args.scene.now.depth p c.args.guard (c.args.teller.now, (c.args.site.now, c.args.out.now)) c.args.state.now c.count_instances.new.state c.args.activation.now (g.P.Patterns.shown c.args.pats.now) (g.P.Patterns.shown c.count_instances.new.pats) c.in_err-instances.field-0.0
+    (count_stops g.T.Teller.teller g.T.Teller.agrees g.T.Teller.behind g.T.Teller.faults policy c.args.scene.now.depth p c.args.guard (c.args.teller.now, (c.args.site.now, c.args.out.now)) c.args.state.now c.count_instances.new.state c.args.activation.now c.count_instances.new.activation (g.P.Patterns.shown c.args.pats.now) (g.P.Patterns.shown c.count_instances.new.pats) c.in_err-instances.field-0.0
     c.in_err-instances.ensures.counted c.in_err-instances.ensures.patterns)
 
 pub reach_instances-returns-in_err-instances-clause-path : goal.reach_instances-returns-in_err-instances-clause-path
@@ -236,13 +237,13 @@ pub reach_instances-returns-clause-ends : goal.reach_instances-returns-clause-en
 reach_instances-returns-clause-ends g t c =
     let policy = tree_of c.args.scene.now.checked.now in
     let p = seen_numbered c.args.promise.now in
-    acting_ends g.T.Teller.teller g.T.Teller.agrees g.T.Teller.behind g.T.Teller.faults policy c.args.scene.now.depth p c.args.guard (c.args.teller.now, (c.args.site.now, c.args.out.now)) c.args.state.now c.count_instances.new.state c.args.activation.now (g.met.T.Teller.steady (c.args.teller.now, (c.args.site.now, c.args.out.now))) (c.visit_each.new.teller, (c.visit_each.new.site, c.visit_each.new.out)) c.visit_each.new.state c.visit_each.new.activation
+    acting_ends g.T.Teller.teller g.T.Teller.agrees g.T.Teller.behind g.T.Teller.faults policy c.args.scene.now.depth p c.args.guard (c.args.teller.now, (c.args.site.now, c.args.out.now)) c.args.state.now c.count_instances.new.state c.args.activation.now c.count_instances.new.activation (g.met.T.Teller.steady (c.args.teller.now, (c.args.site.now, c.args.out.now))) (c.visit_each.new.teller, (c.visit_each.new.site, c.visit_each.new.out)) c.visit_each.new.state c.visit_each.new.activation
     c.in_ok-instances.instances (g.P.Patterns.shown c.args.pats.now) (g.P.Patterns.shown c.count_instances.new.pats) (g.P.Patterns.shown c.visit_each.new.pats) c.visit_each.result c.in_ok-instances.ensures.counted c.in_ok-instances.ensures.patterns
-    (subst (λ (x : List Instance). Ends g.T.Teller.teller g.T.Teller.agrees g.T.Teller.behind g.T.Teller.faults policy (instances_level c.args.scene.now.depth c.args.guard x) (c.args.teller.now, (c.args.site.now, c.args.out.now)) (c.visit_each.new.teller, (c.visit_each.new.site, c.visit_each.new.out)) c.count_instances.new.state c.visit_each.new.state c.args.activation.now c.visit_each.new.activation (g.P.Patterns.shown c.count_instances.new.pats) (g.P.Patterns.shown c.visit_each.new.pats) c.visit_each.result) c.as_slice.ensures c.visit_each.ensures.ends)
+    (subst (λ (x : List Instance). Ends g.T.Teller.teller g.T.Teller.agrees g.T.Teller.behind g.T.Teller.faults policy (instances_level c.args.scene.now.depth c.args.guard x) (c.args.teller.now, (c.args.site.now, c.args.out.now)) (c.visit_each.new.teller, (c.visit_each.new.site, c.visit_each.new.out)) c.count_instances.new.state c.visit_each.new.state c.count_instances.new.activation c.visit_each.new.activation (g.P.Patterns.shown c.count_instances.new.pats) (g.P.Patterns.shown c.visit_each.new.pats) c.visit_each.result) c.as_slice.ensures c.visit_each.ensures.ends)
 
 pub reach_instances-returns-clause-path : goal.reach_instances-returns-clause-path
 reach_instances-returns-clause-path g t c =
-    c.visit_each.ensures.path
+    path_then _ _ _ c.visit_each.result c.visit_each.ensures.path c.in_ok-instances.ensures.path
 
 pub reach-returns-then-eq-clause-ends : goal.reach-returns-then-eq-clause-ends
 reach-returns-then-eq-clause-ends g t c =
@@ -307,23 +308,23 @@ pub visit-returns-then-eq-clause-path : goal.visit-returns-then-eq-clause-path
 visit-returns-then-eq-clause-path g t c =
     refl
 
-pub visit-returns-in_err-mark-clause-ends : goal.visit-returns-in_err-mark-clause-ends
-visit-returns-in_err-mark-clause-ends g t c =
+pub visit-returns-in_err-list-clause-ends : goal.visit-returns-in_err-list-clause-ends
+visit-returns-in_err-list-clause-ends g t c =
     let policy = tree_of c.args.scene.now.checked.now in
-    on_stop (λ result. Ends g.T.Teller.teller g.T.Teller.agrees g.T.Teller.behind g.T.Teller.faults policy (visit_level c.args.scene.now.depth c.args.guard c.args.instance.now) (c.args.teller.now, (c.args.site.now, c.args.out.now)) (c.args.teller.now, (c.args.site.now, c.args.out.now)) c.args.state.now c.mark.new.self c.args.activation.now c.args.activation.now (g.P.Patterns.shown c.args.pats.now) (g.P.Patterns.shown c.args.pats.now) result)
+    on_stop (λ result. Ends g.T.Teller.teller g.T.Teller.agrees g.T.Teller.behind g.T.Teller.faults policy (visit_level c.args.scene.now.depth c.args.guard c.args.instance.now) (c.args.teller.now, (c.args.site.now, c.args.out.now)) (c.args.teller.now, (c.args.site.now, c.args.out.now)) c.args.state.now c.list.new.self c.args.activation.now c.args.activation.now (g.P.Patterns.shown c.args.pats.now) (g.P.Patterns.shown c.args.pats.now) result)
     c.from_residual.result Memory c.from_residual.ensures.1
     ((tt, (refl, refl)))
 
-pub visit-returns-in_err-mark-clause-path : goal.visit-returns-in_err-mark-clause-path
-visit-returns-in_err-mark-clause-path g t c =
+pub visit-returns-in_err-list-clause-path : goal.visit-returns-in_err-list-clause-path
+visit-returns-in_err-list-clause-path g t c =
     no_path _ c.from_residual.result Memory c.from_residual.ensures.1
 
 pub visit-returns-in_err-visit-clause-ends : goal.visit-returns-in_err-visit-clause-ends
 visit-returns-in_err-visit-clause-ends g t c =
     let policy = tree_of c.args.scene.now.checked.now in
-    on_stop (λ result. Ends g.T.Teller.teller g.T.Teller.agrees g.T.Teller.behind g.T.Teller.faults policy (visit_level c.args.scene.now.depth c.args.guard c.args.instance.now) (c.args.teller.now, (c.args.site.now, c.args.out.now)) (c.visit.new.self, (c.visit.new.site, c.visit.new.out)) c.args.state.now c.mark.new.self c.args.activation.now c.args.activation.now (g.P.Patterns.shown c.args.pats.now) (g.P.Patterns.shown c.args.pats.now) result)
+    on_stop (λ result. Ends g.T.Teller.teller g.T.Teller.agrees g.T.Teller.behind g.T.Teller.faults policy (visit_level c.args.scene.now.depth c.args.guard c.args.instance.now) (c.args.teller.now, (c.args.site.now, c.args.out.now)) (c.visit.new.self, (c.visit.new.site, c.visit.new.out)) c.args.state.now c.list.new.self c.args.activation.now c.args.activation.now (g.P.Patterns.shown c.args.pats.now) (g.P.Patterns.shown c.args.pats.now) result)
     c.from_residual-in_err-visit.result c.in_err-visit.field-0.0 c.from_residual-in_err-visit.ensures.1
-    (teller_stops g.T.Teller.teller g.T.Teller.agrees g.T.Teller.behind g.T.Teller.faults policy c.args.scene.now.depth c.args.guard c.args.instance.now c.args.state.now c.args.activation.now c.done-mark.result c.visit_status-status.result c.done-mark.ensures c.visit_status-status.ensures (c.args.teller.now, (c.args.site.now, c.args.out.now)) (c.visit.new.self, (c.visit.new.site, c.visit.new.out)) c.mark.new.self c.args.activation.now (g.P.Patterns.shown c.args.pats.now) (g.P.Patterns.shown c.args.pats.now) c.in_err-visit.field-0.0 c.in_err-visit.ensures.stopped c.in_err-visit.ensures.own refl)
+    (teller_stops g.T.Teller.teller g.T.Teller.agrees g.T.Teller.behind g.T.Teller.faults policy c.args.scene.now.depth c.args.guard c.args.instance.now c.args.state.now c.args.activation.now c.done-mark.result c.visit_status-status.result c.done-mark.ensures c.visit_status-status.ensures (c.args.teller.now, (c.args.site.now, c.args.out.now)) (c.visit.new.self, (c.visit.new.site, c.visit.new.out)) c.list.new.self c.args.activation.now (g.P.Patterns.shown c.args.pats.now) (g.P.Patterns.shown c.args.pats.now) c.in_err-visit.field-0.0 c.in_err-visit.ensures.stopped c.in_err-visit.ensures.own refl)
 
 pub visit-returns-in_err-visit-clause-path : goal.visit-returns-in_err-visit-clause-path
 visit-returns-in_err-visit-clause-path g t c =
@@ -332,7 +333,7 @@ visit-returns-in_err-visit-clause-path g t c =
 pub visit-returns-then-branch-clause-ends : goal.visit-returns-then-branch-clause-ends
 visit-returns-then-branch-clause-ends g t c =
     let policy = tree_of c.args.scene.now.checked.now in
-    skipped g.T.Teller.teller g.T.Teller.agrees g.T.Teller.behind g.T.Teller.faults policy c.args.scene.now.depth c.args.guard c.args.instance.now c.args.state.now c.args.activation.now c.done-mark.result c.visit_status-status.result c.done-mark.ensures c.visit_status-status.ensures (c.args.teller.now, (c.args.site.now, c.args.out.now)) (statuses_differ c.visit_status-status.result No c.if-eq.ensures) c.requires.at c.mark.new.self c.in_ok-mark.ensures (c.visit.new.self, (c.visit.new.site, c.visit.new.out)) (g.P.Patterns.shown c.args.pats.now) (subst (λ (b : Bool). HasVisited g.T.Teller.teller g.T.Teller.agrees g.T.Teller.behind (c.args.teller.now, (c.args.site.now, c.args.out.now)) (c.visit.new.self, (c.visit.new.site, c.visit.new.out)) c.args.instance.now c.visit_status-status.result b) c.if-branch.true c.in_ok-visit.ensures.visited) c.in_ok-visit.ensures.later
+    skipped g.T.Teller.teller g.T.Teller.agrees g.T.Teller.behind g.T.Teller.faults policy c.args.scene.now.depth c.args.guard c.args.instance.now c.args.state.now c.args.activation.now c.done-mark.result c.visit_status-status.result c.done-mark.ensures c.visit_status-status.ensures (c.args.teller.now, (c.args.site.now, c.args.out.now)) (statuses_differ c.visit_status-status.result No c.if-eq.ensures) c.requires.at c.list.new.self (λ s h waits. c.in_ok-list.ensures s h (c.as_ref.ensures.value ∙ waits)) (c.visit.new.self, (c.visit.new.site, c.visit.new.out)) (g.P.Patterns.shown c.args.pats.now) (subst (λ (b : Bool). HasVisited g.T.Teller.teller g.T.Teller.agrees g.T.Teller.behind (c.args.teller.now, (c.args.site.now, c.args.out.now)) (c.visit.new.self, (c.visit.new.site, c.visit.new.out)) c.args.instance.now c.visit_status-status.result b) c.if-branch.true c.in_ok-visit.ensures.visited) c.in_ok-visit.ensures.later
 
 pub visit-returns-then-branch-clause-path : goal.visit-returns-then-branch-clause-path
 visit-returns-then-branch-clause-path g t c =
@@ -343,42 +344,46 @@ visit-returns-in_err-called-clause-ends g t c =
     let policy = tree_of c.args.scene.now.checked.now in
     on_stop (λ result. Ends g.T.Teller.teller g.T.Teller.agrees g.T.Teller.behind g.T.Teller.faults policy (visit_level c.args.scene.now.depth c.args.guard c.args.instance.now) (c.args.teller.now, (c.args.site.now, c.args.out.now)) (c.call.new.teller, (c.call.new.site, c.call.new.out)) c.args.state.now c.call.new.state c.args.activation.now c.args.activation.now (g.P.Patterns.shown c.args.pats.now) (g.P.Patterns.shown c.call.new.pats) result)
     c.from_residual-in_err-called.result c.in_err-called.field-0.0 c.from_residual-in_err-called.ensures.1
-    (call_stops g.T.Teller.teller g.T.Teller.agrees g.T.Teller.behind g.T.Teller.faults policy c.args.scene.now.depth c.args.guard c.args.instance.now c.args.state.now c.args.activation.now c.done-mark.result c.visit_status-status.result c.done-mark.ensures c.visit_status-status.ensures (c.args.teller.now, (c.args.site.now, c.args.out.now)) (statuses_differ c.visit_status-status.result No c.if-eq.ensures) c.requires.at c.mark.new.self c.in_ok-mark.ensures (c.visit.new.self, (c.visit.new.site, c.visit.new.out)) (subst (λ (b : Bool). HasVisited g.T.Teller.teller g.T.Teller.agrees g.T.Teller.behind (c.args.teller.now, (c.args.site.now, c.args.out.now)) (c.visit.new.self, (c.visit.new.site, c.visit.new.out)) c.args.instance.now c.visit_status-status.result b) c.if-branch.false c.in_ok-visit.ensures.visited) c.in_ok-visit.ensures.later (c.call.new.teller, (c.call.new.site, c.call.new.out)) c.call.new.state (g.P.Patterns.shown c.args.pats.now) (g.P.Patterns.shown c.call.new.pats) c.in_err-called.field-0.0 c.in_err-called.ensures)
+    (call_stops g.T.Teller.teller g.T.Teller.agrees g.T.Teller.behind g.T.Teller.faults policy c.args.scene.now.depth c.args.guard c.args.instance.now c.args.state.now c.args.activation.now c.done-mark.result c.visit_status-status.result c.done-mark.ensures c.visit_status-status.ensures (c.args.teller.now, (c.args.site.now, c.args.out.now)) (statuses_differ c.visit_status-status.result No c.if-eq.ensures) c.requires.at c.list.new.self (λ s h waits. c.in_ok-list.ensures s h (c.as_ref.ensures.value ∙ waits)) (c.visit.new.self, (c.visit.new.site, c.visit.new.out)) (subst (λ (b : Bool). HasVisited g.T.Teller.teller g.T.Teller.agrees g.T.Teller.behind (c.args.teller.now, (c.args.site.now, c.args.out.now)) (c.visit.new.self, (c.visit.new.site, c.visit.new.out)) c.args.instance.now c.visit_status-status.result b) c.if-branch.false c.in_ok-visit.ensures.visited) c.in_ok-visit.ensures.later (c.call.new.teller, (c.call.new.site, c.call.new.out)) c.call.new.state (g.P.Patterns.shown c.args.pats.now) (g.P.Patterns.shown c.call.new.pats) c.in_err-called.field-0.0 c.in_err-called.ensures)
 
 pub visit-returns-in_err-called-clause-path : goal.visit-returns-in_err-called-clause-path
 visit-returns-in_err-called-clause-path g t c =
     no_path _ c.from_residual-in_err-called.result c.in_err-called.field-0.0 c.from_residual-in_err-called.ensures.1
 
-pub visit-returns-in_err-outcome-clause-ends : goal.visit-returns-in_err-outcome-clause-ends
-visit-returns-in_err-outcome-clause-ends g t c =
+pub visit-returns-in_err-ending-clause-ends : goal.visit-returns-in_err-ending-clause-ends
+visit-returns-in_err-ending-clause-ends g t c =
     let policy = tree_of c.args.scene.now.checked.now in
     on_stop (λ result. Ends g.T.Teller.teller g.T.Teller.agrees g.T.Teller.behind g.T.Teller.faults policy (visit_level c.args.scene.now.depth c.args.guard c.args.instance.now) (c.args.teller.now, (c.args.site.now, c.args.out.now)) (c.tell.new.self, (c.tell.new.site, c.tell.new.out)) c.args.state.now c.call.new.state c.args.activation.now c.args.activation.now (g.P.Patterns.shown c.args.pats.now) (g.P.Patterns.shown c.call.new.pats) result)
-    c.from_residual-in_err-outcome.result c.in_err-outcome.field-0.0 c.from_residual-in_err-outcome.ensures.1
-    (tell_stops g.T.Teller.teller g.T.Teller.agrees g.T.Teller.behind g.T.Teller.faults policy c.args.scene.now.depth c.args.guard c.args.instance.now c.args.state.now c.args.activation.now c.done-mark.result c.visit_status-status.result c.done-mark.ensures c.visit_status-status.ensures (c.args.teller.now, (c.args.site.now, c.args.out.now)) (statuses_differ c.visit_status-status.result No c.if-eq.ensures) c.requires.at c.mark.new.self c.in_ok-mark.ensures (c.visit.new.self, (c.visit.new.site, c.visit.new.out)) (subst (λ (b : Bool). HasVisited g.T.Teller.teller g.T.Teller.agrees g.T.Teller.behind (c.args.teller.now, (c.args.site.now, c.args.out.now)) (c.visit.new.self, (c.visit.new.site, c.visit.new.out)) c.args.instance.now c.visit_status-status.result b) c.if-branch.false c.in_ok-visit.ensures.visited) c.in_ok-visit.ensures.later (c.call.new.teller, (c.call.new.site, c.call.new.out)) c.call.new.state (g.P.Patterns.shown c.args.pats.now) (g.P.Patterns.shown c.call.new.pats) c.in_ok-called.called c.in_ok-called.ensures (c.tell.new.self, (c.tell.new.site, c.tell.new.out)) c.args.activation.now c.in_err-outcome.field-0.0 c.in_err-outcome.ensures.stopped c.in_err-outcome.ensures.own)
+    c.from_residual-in_err-ending.result c.in_err-ending.field-0.0 c.from_residual-in_err-ending.ensures.1
+    (tell_stops g.T.Teller.teller g.T.Teller.agrees g.T.Teller.behind g.T.Teller.faults policy c.args.scene.now.depth c.args.guard c.args.instance.now c.args.state.now c.args.activation.now c.done-mark.result c.visit_status-status.result c.done-mark.ensures c.visit_status-status.ensures (c.args.teller.now, (c.args.site.now, c.args.out.now)) (statuses_differ c.visit_status-status.result No c.if-eq.ensures) c.requires.at c.list.new.self (λ s h waits. c.in_ok-list.ensures s h (c.as_ref.ensures.value ∙ waits)) (c.visit.new.self, (c.visit.new.site, c.visit.new.out)) (subst (λ (b : Bool). HasVisited g.T.Teller.teller g.T.Teller.agrees g.T.Teller.behind (c.args.teller.now, (c.args.site.now, c.args.out.now)) (c.visit.new.self, (c.visit.new.site, c.visit.new.out)) c.args.instance.now c.visit_status-status.result b) c.if-branch.false c.in_ok-visit.ensures.visited) c.in_ok-visit.ensures.later (c.call.new.teller, (c.call.new.site, c.call.new.out)) c.call.new.state (g.P.Patterns.shown c.args.pats.now) (g.P.Patterns.shown c.call.new.pats) c.in_ok-called.called c.in_ok-called.ensures (c.tell.new.self, (c.tell.new.site, c.tell.new.out)) c.args.activation.now c.in_err-ending.field-0.0 c.in_err-ending.ensures.stopped c.in_err-ending.ensures.own)
 
-pub visit-returns-in_err-outcome-clause-path : goal.visit-returns-in_err-outcome-clause-path
-visit-returns-in_err-outcome-clause-path g t c =
-    no_path _ c.from_residual-in_err-outcome.result c.in_err-outcome.field-0.0 c.from_residual-in_err-outcome.ensures.1
+pub visit-returns-in_err-ending-clause-path : goal.visit-returns-in_err-ending-clause-path
+visit-returns-in_err-ending-clause-path g t c =
+    no_path _ c.from_residual-in_err-ending.result c.in_err-ending.field-0.0 c.from_residual-in_err-ending.ensures.1
 
-pub visit-returns-in_err-raise_outcome-clause-ends : goal.visit-returns-in_err-raise_outcome-clause-ends
-visit-returns-in_err-raise_outcome-clause-ends g t c =
+pub visit-returns-in_err-raise_ending-clause-ends : goal.visit-returns-in_err-raise_ending-clause-ends
+visit-returns-in_err-raise_ending-clause-ends g t c =
     let policy = tree_of c.args.scene.now.checked.now in
-    on_stop (λ result. Ends g.T.Teller.teller g.T.Teller.agrees g.T.Teller.behind g.T.Teller.faults policy (visit_level c.args.scene.now.depth c.args.guard c.args.instance.now) (c.args.teller.now, (c.args.site.now, c.args.out.now)) (c.tell.new.self, (c.tell.new.site, c.tell.new.out)) c.args.state.now c.raise_outcome.new.state c.args.activation.now c.note.new.self (g.P.Patterns.shown c.args.pats.now) (g.P.Patterns.shown c.call.new.pats) result)
-    c.from_residual-in_err-raise_outcome.result Memory c.from_residual-in_err-raise_outcome.ensures.1
-    (raise_stops g.T.Teller.teller g.T.Teller.agrees g.T.Teller.behind g.T.Teller.faults policy c.args.scene.now.depth c.args.guard c.args.instance.now c.args.state.now c.args.activation.now c.done-mark.result c.visit_status-status.result c.done-mark.ensures c.visit_status-status.ensures (c.args.teller.now, (c.args.site.now, c.args.out.now)) (statuses_differ c.visit_status-status.result No c.if-eq.ensures) c.requires.at c.mark.new.self c.in_ok-mark.ensures (c.visit.new.self, (c.visit.new.site, c.visit.new.out)) (subst (λ (b : Bool). HasVisited g.T.Teller.teller g.T.Teller.agrees g.T.Teller.behind (c.args.teller.now, (c.args.site.now, c.args.out.now)) (c.visit.new.self, (c.visit.new.site, c.visit.new.out)) c.args.instance.now c.visit_status-status.result b) c.if-branch.false c.in_ok-visit.ensures.visited) c.in_ok-visit.ensures.later (c.call.new.teller, (c.call.new.site, c.call.new.out)) c.call.new.state (g.P.Patterns.shown c.args.pats.now) (g.P.Patterns.shown c.call.new.pats) c.in_ok-called.called c.in_ok-called.ensures (c.tell.new.self, (c.tell.new.site, c.tell.new.out)) c.in_ok-outcome.outcome c.in_ok-outcome.ensures.told c.in_ok-outcome.ensures.later c.raise_outcome.new.state c.note.new.self)
+    on_stop (λ result. Ends g.T.Teller.teller g.T.Teller.agrees g.T.Teller.behind g.T.Teller.faults policy (visit_level c.args.scene.now.depth c.args.guard c.args.instance.now) (c.args.teller.now, (c.args.site.now, c.args.out.now)) (c.tell.new.self, (c.tell.new.site, c.tell.new.out)) c.args.state.now c.raise_ending.new.state c.args.activation.now c.note.new.self (g.P.Patterns.shown c.args.pats.now) (g.P.Patterns.shown c.call.new.pats) result)
+    c.from_residual-in_err-raise_ending.result Memory c.from_residual-in_err-raise_ending.ensures.1
+    (raise_stops g.T.Teller.teller g.T.Teller.agrees g.T.Teller.behind g.T.Teller.faults policy c.args.scene.now.depth c.args.guard c.args.instance.now c.args.state.now c.args.activation.now c.done-mark.result c.visit_status-status.result c.done-mark.ensures c.visit_status-status.ensures (c.args.teller.now, (c.args.site.now, c.args.out.now)) (statuses_differ c.visit_status-status.result No c.if-eq.ensures) c.requires.at c.list.new.self (λ s h waits. c.in_ok-list.ensures s h (c.as_ref.ensures.value ∙ waits)) (c.visit.new.self, (c.visit.new.site, c.visit.new.out)) (subst (λ (b : Bool). HasVisited g.T.Teller.teller g.T.Teller.agrees g.T.Teller.behind (c.args.teller.now, (c.args.site.now, c.args.out.now)) (c.visit.new.self, (c.visit.new.site, c.visit.new.out)) c.args.instance.now c.visit_status-status.result b) c.if-branch.false c.in_ok-visit.ensures.visited) c.in_ok-visit.ensures.later (c.call.new.teller, (c.call.new.site, c.call.new.out)) c.call.new.state (g.P.Patterns.shown c.args.pats.now) (g.P.Patterns.shown c.call.new.pats) c.in_ok-called.called c.in_ok-called.ensures (c.tell.new.self, (c.tell.new.site, c.tell.new.out)) c.in_ok-ending.ending c.in_ok-ending.ensures.told c.in_ok-ending.ensures.later c.raise_ending.new.state c.note.new.self)
 
-pub visit-returns-in_err-raise_outcome-clause-path : goal.visit-returns-in_err-raise_outcome-clause-path
-visit-returns-in_err-raise_outcome-clause-path g t c =
-    no_path _ c.from_residual-in_err-raise_outcome.result Memory c.from_residual-in_err-raise_outcome.ensures.1
+pub visit-returns-in_err-raise_ending-clause-path : goal.visit-returns-in_err-raise_ending-clause-path
+visit-returns-in_err-raise_ending-clause-path g t c =
+    no_path _ c.from_residual-in_err-raise_ending.result Memory c.from_residual-in_err-raise_ending.ensures.1
 
 pub visit-returns-clause-ends : goal.visit-returns-clause-ends
 visit-returns-clause-ends g t c =
     let policy = tree_of c.args.scene.now.checked.now in
-    visit_done g.T.Teller.teller g.T.Teller.agrees g.T.Teller.behind g.T.Teller.faults policy c.args.scene.now.depth c.args.guard c.args.instance.now c.args.state.now c.args.activation.now c.done-mark.result c.visit_status-status.result c.done-mark.ensures c.visit_status-status.ensures (c.args.teller.now, (c.args.site.now, c.args.out.now)) (statuses_differ c.visit_status-status.result No c.if-eq.ensures) c.requires.at c.mark.new.self c.in_ok-mark.ensures (c.visit.new.self, (c.visit.new.site, c.visit.new.out)) (subst (λ (b : Bool). HasVisited g.T.Teller.teller g.T.Teller.agrees g.T.Teller.behind (c.args.teller.now, (c.args.site.now, c.args.out.now)) (c.visit.new.self, (c.visit.new.site, c.visit.new.out)) c.args.instance.now c.visit_status-status.result b) c.if-branch.false c.in_ok-visit.ensures.visited) c.in_ok-visit.ensures.later (c.call.new.teller, (c.call.new.site, c.call.new.out)) c.call.new.state (g.P.Patterns.shown c.args.pats.now) (g.P.Patterns.shown c.call.new.pats) c.in_ok-called.called c.in_ok-called.ensures (c.tell.new.self, (c.tell.new.site, c.tell.new.out)) c.in_ok-outcome.outcome c.in_ok-outcome.ensures.told c.in_ok-outcome.ensures.later (g.met.T.Teller.steady (c.tell.new.self, (c.tell.new.site, c.tell.new.out))) c.raise_outcome.new.state c.note.new.self c.note.ensures.same c.note.ensures.keeps c.in_ok-raise_outcome.ensures
+    visit_done g.T.Teller.teller g.T.Teller.agrees g.T.Teller.behind g.T.Teller.faults policy c.args.scene.now.depth c.args.guard c.args.instance.now c.args.state.now c.args.activation.now c.done-mark.result c.visit_status-status.result c.done-mark.ensures c.visit_status-status.ensures (c.args.teller.now, (c.args.site.now, c.args.out.now)) (statuses_differ c.visit_status-status.result No c.if-eq.ensures) c.requires.at c.list.new.self (λ s h waits. c.in_ok-list.ensures s h (c.as_ref.ensures.value ∙ waits)) (c.visit.new.self, (c.visit.new.site, c.visit.new.out)) (subst (λ (b : Bool). HasVisited g.T.Teller.teller g.T.Teller.agrees g.T.Teller.behind (c.args.teller.now, (c.args.site.now, c.args.out.now)) (c.visit.new.self, (c.visit.new.site, c.visit.new.out)) c.args.instance.now c.visit_status-status.result b) c.if-branch.false c.in_ok-visit.ensures.visited) c.in_ok-visit.ensures.later (c.call.new.teller, (c.call.new.site, c.call.new.out)) c.call.new.state (g.P.Patterns.shown c.args.pats.now) (g.P.Patterns.shown c.call.new.pats) c.in_ok-called.called c.in_ok-called.ensures (c.tell.new.self, (c.tell.new.site, c.tell.new.out)) c.in_ok-ending.ending c.in_ok-ending.ensures.told c.in_ok-ending.ensures.later (g.met.T.Teller.steady (c.tell.new.self, (c.tell.new.site, c.tell.new.out))) c.raise_ending.new.state c.note.new.self c.note.ensures.same c.note.ensures.keeps c.in_ok-raise_ending.ensures
 
 pub visit-returns-clause-path : goal.visit-returns-clause-path
 visit-returns-clause-path g t c =
     c.note.ensures.same.path
+
+pub visit-list-requires : goal.visit-list-requires
+visit-list-requires g t c =
+    c.done-mark.ensures
 
 pub visit-tell-requires : goal.visit-tell-requires
 visit-tell-requires g t c =
@@ -468,11 +473,11 @@ activate-returns g t c =
           let params_are : params ≡ params_of block = ap (map plain_named) w.as_slice.ensures in
           let binds : (s : Setting) (h : History) → Stands s c.args.state.now a h → Stands s w.bind.new.state w.bind.new.activation (bind a.path params c.args.given.now h) =
           subst (λ (x : List Datum). (s : Setting) (h : History) → Stands s c.args.state.now a h → Stands s w.bind.new.state w.bind.new.activation (bind a.path params x h)) w.as_slice-in-Some.ensures w.in_ok-bind.ensures.stands in
-          rw (w.state-is, w.teller-is, w.site-is, w.out-is, w.pats-is, w.activation-is)
+          joined g.T.Teller.teller g.T.Teller.agrees g.T.Teller.behind g.T.Teller.faults policy c.args.instance.now c.args.status (c.args.teller.now, (c.args.site.now, c.args.out.now)) c.args.state.now (g.P.Patterns.shown c.args.pats.now) c.args.scene.now.depth g.P.Patterns.shown c.match-bundle.teller w.go_through.new.teller c.match-bundle.site w.go_through.new.site c.match-bundle.out w.go_through.new.out c.match-bundle.state w.go_through.new.state c.match-bundle.pats w.go_through.new.pats c.match-bundle.activation w.go_through.new.activation w.teller-is w.site-is w.out-is w.state-is w.pats-is w.activation-is
           (call_done g.T.Teller.teller g.T.Teller.agrees g.T.Teller.behind g.T.Teller.faults policy c.args.instance.now c.args.status (c.args.teller.now, (c.args.site.now, c.args.out.now)) c.args.state.now (g.P.Patterns.shown c.args.pats.now) c.args.name.now c.args.given.now c.requires.is_call c.requires.names (g.met.T.Teller.steady (c.args.teller.now, (c.args.site.now, c.args.out.now))) c.args.scene.now.depth n deep a of begins block params ps found (found_name policy name block found) params_are numbered w.bind.new.state w.bind.new.activation w.in_ok-bind.ensures.same binds (w.go_through.new.teller, (w.go_through.new.site, w.go_through.new.out)) w.go_through.new.state w.go_through.new.activation (g.P.Patterns.shown w.go_through.new.pats) w.in_ok-go_through.ensures.ends)
       | activate-in_default w ↦
           let missing : bundle_of policy name ≡ None = ap (bundle_of policy) (sym c.as_str.ensures) ∙ sym {a = None} {b = bundle_of policy c.as_str.result.now} w.in_default.ensures in
-          rw (w.state-is, w.teller-is, w.site-is, w.out-is, w.pats-is, w.activation-is)
+          joined g.T.Teller.teller g.T.Teller.agrees g.T.Teller.behind g.T.Teller.faults policy c.args.instance.now c.args.status (c.args.teller.now, (c.args.site.now, c.args.out.now)) c.args.state.now (g.P.Patterns.shown c.args.pats.now) c.args.scene.now.depth g.P.Patterns.shown c.match-bundle.teller c.args.teller.now c.match-bundle.site c.args.site.now c.match-bundle.out c.args.out.now c.match-bundle.state c.args.state.now c.match-bundle.pats c.args.pats.now c.match-bundle.activation a w.teller-is w.site-is w.out-is w.state-is w.pats-is w.activation-is
           (call_missing g.T.Teller.teller g.T.Teller.agrees g.T.Teller.behind g.T.Teller.faults policy c.args.instance.now c.args.status (c.args.teller.now, (c.args.site.now, c.args.out.now)) c.args.state.now (g.P.Patterns.shown c.args.pats.now) c.args.name.now c.args.given.now c.requires.is_call c.requires.names (g.met.T.Teller.steady (c.args.teller.now, (c.args.site.now, c.args.out.now))) c.args.scene.now.depth n deep a of begins missing)
     ]
 
@@ -509,11 +514,11 @@ pass-reach_type-requires g t c κs within =
 
 pub reach-reach_instances-requires : goal.reach-reach_instances-requires
 reach-reach_instances-requires g t c κs within =
-    (search rules, (within.0, (within.1.0, (within.1.1.0, (within.1.1.1, (c.requires.names, (c.requires.id, acting_type c.args.promise.now.promise_type c.in-Files.is)))))))
+    (search rules, (within.0, (within.1.0, (within.1.1.0, (within.1.1.1, (c.requires.names, (c.requires.id, (acting_type c.args.promise.now.promise_type c.in-Files.is, statuses_differ c.guard_status-guard.result No c.if-eq.ensures))))))))
 
 pub reach_instances-visit_each-requires : goal.reach_instances-visit_each-requires
 reach_instances-visit_each-requires g t c κs within =
-    (search rules, (within.0, (within.1.0, (within.1.1.0, (within.1.1.1, (c.requires.names, subst (λ (x : List Instance). All (IsAt c.args.activation.now.path) x) (sym c.as_slice.ensures) c.in_ok-instances.ensures.at))))))
+    (search rules, (within.0, (within.1.0, (within.1.1.0, (within.1.1.1, (c.requires.names, subst (λ (x : List ℕ). All (IsAt x) c.as_slice.result.now) (sym c.in_ok-instances.ensures.path) (subst (λ (x : List Instance). All (IsAt c.args.activation.now.path) x) (sym c.as_slice.ensures) c.in_ok-instances.ensures.at)))))))
 
 pub reach_type-reach-requires : goal.reach_type-reach-requires
 reach_type-reach-requires g t c κs within =
@@ -563,3 +568,19 @@ reach_type-offset_bounds-promises-promise-index g t c =
 pub visit_each-offset_bounds-instances-instance-index : goal.visit_each-offset_bounds-instances-instance-index
 visit_each-offset_bounds-instances-instance-index g t c =
     search rules
+
+pub reach_instances-count_instances-requires-clause-set : goal.reach_instances-count_instances-requires-clause-set
+reach_instances-count_instances-requires-clause-set g t c =
+    c.requires.set
+
+pub reach-reach_vars-requires : goal.reach-reach_vars-requires
+reach-reach_vars-requires g t c =
+    ap is_acting c.in-Vars.is
+
+pub reach-reach_classes-requires-clause-acting : goal.reach-reach_classes-requires-clause-acting
+reach-reach_classes-requires-clause-acting g t c =
+    ap is_acting c.in-Classes.is
+
+pub reach-reach_classes-requires-clause-set : goal.reach-reach_classes-requires-clause-set
+reach-reach_classes-requires-clause-set g t c =
+    statuses_differ c.guard_status-guard.result No c.if-eq.ensures

@@ -1,6 +1,7 @@
 use Rattle.cfa_classes.specs.declared.levels.Status.TheVariants.{No}
 use Rattle.cfa_kinds.specs.declared.kinds.PromiseType.TheVariants.{Vars}
-use Rattle.std.proofs.Common.{◌∙◌, true, [], ◌∷◌}
+use Rattle.std.proofs.Common.{◌∙◌, true, [], ◌∷◌, ap}
+use Rattle.cfa_resolve.specs.Resolution.{is_acting}
 use Rattle.cfa_walk.specs.SeenNumbered.{seen_numbered}
 use Rattle.cfa_walk.specs.Steps.{common_type_level}
 use Rattle.cfa_walk.proofs.LevelLemmas.{quiet_nothing}
@@ -45,3 +46,18 @@ returns-clause-done g c = λ policy depth.
     c.reach_classes.new.state c.reach_classes.new.activation c.reach_classes.result (is_same_type c.args.promise_type p.type same)
     (same ∙ other_is_classes c.args.promise_type c.requires.common (types_differ c.args.promise_type Vars c.if-eq-2.ensures))
     (statuses_differ c.guard_status-guard.result No c.if-eq.ensures) (c.reach_classes.ensures.done policy)
+
+pub reach_vars-requires : goal.reach_vars-requires
+reach_vars-requires g c =
+    let p = seen_numbered c.args.promise.now in
+    let same = types_agree p.type c.args.promise_type (flipped _ c.if-ne.ensures) in
+    ap is_acting (same ∙ types_agree c.args.promise_type Vars c.if-eq-2.ensures)
+
+pub reach_classes-requires-clause-set : goal.reach_classes-requires-clause-set
+reach_classes-requires-clause-set g c = statuses_differ c.guard_status-guard.result No c.if-eq.ensures
+
+pub reach_classes-requires-clause-acting : goal.reach_classes-requires-clause-acting
+reach_classes-requires-clause-acting g c =
+    let p = seen_numbered c.args.promise.now in
+    let same = types_agree p.type c.args.promise_type (flipped _ c.if-ne.ensures) in
+    ap is_acting (same ∙ other_is_classes c.args.promise_type c.requires.common (types_differ c.args.promise_type Vars c.if-eq-2.ensures))

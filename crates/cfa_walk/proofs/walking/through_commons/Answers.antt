@@ -7,7 +7,7 @@ use Rattle.cfa_schema.specs.Served.{common_bundles_of}
 use Rattle.cfa_walk.specs.Bundles.{Walk, QuietWalkDone, IsShared, commons_walk, passes_walk, seen_bundle}
 use Rattle.cfa_walk.specs.Passes.{then_on}
 use Rattle.cfa_walk.proofs.CommonLemmas.{on_stop}
-use Rattle.cfa_walk.proofs.QuietLemmas.{walk_then, walk_stops, commons_thrice}
+use Rattle.cfa_walk.proofs.QuietLemmas.{commons_keep, twice_keeps, walk_then, walk_stops, commons_thrice}
 use Rattle.cfa_walk.proofs.ServedLemmas.{commons_shared}
 use Rattle.cfa_walk.proofs.walking.through_commons.Goals as goal
 
@@ -29,7 +29,7 @@ returns-in_err-through_each-clause-done g c =
     let back = c.from_residual-in_err-through_each in
     on_stop (λ result. QuietWalkDone policy passes_walk st st1 result) back.result stop back.ensures.1
     (commons_thrice policy blocks st st1 (Err stop) is
-    (walk_stops policy (commons_walk blocks) (twice blocks) st st1 stop (c.in_err-through_each.ensures.done policy (commons_shared policy bs is))))
+    (walk_stops policy (commons_walk blocks) (twice blocks) (twice_keeps blocks) st st1 stop (c.in_err-through_each.ensures.done policy (commons_shared policy bs is))))
 
 pub returns-in_err-through_each-2-clause-done : goal.returns-in_err-through_each-2-clause-done
 returns-in_err-through_each-2-clause-done g c =
@@ -46,7 +46,7 @@ returns-in_err-through_each-2-clause-done g c =
     on_stop (λ result. QuietWalkDone policy passes_walk st st2 result) back.result stop back.ensures.1
     (commons_thrice policy blocks st st2 (Err stop) is
     (walk_then policy (commons_walk blocks) (twice blocks) st st1 st2 (Err stop) (c.in_ok-through_each.ensures.done policy shared)
-    (walk_stops policy (commons_walk blocks) (commons_walk blocks) st1 st2 stop (c.in_err-through_each-2.ensures.done policy shared))))
+    (walk_stops policy (commons_walk blocks) (commons_walk blocks) (commons_keep blocks) st1 st2 stop (c.in_err-through_each-2.ensures.done policy shared))))
 
 pub returns-clause-done : goal.returns-clause-done
 returns-clause-done g c =

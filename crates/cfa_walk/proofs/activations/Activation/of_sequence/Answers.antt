@@ -12,4 +12,4 @@ returns-in_ok-made-in-Some-clause-stands c =
     let cleared = c.clear_scope.ensures in
     λ s h keeps.
     stands_begun s c.args.state.now c.clear_scope.new.self c.in_ok-made-in-Some.made h c.args.bundle.now c.in-Some.place
-    (made.is_of.path ∙ c.in_ok-path-in-Some.ensures) made.place made.fresh c.in-Some.ensures.found cleared.environment cleared.left cleared.shared keeps
+    (made.is_of.path ∙ c.in_ok-path-in-Some.ensures) made.place made.fresh c.in-Some.ensures.found cleared.environment cleared.left cleared.calls cleared.log cleared.shared keeps

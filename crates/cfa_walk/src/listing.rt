@@ -1,0 +1,117 @@
+// The walks of a policy: a run in which nothing is done, and what it lists.
+ghost use Rattle.std.specs.Prelude.{◌≡◌, IfOk, IfErr};
+ghost use Rattle.cfa_walk.specs.Listed.{HasWalked, IsRefused, WalkPatterns};
+ghost use Rattle.cfa_walk.specs.Settings.{setting_of};
+ghost use Rattle.cfa_walk.specs.Tellings.{ending_of};
+
+use crate::logs::walk_of;
+use crate::walking::make_run;
+use crate::{Context, Ending, Teller, Walk, WalkErr};
+use cfa_base::Patterns;
+use cfa_classes::Status;
+use cfa_outcomes::Outcome;
+use cfa_output::Stop;
+use cfa_resolve::{Instance, Work};
+use cfa_schema::Checked;
+use std::alloc::Global;
+
+/// How the instances of a walk end. A report is kept.
+#[derive(Clone, Copy, Debug, PartialEq, Eq)]
+pub enum Telling {
+    /// Each is kept.
+    AllKept,
+    /// Each may be kept or repaired.
+    Open,
+}
+
+// How an instance ends, or may end.
+fn ending_of(telling: Telling, work: &Work) -> Ending
+    ensures { result ≡ ending_of telling work.now }
+{
+    match (work, telling) {
+        (Work::Report(_), _) => Ending::One(Outcome::Kept),
+        (_, Telling::AllKept) => Ending::One(Outcome::Kept),
+        (_, Telling::Open) => Ending::KeptOrRepaired,
+    }
+}
+
+impl Teller<(), ()> for Telling {
+    ghost use Rattle.std.specs.Prelude.{◌≡◌, ⊤};
+    ghost use Rattle.cfa_walk.specs.declared.listing.Telling.{Telling as AnyTelling};
+    ghost use Rattle.cfa_walk.specs.Tellings.{told_by};
+
+    ghost given = { AnyTelling };
+
+    ghost teller = { told_by };
+
+    ghost agrees = { λ w telling. w.0 ≡ telling };
+
+    ghost behind = { λ w telling h. ⊤ };
+
+    ghost faults = { λ w. (0, 0) };
+
+    ghost steady = { λ w telling event h quiet b. b };
+
+    fn visit(
+        &mut self,
+        _alloc: Global,
+        _instance: &Instance,
+        _status: Status,
+        _site: &mut (),
+        _out: &mut (),
+    ) -> Result<bool, Stop> {
+        Ok(false)
+    }
+
+    fn tell(
+        &mut self,
+        _alloc: Global,
+        instance: &Instance,
+        _called: Outcome,
+        _site: &mut (),
+        _out: &mut (),
+    ) -> Result<Ending, Stop> {
+        Ok(ending_of(*self, &instance.work))
+    }
+}
+
+/// Walks a policy in a context: goes the way of a run without locks in which each instance ends as is told, touches nothing,
+/// and lists what was visited.
+///
+/// `TooLarge` comes exactly where more visits are needed than `MOST_VISITS`.
+pub fn walk<P: Patterns>(
+    alloc: Global,
+    checked: &Checked,
+    context: &Context,
+    telling: Telling,
+    pats: &mut P,
+) -> Result<Walk, WalkErr>
+    ensures walked { IfOk result (HasWalked (setting_of checked.now context.now) telling) }
+    ensures refused { IfErr result (IsRefused (setting_of checked.now context.now) telling) }
+    ensures patterns { WalkPatterns result (P.shown pats.old) (P.shown pats.new) }
+{
+    let mut teller = telling;
+    match make_run(
+        alloc,
+        checked,
+        context,
+        true,
+        &mut teller,
+        &mut (),
+        &mut (),
+        pats,
+    ) {
+        Ok(state) => {
+            let log = state.log;
+            match log {
+                Some(log) => Ok(walk_of(alloc, log)?),
+                None => Err(WalkErr::NoMemory),
+            }
+        }
+        Err(Stop::Visits) => Err(WalkErr::TooLarge),
+        Err(Stop::Pattern(text)) => Err(WalkErr::PatternTooBig(text)),
+        Err(Stop::Memory) => Err(WalkErr::NoMemory),
+        // No object of the outside was handed in.
+        Err(Stop::Outside(_)) => Err(WalkErr::NoMemory),
+    }
+}
