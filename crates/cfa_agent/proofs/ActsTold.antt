@@ -11,6 +11,7 @@ use Rattle.cfa_resolve.specs.declared.instances.Instance.{Instance}
 use Rattle.cfa_resolve.specs.declared.instances.Work.TheVariants.{Acts}
 use Rattle.cfa_outcomes.specs.declared.outcomes.Outcome.{Outcome}
 use Rattle.cfa_walk.specs.History.{History, Told as told_event}
+use Rattle.cfa_walk.specs.declared.tellers.Ending.TheVariants.{One}
 use Rattle.cfa_walk.specs.Levels.{HasTold, outcomes_of}
 use Rattle.cfa_walk.specs.Tellers.{actuated, acts_of}
 use Rattle.cfa_agent.specs.declared.actuating.Actuation.{Actuation}
@@ -152,7 +153,7 @@ module _ (r : Running) (site site1 site' : Shown Told) (out out' : Shown (List �
         behind_more r ended_run site site' out out' g h instance (outcome_ended a) (more now) (line_ended instance.source a) behind ends entries_so line_so
         ((keeps now behind.told_is).whole (log_in g.start h) behind.whole)
 
-  acts_done : (called : Outcome) → HasTold teller_of Agrees IsBehind (r, (site, out)) (ended_run, (site', out')) instance called (outcome_ended a)
+  acts_done : (called : Outcome) → HasTold teller_of Agrees IsBehind (r, (site, out)) (ended_run, (site', out')) instance called (One (outcome_ended a))
   acts_done called g h agreed = (acts_agree g agreed, λ behind ended. (told_so g h agreed behind, acts_behind g h agreed behind))
 
 -- by the run in between and behind, and by the outcome that was answered
@@ -162,13 +163,13 @@ pub acts_told : (r r1 r' : Running) (site site1 site' : Shown Told) (out out' : 
     r1 ≡ acted_on a r → r1.number ≤ 4294967295 → outcome ≡ outcome_ended a →
     Follows (adds (lock_entries r1.moment r1.locks instance)) site1 site' → r' ≡ tallied outcome r1 →
     Follows (adds_bytes (line_ended instance.source a)) out out' →
-    HasTold teller_of Agrees IsBehind (r, (site, out)) (r', (site', out')) instance called outcome
+    HasTold teller_of Agrees IsBehind (r, (site, out)) (r', (site', out')) instance called (One outcome)
 acts_told r r1 r' site site1 site' out out' instance called outcome acts a is done acted few ended locked counted put =
     let Done1 : Running → Type 0 = λ q. IfSome site.told (λ t. DoesActs (λ done. entries_of r.moment q.number instance done r.has_record) (done_met q.number acts a t.world) site1 a t) in
     let Few : Running → Type 0 = λ q. q.number ≤ 4294967295 in
     let Locked : Running → Type 0 = λ q. Follows (adds (lock_entries q.moment q.locks instance)) site1 site' in
-    let Told' : Running → Type 0 = λ q. HasTold teller_of Agrees IsBehind (r, (site, out)) (q, (site', out')) instance called outcome in
-    let Ended : Outcome → Type 0 = λ outcome. HasTold teller_of Agrees IsBehind (r, (site, out)) (tallied outcome (acted_on a r), (site', out')) instance called outcome in
+    let Told' : Running → Type 0 = λ q. HasTold teller_of Agrees IsBehind (r, (site, out)) (q, (site', out')) instance called (One outcome) in
+    let Ended : Outcome → Type 0 = λ outcome. HasTold teller_of Agrees IsBehind (r, (site, out)) (tallied outcome (acted_on a r), (site', out')) instance called (One outcome) in
     subst Told' (sym (counted ∙ ap (tallied outcome) acted))
     (subst Ended (sym ended)
     (acts_done r site site1 site' out out' instance acts a is (subst Done1 acted done) (subst Few acted few) (subst Locked acted locked) put called))

@@ -1,5 +1,5 @@
 -- What a whole run came to.
-use Rattle.std.proofs.Common.{◌≡◌, ℕ, Bool, List, [], Option, Some, Ok, Err, sym, ap, subst, ◌∙◌}
+use Rattle.std.proofs.Common.{◌≡◌, ℕ, Bool, List, [], Option, Some, Result, Ok, Err, IsErrAnd, sym, ap, subst, ◌∙◌}
 use Rattle.cfa_base.specs.Causes.{Rose}
 use Rattle.cfa_base.specs.Shown.{Shown, Follows}
 use Rattle.cfa_outside.specs.Sites.{Told, adds}
@@ -8,15 +8,17 @@ use Rattle.cfa_output.specs.Puts.{puts_nothing, puts_then}
 use Rattle.cfa_output.specs.declared.ends.Object.TheVariants.{Inputs, Site, Sink}
 use Rattle.cfa_output.specs.declared.ends.Stop.{Stop}
 use Rattle.cfa_output.specs.declared.ends.Stop.TheVariants.{Outside, Memory, Visits, Pattern}
+use Rattle.cfa_walk.specs.Builds.{BuiltOn}
 use Rattle.cfa_walk.specs.Levels.{GoesTo, IsTooLarge, Stops, PatternsAre}
 use Rattle.cfa_walk.specs.Passes.{Course, goes, too_large, run}
 use Rattle.cfa_walk.specs.Views.{Setting}
 use Rattle.cfa_walk.specs.Walked.{HasRun}
 use Rattle.cfa_agent.specs.declared.progress.Running.{Running}
+use Rattle.cfa_agent.specs.declared.running.Tally.{Tally}
 use Rattle.cfa_agent.specs.Actuations.{mark_of}
 use Rattle.cfa_agent.specs.Ending.{StopsPut}
 use Rattle.cfa_agent.specs.Marks.{marks_of}
-use Rattle.cfa_agent.specs.Ran.{started, counts_of, IsWhole, IsCutOff, RunsAs, IfBothTold, StopsRun, Refuses, text_too_big}
+use Rattle.cfa_agent.specs.Ran.{started, counts_of, IsWhole, IsCutOff, RunsAs, IfBothTold, StopsRun, Refuses, RunBuilds, text_too_big}
 use Rattle.cfa_agent.specs.Runs.{Counts, real, run_of, log_of, lines_of, tally_of, history_of, last_line, log_in, tally_in}
 use Rattle.cfa_agent.specs.Standing.{Given, Standing, IsBehind, Agrees, teller_of, IsFirst, since, text_in}
 use Rattle.cfa_agent.specs.WholeLogs.{IsWholeLog}
@@ -107,6 +109,24 @@ run_large setting moment locks first r site site' out out' stop begins is_visits
     large_of setting moment locks before after
     ((ran' g (agrees_with_all moment locks (r, (site', out')) before after out is')).1 (begins_behind moment locks first site before after out begins is))))
 
+-- by a text that was refused for its size
+built_of : (setting : Setting) (text : List ℕ) (moment : ℕ) (locks : Bool) (before after : Told) → BuiltOn setting (run setting (real (started moment locks before after))) text →
+    BuiltOn setting (run_of setting (started moment locks before after)) text
+unfolding run_of
+built_of setting text moment locks before after built = built
+
+pub run_built : (setting : Setting) (moment : ℕ) (locks : Bool) (first r : Running) (site site' : Shown Told) (out out' : Shown (List ℕ)) (stop : Stop) → IsFirst moment locks first →
+    HasRun teller_of Agrees IsBehind setting (first, (site, out)) (r, (site', out')) (Err stop) →
+    RunBuilds setting moment locks site site' (text_too_big (Err stop))
+run_built setting moment locks first r site site' out out' (Outside object) begins ran = tt
+run_built setting moment locks first r site site' out out' Memory begins ran = tt
+run_built setting moment locks first r site site' out out' Visits begins ran = tt
+run_built setting moment locks first r site site' out out' (Pattern text) begins ran =
+    each_some site.told _ (λ before is. each_some site'.told _ (λ after is'.
+    let g : Given = given_by moment locks before after out in
+    built_of setting text moment locks before after
+    ((ran g (agrees_with_all moment locks (r, (site', out')) before after out is')).1 (begins_behind moment locks first site before after out begins is))))
+
 -- in the walk
 pub walk_stops : (site site' : Shown Told) (out out' : Shown (List ℕ)) (stop : Stop) → Stops (site.faults, out.faults) (site'.faults, out'.faults) stop → StopsRun site site' out out' stop
 walk_stops site site' out out' (Outside Inputs) h = h
@@ -131,8 +151,20 @@ total_stops site site' out out1 out' Memory same h = h ∙ same
 total_stops site site' out out1 out' Visits same h = absurd h
 total_stops site site' out out1 out' (Pattern text) same h = absurd h
 
+pub total_builds : (setting : Setting) (moment : ℕ) (locks : Bool) (site site' : Shown Told) (out1 out' : Shown (List ℕ)) (stop : Stop) → StopsPut out1 out' stop →
+    RunBuilds setting moment locks site site' (text_too_big (Err stop))
+total_builds setting moment locks site site' out1 out' (Outside object) h = tt
+total_builds setting moment locks site site' out1 out' Memory h = tt
+total_builds setting moment locks site site' out1 out' Visits h = tt
+total_builds setting moment locks site site' out1 out' (Pattern text) h = absurd h
+
 pub total_refuses : (out1 out' : Shown (List ℕ)) (stop : Stop) (pats pats' : Shown (List (List ℕ))) → StopsPut out1 out' stop → pats' ≡ pats → Refuses (text_too_big (Err stop)) pats pats'
 total_refuses out1 out' (Outside object) pats pats' h same = same
 total_refuses out1 out' Memory pats pats' h same = same
 total_refuses out1 out' Visits pats pats' h same = same
 total_refuses out1 out' (Pattern text) pats pats' h same = absurd h
+
+-- what the exit of a `?` answers
+pub stopped_by : (P : Result Tally Stop → Type 0) (result : Result Tally Stop) (stop : Stop) → IsErrAnd result (λ e. e ≡ stop) → P (Err stop) → P result
+stopped_by P (Ok tally) stop same stopped = absurd same
+stopped_by P (Err e) stop same stopped = subst (λ (x : Stop). P (Err x)) (sym same) stopped

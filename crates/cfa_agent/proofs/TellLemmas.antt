@@ -16,6 +16,7 @@ use Rattle.cfa_vars.specs.declared.scoping.Datum.{Datum}
 use Rattle.cfa_outcomes.specs.declared.outcomes.Outcome.{Outcome}
 use Rattle.cfa_outcomes.specs.declared.outcomes.Outcome.TheVariants.{Kept}
 use Rattle.cfa_walk.specs.History.{History, Told as told_event}
+use Rattle.cfa_walk.specs.declared.tellers.Ending.TheVariants.{One}
 use Rattle.cfa_walk.specs.Levels.{HasVisited, HasTold, Later, outcomes_of, visited_by, EndedAs}
 use Rattle.cfa_walk.specs.Tellers.{worst_in, inner_path}
 use Rattle.cfa_agent.specs.declared.progress.Running.{Running}
@@ -135,7 +136,7 @@ TellsPlainly instance called outcome = (g : Given) (h : History) → EndedAs ins
 plain_told : (r : Running) (site site' : Shown Told) (out out' : Shown (List ℕ)) (instance : Instance) (called outcome : Outcome) (line : List ℕ) →
     IsPlain instance line → TellsPlainly instance called outcome →
     Follows (adds (lock_entries r.moment r.locks instance)) site site' → Follows (adds_bytes line) out out' →
-    HasTold teller_of Agrees IsBehind (r, (site, out)) (tallied outcome r, (site', out')) instance called outcome
+    HasTold teller_of Agrees IsBehind (r, (site, out)) (tallied outcome r, (site', out')) instance called (One outcome)
 plain_told r site site' out out' instance called outcome line plain tells locked put g h agreed = (
   settled_agrees r site site' out out' instance outcome g locked agreed,
   λ behind ended.
@@ -154,9 +155,9 @@ plain_by instance work line is written counted put = record {
 -- a report
 pub report_told : (r r' : Running) (site site' : Shown Told) (out out' : Shown (List ℕ)) (instance : Instance) (called : Outcome) (content : List ℕ) →
     instance.work ≡ Report content → Follows (adds (lock_entries r.moment r.locks instance)) site site' → r' ≡ tallied Kept r → Follows (adds_bytes (report_line content)) out out' →
-    HasTold teller_of Agrees IsBehind (r, (site, out)) (r', (site', out')) instance called Kept
+    HasTold teller_of Agrees IsBehind (r, (site, out)) (r', (site', out')) instance called (One Kept)
 report_told r r' site site' out out' instance called content is locked counted put =
-    let P : Running → Type 0 = λ q. HasTold teller_of Agrees IsBehind (r, (site, out)) (q, (site', out')) instance called Kept in
+    let P : Running → Type 0 = λ q. HasTold teller_of Agrees IsBehind (r, (site, out)) (q, (site', out')) instance called (One Kept) in
     subst P (sym counted) (plain_told r site site' out out' instance called Kept (report_line content)
     (plain_by instance (Report content) (report_line content) is (λ s log number. refl) refl (λ s h. append-nil (report_line content)))
     (λ g h ended. ap (outcomes_of (teller_of g) h instance) is) locked put)
@@ -172,9 +173,9 @@ call_outcome instance called name arguments is g h ended =
 
 pub call_told : (r r' : Running) (site site' : Shown Told) (out : Shown (List ℕ)) (instance : Instance) (called : Outcome) (name : List ℕ) (arguments : List Datum) →
     instance.work ≡ Call name arguments → Follows (adds (lock_entries r.moment r.locks instance)) site site' → r' ≡ tallied called r →
-    HasTold teller_of Agrees IsBehind (r, (site, out)) (r', (site', out)) instance called called
+    HasTold teller_of Agrees IsBehind (r, (site, out)) (r', (site', out)) instance called (One called)
 call_told r r' site site' out instance called name arguments is locked counted =
-    let P : Running → Type 0 = λ q. HasTold teller_of Agrees IsBehind (r, (site, out)) (q, (site', out)) instance called called in
+    let P : Running → Type 0 = λ q. HasTold teller_of Agrees IsBehind (r, (site, out)) (q, (site', out)) instance called (One called) in
     subst P (sym counted) (plain_told r site site' out out instance called called []
     (plain_by instance (Call name arguments) [] is (λ s log number. refl) refl (λ s h. refl))
     (call_outcome instance called name arguments is) locked (puts_nothing out))

@@ -15,6 +15,7 @@ use Rattle.cfa_output.specs.Lines.{repaired_line, failed_line}
 use Rattle.cfa_resolve.specs.declared.instances.Instance.{Instance}
 use Rattle.cfa_outcomes.specs.declared.outcomes.Outcome.{Outcome}
 use Rattle.cfa_outcomes.specs.declared.outcomes.Outcome.TheVariants.{Kept, Repaired, Failed}
+use Rattle.cfa_walk.specs.declared.tellers.Ending.TheVariants.{One}
 use Rattle.cfa_walk.specs.Levels.{Faults, Later, HasTold}
 use Rattle.cfa_agent.specs.declared.actuating.Actuation.{Actuation}
 use Rattle.cfa_agent.specs.declared.progress.Running.{Running}
@@ -122,6 +123,6 @@ StopsTeller before after (Pattern text) = ⊥
 
 -- it was told how an instance ended
 pub record Tells (w w' : Standing) (instance : Instance) (called : Outcome) (result : Result Outcome Stop) : Type 0 where
-  pub told : IfOk result (HasTold teller_of Agrees IsBehind w w' instance called)
+  pub told : IfOk result (λ outcome. HasTold teller_of Agrees IsBehind w w' instance called (One outcome))
   pub later : IfOk result (λ outcome. Later (faults_of w) (faults_of w'))
   pub stopped : IfErr result (StopsTeller (faults_of w) (faults_of w'))

@@ -14,6 +14,7 @@ use Rattle.cfa_outside.specs.Sinks.{adds_bytes}
 use Rattle.cfa_output.specs.declared.ends.Object.TheVariants.{Inputs, Site, Sink}
 use Rattle.cfa_output.specs.declared.ends.Stop.{Stop}
 use Rattle.cfa_output.specs.declared.ends.Stop.TheVariants.{Outside, Memory, Visits, Pattern}
+use Rattle.cfa_walk.specs.Builds.{BuiltOn}
 use Rattle.cfa_walk.specs.Views.{Setting}
 use Rattle.cfa_walk.specs.Passes.{Course, goes, too_large}
 use Rattle.cfa_agent.specs.declared.running.Tally.{Tally}
@@ -79,6 +80,12 @@ StopsRun site site' out out' (Outside Sink) = Rose out.faults out'.faults
 StopsRun site site' out out' Memory = out'.faults ≡ out.faults
 StopsRun site site' out out' Visits = out'.faults ≡ out.faults
 StopsRun site site' out out' (Pattern text) = out'.faults ≡ out.faults
+
+-- the text that stopped the run is one that the run builds, by its definition under the marks of the entries so far
+abbrev pub RunBuilds : Setting → (moment : ℕ) → (has_locks : Bool) → (site site' : Shown Told) → Option (List ℕ) → Type 0
+RunBuilds setting moment has_locks site site' None = ⊤
+RunBuilds setting moment has_locks site site' (Some text) =
+    IfBothTold (λ before after. BuiltOn setting (run_of setting (started moment has_locks before after)) text) site site'
 
 -- the builder of patterns is as it was, unless it refused the text that stopped the run
 abbrev pub Refuses : Option (List ℕ) → (pats pats' : Shown (List (List ℕ))) → Type 0

@@ -47,7 +47,7 @@ actuations_in (Told instance (outcome ∷ others) ∷ h) = one_with_acts instanc
 actuations_in (Begun p arguments ∷ h) = actuations_in h
 actuations_in (Set p name datum ∷ h) = actuations_in h
 actuations_in (Raised place class status source ∷ h) = actuations_in h
-actuations_in (Reached p promise guard sets visits ∷ h) = actuations_in h
+actuations_in (Reached home promise guard sets visits ∷ h) = actuations_in h
 actuations_in (Listed instance status ∷ h) = actuations_in h
 
 -- ---- the log
@@ -85,7 +85,7 @@ module _ (s : Start) where
   log_in (Begun p arguments ∷ h) = log_in h
   log_in (Set p name datum ∷ h) = log_in h
   log_in (Raised place class status source ∷ h) = log_in h
-  log_in (Reached p promise guard sets visits ∷ h) = log_in h
+  log_in (Reached home promise guard sets visits ∷ h) = log_in h
   log_in (Listed instance status ∷ h) = log_in h
 
   -- the world as it stands behind a history
@@ -138,7 +138,7 @@ module _ (s : Start) where
   lines_in (Begun p arguments ∷ h) = lines_in h
   lines_in (Set p name datum ∷ h) = lines_in h
   lines_in (Raised place class status source ∷ h) = lines_in h
-  lines_in (Reached p promise guard sets visits ∷ h) = lines_in h
+  lines_in (Reached home promise guard sets visits ∷ h) = lines_in h
   lines_in (Listed instance status ∷ h) = lines_in h
 
 -- ---- the tally
@@ -165,7 +165,7 @@ tally_in (Told instance outcomes ∷ h) = counted outcomes (tally_in h)
 tally_in (Begun p arguments ∷ h) = tally_in h
 tally_in (Set p name datum ∷ h) = tally_in h
 tally_in (Raised place class status source ∷ h) = tally_in h
-tally_in (Reached p promise guard sets visits ∷ h) = tally_in h
+tally_in (Reached home promise guard sets visits ∷ h) = tally_in h
 tally_in (Listed instance status ∷ h) = tally_in h
 
 -- ---- a run as a whole

@@ -10,6 +10,6 @@ pub stays_behind : (w : Standing) (g : Given) (event : Event) (h : History) →
 stays_behind w g (Begun path arguments) h quiet behind = behind
 stays_behind w g (Set path name datum) h quiet behind = behind
 stays_behind w g (Raised place class status source) h quiet behind = behind
-stays_behind w g (Reached path promise guard sets visits) h quiet behind = behind
+stays_behind w g (Reached home promise guard sets visits) h quiet behind = behind
 stays_behind w g (Listed instance status) h quiet behind = behind
 stays_behind w g (Told instance outcomes) h quiet behind = absurd (false≢true quiet)

@@ -3,7 +3,7 @@ ghost use Rattle.std.specs.Prelude.{◌≡◌, ◌≤◌, IfErr, IfOk, IsErrOf, 
 ghost use Rattle.cfa_walk.specs.Settings.{setting_of};
 ghost use Rattle.cfa_agent.specs.Runs.{run_of};
 ghost use Rattle.cfa_agent.specs.Standing.{IsFirst};
-ghost use Rattle.cfa_agent.specs.Ran.{started, IsCutOff, RunsAs, IfBothTold, text_too_big, StopsRun, Refuses};
+ghost use Rattle.cfa_agent.specs.Ran.{started, IsCutOff, RunsAs, RunBuilds, IfBothTold, text_too_big, StopsRun, Refuses};
 
 use crate::progress::Running;
 use crate::putting::put_total;
@@ -69,7 +69,10 @@ pub fn run<S: Site, O: Sink, P: Patterns>(
         (S.shown site.old) (S.shown site.new) }
     ensures stopped { IfErr result
         (StopsRun (S.shown site.old) (S.shown site.new) (O.shown out.old) (O.shown out.new)) }
+    // A pattern that stops a run is one that it builds.
     ensures patterns { Refuses (text_too_big result) (P.shown pats.old) (P.shown pats.new) }
+    ensures built { RunBuilds (setting_of checked.now context.now) moment locks
+        (S.shown site.old) (S.shown site.new) (text_too_big result) }
 {
     let mut running = begin(moment, locks);
     cfa_walk::run(alloc, checked, context, &mut running, site, out, pats)?;

@@ -18,7 +18,7 @@ use cfa_outcomes::Outcome;
 use cfa_output::Stop;
 use cfa_outside::{Sink, Site};
 use cfa_resolve::{Instance, Work};
-use cfa_walk::Teller;
+use cfa_walk::{Ending, Teller};
 use std::alloc::Global;
 
 // ---- counts
@@ -243,7 +243,10 @@ impl<S: Site, O: Sink> Teller<S, O> for Running {
         called: Outcome,
         site: &mut S,
         out: &mut O,
-    ) -> Result<Outcome, Stop> {
-        tell_instance(alloc, self, instance, called, site, out)
+    ) -> Result<Ending, Stop> {
+        match tell_instance(alloc, self, instance, called, site, out) {
+            Ok(outcome) => Ok(Ending::One(outcome)),
+            Err(stop) => Err(stop),
+        }
     }
 }
