@@ -1,4 +1,6 @@
+pub mod AnalysisLemmas
 pub mod FirstLemmas
+pub mod MeetingLemmas
 pub mod NameLemmas
 pub mod NumberLemmas
 pub mod OrderLemmas

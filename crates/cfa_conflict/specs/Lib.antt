@@ -1,3 +1,4 @@
+pub mod Analyses
 pub mod Conflicts
 pub mod Firsts
 pub mod Names
