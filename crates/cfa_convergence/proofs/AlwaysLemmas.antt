@@ -75,7 +75,7 @@ module _ (R : History → History → Type 0) (same_R : (h : History) → R h h)
       (set_R : (path name : List ℕ) (datum : Datum) (h : History) → At path → R h (Set path name datum ∷ h))
       (raised_R : (place : Where) (class : List ℕ) (status : Status) (source : Option PromiseId) (h : History) → Place place → R h (Raised place class status source ∷ h))
       (global_R : (class : List ℕ) (status : Status) (source : PromiseId) (h : History) → S status → R h (Raised everywhere class status (Some source) ∷ h))
-      (reached_R : (home : Home) (p : Numbered) (guard : Status) (is : Bool) (visits : ℕ) (h : History) → Fine home p → R h (Reached home.path p.id guard is visits ∷ h))
+      (reached_R : (home : Home) (p : Numbered) (guard : Status) (is : Bool) (visits : ℕ) (h : History) → Fine home p → R h (Reached home p guard is visits ∷ h))
       (listed_R : (path : List ℕ) (i : Instance) (status : Status) (h : History) → Fit path i → S status → R h (Listed i status ∷ h))
       (acted_R : (path : List ℕ) (i : Instance) (status : Status) (h : History) → Fit path i → HasActs i.work →
       R (Listed i status ∷ h) (Told i (tells (Listed i status ∷ h) i) ∷ Listed i status ∷ h))

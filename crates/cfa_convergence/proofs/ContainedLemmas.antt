@@ -14,12 +14,14 @@ use Rattle.cfa_tree.specs.Tree.{NamedTree}
 use Rattle.cfa_vars.specs.declared.scoping.Datum.{Datum}
 use Rattle.cfa_vars.specs.Named.{put}
 use Rattle.cfa_walk.specs.History.{History, Where, everywhere, within, Set, Raised, Reached, Listed, Told, scope_in, globally, locally, mark_in}
+use Rattle.cfa_walk.specs.Numbered.{Numbered}
 use Rattle.cfa_walk.specs.Passes.{Course, goes, too_large, then_on, told, classes_for, in_every_list, raised_to, is_among, raise_each, set_each, handed, raise_event, raise_all, bind}
-use Rattle.cfa_walk.specs.Views.{Setting}
+use Rattle.cfa_walk.specs.Views.{Setting, Home}
 use Rattle.cfa_convergence.specs.Conflicts.{HasActs}
 use Rattle.cfa_convergence.specs.Contained.{kept_or_repaired, IsSettled}
-use Rattle.cfa_convergence.specs.Keys.{IsKeyed, KeysTellWorks}
-use Rattle.cfa_convergence.specs.Statuses.{RaisesAlike, Within}
+use Rattle.cfa_laws.specs.Keys.{IsKeyed}
+use Rattle.cfa_convergence.specs.Keys.{KeysTellWorks}
+use Rattle.cfa_laws.specs.Statuses.{RaisesAlike, Within}
 use Rattle.cfa_convergence.proofs.AlwaysLemmas.{Always}
 use Rattle.cfa_convergence.proofs.EffectLemmas.{raised_if, each_global, each_local, each_scope, each_mark, within_kept, within_repaired, within_report}
 use Rattle.cfa_convergence.proofs.OrderLemmas.{Placed, placed_ahead, placed_ended, placed_visited, placed_acted, placed_raised, ahead_same, ahead_raised}
@@ -152,9 +154,9 @@ module _ (Open : List ℕ → Type 0) where
   alone_raise_all place path before ig (w ∷ ws) a b c =
       alone_raise_all place path before ig ws a (raise_event before place path Maybe ig w b) (alone_raised place w.0 w.1.0 (handed before path ig w.1.1 (lesser Maybe w.1.0)) a b c)
 
-  pub both_reached : (p p' : List ℕ) (id id' : PromiseId) (g g' : Status) (is is' : Bool) (n n' : ℕ) (a b : History) → Contained Open a b →
-      Contained Open (Reached p id g is n ∷ a) (Reached p' id' g' is' n' ∷ b)
-  both_reached p p' id id' g g' is is' n n' a b c = record { globals = c.globals; locals = c.locals; scopes = c.scopes; marks = c.marks; placed = c.placed }
+  pub both_reached : (home home' : Home) (p p' : Numbered) (g g' : Status) (is is' : Bool) (n n' : ℕ) (a b : History) → Contained Open a b →
+      Contained Open (Reached home p g is n ∷ a) (Reached home' p' g' is' n' ∷ b)
+  both_reached home home' p p' g g' is is' n n' a b c = record { globals = c.globals; locals = c.locals; scopes = c.scopes; marks = c.marks; placed = c.placed }
 
   -- a call or a report is visited
   pub both_visited : KeysTellWorks → (i : Instance) (r s : Status) (a b : History) → IsKeyed i → (HasActs i.work → ⊥) → Within r s → Contained Open a b → Contained Open (Listed i r ∷ a) (Listed i s ∷ b)

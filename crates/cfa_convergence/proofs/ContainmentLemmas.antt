@@ -18,7 +18,6 @@ use Rattle.cfa_resolve.specs.declared.instances.Work.{Work}
 use Rattle.cfa_resolve.specs.declared.instances.Work.TheVariants.{Acts, Call, Report}
 use Rattle.cfa_resolve.specs.Instances.{Reached as Resolving}
 use Rattle.cfa_resolve.specs.Resolution.{resolution, reached_at, is_acting}
-use Rattle.cfa_schema.specs.Checked.{typed_promise_of}
 use Rattle.cfa_schema.specs.Served.{bundle_of}
 use Rattle.cfa_tree.specs.Tree.{ExprTree, BlockTree, PolicyTree}
 use Rattle.cfa_vars.specs.declared.scoping.Datum.{Datum}
@@ -26,22 +25,24 @@ use Rattle.cfa_vars.specs.Expansion.{Chosen}
 use Rattle.cfa_vars.specs.Scopes.{Table, InScope}
 use Rattle.cfa_walk.specs.History.{History, Where, Set, Reached, Listed, scope_in, mark_in, visits_in}
 use Rattle.cfa_walk.specs.Levels.{HasPlainNames}
-use Rattle.cfa_walk.specs.Numbered.{Numbered, numbered_in, name_of, agent_types, is_type, of_type}
+use Rattle.cfa_walk.specs.Numbered.{Numbered, numbered_in, name_of, agent_types, of_type}
 use Rattle.cfa_walk.specs.Passes.{Course, goes, too_large, told, Calls, tell, worked, visited, visit_status, visit, instances_from, set_each, raise_all, most_visits, within_limit, reached, vars_reached, classes_reached, sets_variable, acting_reached, kept_by, guarded, reach, promises_from, types_from, passes, activation, calls_of}
 use Rattle.cfa_walk.specs.Tellers.{Teller}
 use Rattle.cfa_walk.specs.Views.{Setting, Home, is_listed, shared_names, shared_in, scopes_in, global_status, status_in, guard_status}
 use Rattle.cfa_walk.specs.Walks.{unsettled_edits}
 use Rattle.cfa_convergence.specs.Conflicts.{HasActs}
 use Rattle.cfa_convergence.specs.Contained.{unfailing, IsSettled, EditsAreSettled}
-use Rattle.cfa_convergence.specs.Keys.{KeysTellWorks, IsResolved, InstancesAreKeyed}
+use Rattle.cfa_laws.specs.Keys.{IsResolved, InstancesAreKeyed}
+use Rattle.cfa_convergence.specs.Keys.{KeysTellWorks}
 use Rattle.cfa_convergence.specs.Policies.{IsKnown}
-use Rattle.cfa_convergence.specs.Statuses.{InstancesAreSame, RaisesAlike, RaisesLieTogether, Within, no_no, yes_yes}
+use Rattle.cfa_laws.specs.Statuses.{InstancesAreSame, RaisesAlike, RaisesLieTogether, Within, no_no, yes_yes}
 use Rattle.cfa_convergence.specs.Told.{teller_of}
 use Rattle.cfa_convergence.proofs.AlwaysLemmas.{Always, always_weaker, always_then, told_along, each_made, Kept_along, steps_along}
 use Rattle.cfa_convergence.proofs.ContainedLemmas.{Both, both_large, large_both, both_right, Contained, Settles, If_settled, then_both, if_settled, both_sets, both_raise_all, alone_raise_all, both_reached, both_visited, walk_alone, ended_both, acted_both, reported_both}
 use Rattle.cfa_convergence.proofs.DepthLemmas.{one_if, depth}
 use Rattle.cfa_convergence.proofs.LevelLemmas.{Steps, CallsKeep, instances_level, promises_level, types_level, passes_level, activation_level, calls_level}
 use Rattle.cfa_convergence.proofs.NameLemmas.{same_text}
+use Rattle.cfa_convergence.proofs.PlainLemmas.{known_types}
 use Rattle.cfa_convergence.proofs.QuietLemmas.{either_way, Quiet, quiet_same, quiet_then}
 use Rattle.cfa_convergence.proofs.WithinLemmas.{within_greater, within_visit, value_within, maybe_guard}
 
@@ -266,9 +267,10 @@ module _ (s : Setting) (tells : KeysTellWorks) (keyed : InstancesAreKeyed) (toge
   limited_both false false x y a b p = tt
 
   reached_both : (p : Numbered) (gr gw : Status) (is : Bool) (m n : ℕ) (f g : History → Course) (a b : History) →
-      Both (f (Reached home.path p.id gr is m ∷ a)) (g (Reached home.path p.id gw is n ∷ b)) Fine → Both (reached home p gr is m f a) (reached home p gw is n g b) Fine
+      Both (f (Reached home p gr is m ∷ a)) (g (Reached home p gw is n ∷ b)) Fine → Both (reached home p gr is m f a) (reached home p gw is n g b) Fine
   reached_both p gr gw is m n f g a b q =
-      limited_both (nat_le (m + visits_in a) most_visits) (nat_le (n + visits_in b) most_visits) (f (Reached home.path p.id gr is m ∷ a)) (g (Reached home.path p.id gw is n ∷ b)) a b q
+      limited_both (nat_le (m + visits_in a) most_visits) (nat_le (n + visits_in b) most_visits) (f (Reached home p gr is m ∷ a)) (g (Reached home p gw is n ∷ b))
+      (Reached home p gr is m ∷ a) (Reached home p gw is n ∷ b) q
 
   -- ---- promises
 
@@ -284,8 +286,8 @@ module _ (s : Setting) (tells : KeysTellWorks) (keyed : InstancesAreKeyed) (toge
         (λ k. goes (set_each home.path p.promise.promiser (data_set (scopes_in s a home) p.promise (choices (scopes_in s a home))) k))
         (λ k. goes (set_each home.path p.promise.promiser (data_set (scopes_in s a home) p.promise (choices (scopes_in s a home))) k)) a b
         (λ st. both_sets Open home.path p.promise.promiser (data_set (scopes_in s a home) p.promise (choices (scopes_in s a home)))
-        (Reached home.path p.id Yes true (count_choices (choices (scopes_in s a home))) ∷ a) (Reached home.path p.id Yes true (count_choices (choices (scopes_in s a home))) ∷ b)
-        (both_reached Open home.path home.path p.id p.id Yes Yes true true (count_choices (choices (scopes_in s a home))) (count_choices (choices (scopes_in s a home))) a b c)))
+        (Reached home p Yes true (count_choices (choices (scopes_in s a home))) ∷ a) (Reached home p Yes true (count_choices (choices (scopes_in s a home))) ∷ b)
+        (both_reached Open home home p p Yes Yes true true (count_choices (choices (scopes_in s a home))) (count_choices (choices (scopes_in s a home))) a b c)))
 
     -- one whose guard may hold or not is unsettled
     set_before : (path name : List ℕ) (held : List Datum) (k : History) → IsSettled s (set_each path name held k) → IsSettled s k
@@ -293,10 +295,10 @@ module _ (s : Setting) (tells : KeysTellWorks) (keyed : InstancesAreKeyed) (toge
     set_before path name (datum ∷ more) k st = set_before path name more (Set path name datum ∷ k) st
 
     limited_unsettled : (m : Bool) (x : Course) (n : ℕ) (held : List Datum) →
-        Both x (within_limit m (goes (set_each home.path p.promise.promiser held (Reached home.path p.id Maybe true n ∷ b))) b) Fine
-    limited_unsettled true (goes h) n held = λ st. absurd (set_before home.path p.promise.promiser held (Reached home.path p.id Maybe true n ∷ b) st).0
+        Both x (within_limit m (goes (set_each home.path p.promise.promiser held (Reached home p Maybe true n ∷ b))) (Reached home p Maybe true n ∷ b)) Fine
+    limited_unsettled true (goes h) n held = λ st. absurd (set_before home.path p.promise.promiser held (Reached home p Maybe true n ∷ b) st).0
     limited_unsettled true (too_large h) n held = tt
-    limited_unsettled false x n held = both_large x b Fine
+    limited_unsettled false x n held = both_large x (Reached home p Maybe true n ∷ b) Fine
 
     vars_unsettled : (x : Course) (choices : Option (List Chosen)) → Both x (vars_reached s home p Maybe choices b) Fine
     vars_unsettled x choices =
@@ -319,8 +321,8 @@ module _ (s : Setting) (tells : KeysTellWorks) (keyed : InstancesAreKeyed) (toge
         let m = count_choices (choices (scopes_in s a home)) in
         let n = count_choices (choices (scopes_in s b home)) in
         reached_both p Yes gw false m n (λ k. goes (raise_all a place home.path Yes (first_in a) rs k)) (λ k. goes (raise_all b place home.path gw (first_in b) ws k)) a b
-        (λ st. both_raise_all Open place home.path a b (first_in a) (first_in b) Yes gw v rs ws (raises_both choices) (Reached home.path p.id Yes false m ∷ a) (Reached home.path p.id gw false n ∷ b)
-        (both_reached Open home.path home.path p.id p.id Yes gw false false m n a b c))
+        (λ st. both_raise_all Open place home.path a b (first_in a) (first_in b) Yes gw v rs ws (raises_both choices) (Reached home p Yes false m ∷ a) (Reached home p gw false n ∷ b)
+        (both_reached Open home home p p Yes gw false false m n a b c))
 
     classes_alone : (choices : Option (List Chosen)) (is : Bool) →
         Both (reached home p No is 1 goes a) (classes_reached s place home p Maybe choices b) Fine
@@ -328,13 +330,14 @@ module _ (s : Setting) (tells : KeysTellWorks) (keyed : InstancesAreKeyed) (toge
         let ws = raises_of (status_in s b home.path) (scopes_in s b home) p.promise choices in
         let n = count_choices choices in
         limited_both (nat_le (1 + visits_in a) most_visits) (nat_le (n + visits_in b) most_visits)
-        (goes (Reached home.path p.id No is 1 ∷ a)) (goes (raise_all b place home.path Maybe (first_in b) ws (Reached home.path p.id Maybe false n ∷ b))) a b
-        (λ st. alone_raise_all Open place home.path b (first_in b) ws (Reached home.path p.id No is 1 ∷ a) (Reached home.path p.id Maybe false n ∷ b)
-        (both_reached Open home.path home.path p.id p.id No Maybe is false 1 n a b c))
+        (goes (Reached home p No is 1 ∷ a)) (goes (raise_all b place home.path Maybe (first_in b) ws (Reached home p Maybe false n ∷ b)))
+        (Reached home p No is 1 ∷ a) (Reached home p Maybe false n ∷ b)
+        (λ st. alone_raise_all Open place home.path b (first_in b) ws (Reached home p No is 1 ∷ a) (Reached home p Maybe false n ∷ b)
+        (both_reached Open home home p p No Maybe is false 1 n a b c))
 
     -- ---- instances
 
-    module _ (type : PromiseType) (known : IsKnown s.policy home p) where
+    module _ (type : PromiseType) (known : IsKnown p) where
       abbrev resolving : InScope → (List ℕ → Status) → Resolving
       resolving sc statuses = reached_at s.policy p.id sc statuses home.path (type, p.promise)
 
@@ -342,21 +345,15 @@ module _ (s : Setting) (tells : KeysTellWorks) (keyed : InstancesAreKeyed) (toge
       fitting sc statuses = keyed (resolving sc statuses) known.plain
 
       -- nothing is unsettled in the edit bundle
-      settled_here : p.type ≡ type → is_acting type ≡ true → (gw : Status) → Within Yes gw → EditsAreSettled s b home.path p.id gw → (resolution (resolving (scopes_in s b home) (global_status s b))).unsettled ≡ []
-      settled_here is acting gw v st = at_home known.found (by_guard gw v st)
+      settled_here : p.type ≡ type → is_acting type ≡ true → (gw : Status) → Within Yes gw → EditsAreSettled s b home p gw → (resolution (resolving (scopes_in s b home) (global_status s b))).unsettled ≡ []
+      settled_here is acting gw v st =
+          sym (cond-true (is_acting type) (resolution (resolving (scopes_in s b home) (global_status s b))).unsettled [] acting)
+          ∙ ap (λ t. cond (is_acting t) (resolution (reached_at s.policy p.id (scopes_in s b home) (global_status s b) home.path (t, p.promise))).unsettled []) (sym is) ∙ by_guard gw v st
         where
-          by_guard : (g : Status) → Within Yes g → EditsAreSettled s b home.path p.id g → unsettled_edits s b (record { path = home.path; bundle = p.id.bundle }) p.id (typed_promise_of s.policy p.id) ≡ []
+          by_guard : (g : Status) → Within Yes g → EditsAreSettled s b home p g → unsettled_edits s b home p ≡ []
           by_guard No w e = elim w [ ]
           by_guard Maybe w e = e
           by_guard Yes w e = e
-
-          at_home : typed_promise_of s.policy p.id ≡ Some (p.type, p.promise) → unsettled_edits s b (record { path = home.path; bundle = p.id.bundle }) p.id (typed_promise_of s.policy p.id) ≡ [] →
-              (resolution (resolving (scopes_in s b home) (global_status s b))).unsettled ≡ []
-          at_home found e =
-              let by_type : unsettled_edits s b home p.id (Some (type, p.promise)) ≡ [] =
-              ap (λ t. unsettled_edits s b home p.id (Some (t, p.promise))) (sym is) ∙ ap (λ (n : List ℕ). unsettled_edits s b (record { path = home.path; bundle = n }) p.id (Some (p.type, p.promise))) (sym known.bundle)
-              ∙ ap (unsettled_edits s b (record { path = home.path; bundle = p.id.bundle }) p.id) (sym found) ∙ e in
-              sym (cond-true (is_acting type) (resolution (resolving (scopes_in s b home) (global_status s b))).unsettled [] acting) ∙ by_type
 
       same_instances : (resolution (resolving (scopes_in s b home) (global_status s b))).unsettled ≡ [] →
           (resolution (resolving (scopes_in s a home) (global_status s a))).instances ≡ (resolution (resolving (scopes_in s b home) (global_status s b))).instances
@@ -369,30 +366,30 @@ module _ (s : Setting) (tells : KeysTellWorks) (keyed : InstancesAreKeyed) (toge
       acting_both is acting gw v =
           let ra = resolution (resolving (scopes_in s a home) (global_status s a)) in
           let rb = resolution (resolving (scopes_in s b home) (global_status s b)) in
-          let a1 : History = Reached home.path p.id Yes false ra.visits ∷ a in
-          let b1 : History = Reached home.path p.id gw false rb.visits ∷ b in
+          let a1 : History = Reached home p Yes false ra.visits ∷ a in
+          let b1 : History = Reached home p gw false rb.visits ∷ b in
           reached_both p Yes gw false ra.visits rb.visits (instances_from run_tells activate Yes Yes ra.instances) (instances_from walk_tells other gw act rb.instances) a b
           (if_settled s Open (instances_from run_tells activate Yes Yes ra.instances a1) (instances_from walk_tells other gw act rb.instances b1) b1
           (instances_settle s other later home place act gw rb.instances b1)
           (λ st. subst (λ is. Both (instances_from run_tells activate Yes Yes is a1) (instances_from walk_tells other gw act rb.instances b1) Fine)
           (sym (same_instances (settled_here is acting gw v st.1)))
           (instances_both Yes gw v rb.instances (fitting (scopes_in s b home) (global_status s b)) a1 b1
-          (both_reached Open home.path home.path p.id p.id Yes gw false false ra.visits rb.visits a b c))))
+          (both_reached Open home home p p Yes gw false false ra.visits rb.visits a b c))))
 
       acting_alone : (is : Bool) → Both (reached home p No is 1 goes a) (acting_reached s walk_tells other home act p type Maybe b) Fine
       acting_alone is =
           let rb = resolution (resolving (scopes_in s b home) (global_status s b)) in
-          let a1 : History = Reached home.path p.id No is 1 ∷ a in
-          let b1 : History = Reached home.path p.id Maybe false rb.visits ∷ b in
-          limited_both (nat_le (1 + visits_in a) most_visits) (nat_le (rb.visits + visits_in b) most_visits) (goes a1) (instances_from walk_tells other Maybe act rb.instances b1) a b
+          let a1 : History = Reached home p No is 1 ∷ a in
+          let b1 : History = Reached home p Maybe false rb.visits ∷ b in
+          limited_both (nat_le (1 + visits_in a) most_visits) (nat_le (rb.visits + visits_in b) most_visits) (goes a1) (instances_from walk_tells other Maybe act rb.instances b1) a1 b1
           (both_right a1 (instances_from walk_tells other Maybe act rb.instances b1) Fine
           (always_weaker (instances_from walk_tells other Maybe act rb.instances b1) (Quiet Open b1) (Fine a1)
-          (λ k q st. walk_alone Open a1 b1 k (both_reached Open home.path home.path p.id p.id No Maybe is false 1 rb.visits a b c) q)
+          (λ k q st. walk_alone Open a1 b1 k (both_reached Open home home p p No Maybe is false 1 rb.visits a b c) q)
           (instances_alone rb.instances (fitting (scopes_in s b home) (global_status s b)) b1)))
 
     -- ---- by type
 
-    kept_both : (known : IsKnown s.policy home p) (type : PromiseType) → p.type ≡ type → (gw : Status) → Within Yes gw →
+    kept_both : (known : IsKnown p) (type : PromiseType) → p.type ≡ type → (gw : Status) → Within Yes gw →
         Both (kept_by s run_tells activate place home Yes p type Yes a) (kept_by s walk_tells other place home act p type gw b) Fine
     kept_both known promises.Vars is No v = elim v [ ]
     kept_both known promises.Vars is Maybe v = vars_unsettled (vars_reached s home p Yes (setting_choices (scopes_in s a home) promises.Vars p.promise) a) (setting_choices (scopes_in s b home) promises.Vars p.promise)
@@ -404,7 +401,7 @@ module _ (s : Setting) (tells : KeysTellWorks) (keyed : InstancesAreKeyed) (toge
     kept_both known promises.Reports is gw v = acting_both promises.Reports known is refl gw v
     kept_both known type is gw v = λ st. c
 
-    kept_alone : (known : IsKnown s.policy home p) (type : PromiseType) (sets : Bool) → Both (reached home p No sets 1 goes a) (kept_by s walk_tells other place home act p type Maybe b) Fine
+    kept_alone : (known : IsKnown p) (type : PromiseType) (sets : Bool) → Both (reached home p No sets 1 goes a) (kept_by s walk_tells other place home act p type Maybe b) Fine
     kept_alone known promises.Vars sets = vars_unsettled (reached home p No sets 1 goes a) (setting_choices (scopes_in s b home) promises.Vars p.promise)
     kept_alone known promises.Classes sets = classes_alone (setting_choices (scopes_in s b home) promises.Classes p.promise) sets
     kept_alone known promises.Files sets = acting_alone promises.Files known sets
@@ -412,14 +409,14 @@ module _ (s : Setting) (tells : KeysTellWorks) (keyed : InstancesAreKeyed) (toge
     kept_alone known promises.Services sets = acting_alone promises.Services known sets
     kept_alone known promises.Reports sets = acting_alone promises.Reports known sets
     kept_alone known type sets =
-        limited_both (nat_le (1 + visits_in a) most_visits) true (goes (Reached home.path p.id No sets 1 ∷ a)) (goes b) a b
+        limited_both (nat_le (1 + visits_in a) most_visits) true (goes (Reached home p No sets 1 ∷ a)) (goes b) (Reached home p No sets 1 ∷ a) b
         (λ st. record { globals = c.globals; locals = c.locals; scopes = c.scopes; marks = c.marks; placed = c.placed })
 
-    guarded_both : IsKnown s.policy home p → (gr gw : Status) → Within gr gw →
+    guarded_both : IsKnown p → (gr gw : Status) → Within gr gw →
         Both (guarded s run_tells activate place home Yes p gr a) (guarded s walk_tells other place home act p gw b) Fine
     guarded_both known No No v =
         reached_both p No No (sets_variable p.type) 1 1 goes goes a b
-        (λ st. both_reached Open home.path home.path p.id p.id No No (sets_variable p.type) (sets_variable p.type) 1 1 a b c)
+        (λ st. both_reached Open home home p p No No (sets_variable p.type) (sets_variable p.type) 1 1 a b c)
     guarded_both known No Maybe v = kept_alone known p.type (sets_variable p.type)
     guarded_both known Yes Maybe v = kept_both known p.type refl Maybe v
     guarded_both known Yes Yes v = kept_both known p.type refl Yes v
@@ -427,20 +424,20 @@ module _ (s : Setting) (tells : KeysTellWorks) (keyed : InstancesAreKeyed) (toge
     guarded_both known Yes No v = elim v [ ]
     guarded_both known Maybe gw v = elim v [ ]
 
-  reach_both : (p : Numbered) → IsKnown s.policy home p → (a b : History) → Contained Open a b →
+  reach_both : (p : Numbered) → IsKnown p → (a b : History) → Contained Open a b →
       Both (reach s run_tells activate place home Yes p a) (reach s walk_tells other place home act p b) Fine
   unfolding reach
   reach_both p known a b c =
       guarded_both a b c p known (guard_status s a home.path p.promise.guard) (guard_status s b home.path p.promise.guard) (read_within s shared Open shallow a b c home own p.promise.guard)
 
-  promises_both : (ps : List Numbered) → Each (IsKnown s.policy home) ps → (a b : History) → Contained Open a b →
+  promises_both : (ps : List Numbered) → Each IsKnown ps → (a b : History) → Contained Open a b →
       Both (promises_from s run_tells activate place home Yes ps a) (promises_from s walk_tells other place home act ps b) Fine
   promises_both [] known a b c = λ st. c
   promises_both (p ∷ ps) known a b c =
       then_both s Open (reach s run_tells activate place home Yes p a) (reach s walk_tells other place home act p b) (promises_from s run_tells activate place home Yes ps) (promises_from s walk_tells other place home act ps)
       (reach_both p known.0 a b c) (λ k. promises_settle s other later home place act ps k) (λ h k d. promises_both ps known.1 h k d)
 
-  pub types_both : (ps : List Numbered) (types : List PromiseType) → Each (λ (type : PromiseType). Each (IsKnown s.policy home) (of_type type ps)) types → (a b : History) → Contained Open a b →
+  pub types_both : (ps : List Numbered) (types : List PromiseType) → Each (λ (type : PromiseType). Each IsKnown (of_type type ps)) types → (a b : History) → Contained Open a b →
       Both (types_from s run_tells activate place home Yes ps types a) (types_from s walk_tells other place home act ps types b) Fine
   types_both ps [] known a b c = λ st. c
   types_both ps (type ∷ types) known a b c =
@@ -448,19 +445,7 @@ module _ (s : Setting) (tells : KeysTellWorks) (keyed : InstancesAreKeyed) (toge
       (types_from s run_tells activate place home Yes ps types) (types_from s walk_tells other place home act ps types)
       (promises_both (of_type type ps) known.0 a b c) (λ k. types_settle s other later home place act ps types k) (λ h k d. types_both ps types known.1 h k d)
 
-  known_type : (ps : List Numbered) → Each (IsKnown s.policy home) ps → (type : PromiseType) → Each (IsKnown s.policy home) (of_type type ps)
-  known_type [] known type = tt
-  known_type (p ∷ ps) known type = go (is_type type p.type) (known_type ps known.1 type)
-    where
-      go : (b : Bool) → Each (IsKnown s.policy home) (of_type type ps) → Each (IsKnown s.policy home) (cond b (p ∷ of_type type ps) (of_type type ps))
-      go true rest = (known.0, rest)
-      go false rest = rest
-
-  known_types : (ps : List Numbered) → Each (IsKnown s.policy home) ps → (types : List PromiseType) → Each (λ (type : PromiseType). Each (IsKnown s.policy home) (of_type type ps)) types
-  known_types ps known [] = tt
-  known_types ps known (type ∷ types) = (known_type ps known type, known_types ps known types)
-
-  pub passes_both : (ps : List Numbered) → Each (IsKnown s.policy home) ps → (n : ℕ) (a b : History) → Contained Open a b →
+  pub passes_both : (ps : List Numbered) → Each IsKnown ps → (n : ℕ) (a b : History) → Contained Open a b →
       Both (passes s run_tells activate place home Yes ps n a) (passes s walk_tells other place home act ps n b) Fine
   unfolding passes
   passes_both ps known zero a b c = λ st. c

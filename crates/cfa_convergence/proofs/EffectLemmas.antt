@@ -9,7 +9,7 @@ use Rattle.cfa_outcomes.specs.declared.outcomes.Outcome.{Outcome}
 use Rattle.cfa_resolve.specs.declared.instances.Instance.{Instance}
 use Rattle.cfa_walk.specs.History.{History, everywhere, Raised, scope_in, globally, locally, mark_in}
 use Rattle.cfa_walk.specs.Passes.{raise_each, raised_to, in_every_list, is_among}
-use Rattle.cfa_convergence.specs.Statuses.{Within, no_maybe, no_no, yes_maybe, yes_yes}
+use Rattle.cfa_laws.specs.Statuses.{Within, no_maybe, no_no, yes_maybe, yes_yes}
 use Rattle.cfa_convergence.proofs.NameLemmas.{is_text}
 use Rattle.cfa_convergence.proofs.WithinLemmas.{within_greater}
 

@@ -6,7 +6,7 @@ use Rattle.cfa_classes.specs.declared.levels.Status.{Status}
 use Rattle.cfa_classes.specs.declared.levels.Status.TheVariants.{No, Maybe, Yes}
 use Rattle.cfa_classes.specs.Status.{swapped, lesser, greater, value_of, least_of, greatest_of}
 use Rattle.cfa_defines.specs.FirstMaybe.{if_maybe, first_maybe, first_maybe_among, first_maybe_of_guard}
-use Rattle.cfa_convergence.specs.Sources.{IsFirst}
+use Rattle.cfa_laws.specs.Sources.{IsFirst}
 
 pub first_or : (status : List ℕ → Status) (a b : Option (List ℕ)) → ((c : List ℕ) → a ≡ Some c → status c ≡ Maybe) → IsFirst status b → IsFirst status (option_or a b)
 first_or status None b given first = first

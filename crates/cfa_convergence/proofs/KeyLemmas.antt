@@ -23,7 +23,8 @@ use Rattle.cfa_acts.specs.Reasons.{code_of}
 use Rattle.cfa_resolve.specs.declared.instances.Work.{Work}
 use Rattle.cfa_resolve.specs.declared.instances.Work.TheVariants.{Acts, Call, Report}
 use Rattle.cfa_resolve.specs.KeyTexts.{fields_after, octal_digit, mode_text, mode_field, names_field, yes_or_no, act_text, work_text, classes_text, key_text}
-use Rattle.cfa_convergence.specs.Keys.{IsMode, IsGiven, AreGiven, IsPlainId, AreAlike, KeysTellWorks}
+use Rattle.cfa_laws.specs.Keys.{IsMode, IsGiven, AreGiven, IsPlainId}
+use Rattle.cfa_convergence.specs.Keys.{AreAlike, KeysTellWorks}
 use Rattle.cfa_convergence.proofs.PartLemmas.{Lacks, clash, cut, joined_tells, lacks_joined, lacks_led, IsSeparator, lacks_word, lacks_escaped, all_escaped, lacks_decimal, all_tell, semicolon, space, comma, asterisk}
 
 -- ---- fields

@@ -7,7 +7,8 @@ use Rattle.cfa_outside.specs.Worlds.{HasParents}
 use Rattle.cfa_resolve.specs.declared.instances.Instance.{Instance}
 use Rattle.cfa_walk.specs.History.{History}
 use Rattle.cfa_walk.specs.Tellers.{actuated, acts_of}
-use Rattle.cfa_convergence.specs.Keys.{IsKeyed, KeysTellWorks}
+use Rattle.cfa_laws.specs.Keys.{IsKeyed}
+use Rattle.cfa_convergence.specs.Keys.{KeysTellWorks}
 use Rattle.cfa_convergence.specs.Conflicts.{IsLive, is_same, IsAfter, AreFree}
 use Rattle.cfa_convergence.specs.Lasting.{PostsHold, Trace, by_agent, Becomes, unchanged, actuates, IsAmong, Follow, PostsLast}
 use Rattle.cfa_convergence.proofs.NameLemmas.{one_acts, given_acts}

@@ -62,7 +62,7 @@ pub record Steps
   pub raises : (place : Where) (class : List ℕ) (status : Status) (source : Option PromiseId) (h : History) → Place place →
       Q h (goes (Raised place class status source ∷ h)) (goes (Raised place class status source ∷ h))
   pub reaches : (home : Home) (p : Numbered) (guard : Status) (is : Bool) (visits : ℕ) (h : History) → Fine home p →
-      Q h (goes (Reached home.path p.id guard is visits ∷ h)) (goes (Reached home.path p.id guard is visits ∷ h))
+      Q h (goes (Reached home p guard is visits ∷ h)) (goes (Reached home p guard is visits ∷ h))
   -- an instance with acts is visited and told, and so is a report; a call is visited, and told when its bundle has ended
   pub acts : (path : List ℕ) (i : Instance) (status : Status) (h : History) → Fit path i → HasActs i.work → S status →
       Q h (goes (told i (tells (Listed i status ∷ h) i) status (Listed i status ∷ h))) (goes (told i (others (Listed i status ∷ h) i) status (Listed i status ∷ h)))
@@ -87,16 +87,17 @@ module _ (s : Setting) (tells others : Telling) (Q : History → Course → Cour
   each_level P does other keeps (x ∷ xs) all h =
       k.next h (does x h) (other x h) (each does xs) (each other xs) (keeps x h all.0) (λ m. each_level P does other keeps xs all.1 m)
 
-  limit_level : (b : Bool) (c d : Course) (h : History) → Q h c d → Q h (within_limit b c h) (within_limit b d h)
-  limit_level true c d h q = q
-  limit_level false c d h q = k.past h
+  limit_level : (b : Bool) (c d : Course) (h m : History) → Q h c d → Q h (too_large m) (too_large m) → Q h (within_limit b c m) (within_limit b d m)
+  limit_level true c d h m q past = q
+  limit_level false c d h m q past = past
 
   reached_level : (home : Home) (p : Numbered) → Fine home p → (guard : Status) (is : Bool) (visits : ℕ) (f g : History → Course) →
       ((m : History) → Q m (f m) (g m)) → (h : History) → Q h (reached home p guard is visits f h) (reached home p guard is visits g h)
   reached_level home p fine guard is visits f g keeps h =
-      let m : History = Reached home.path p.id guard is visits ∷ h in
-      limit_level (nat_le (visits + visits_in h) most_visits) (f m) (g m) h
+      let m : History = Reached home p guard is visits ∷ h in
+      limit_level (nat_le (visits + visits_in h) most_visits) (f m) (g m) h m
       (k.next h (goes m) (goes m) f g (k.reaches home p guard is visits h fine) keeps)
+      (k.next h (goes m) (goes m) too_large too_large (k.reaches home p guard is visits h fine) k.past)
 
   sets_level : (path name : List ℕ) → At path → (held : List Datum) (h : History) → Q h (goes (set_each path name held h)) (goes (set_each path name held h))
   sets_level path name at [] h = k.stays h

@@ -1,4 +1,5 @@
 pub mod PartLemmas
+pub mod PlainLemmas
 pub mod KeyLemmas
 pub mod LevelLemmas
 pub mod AlwaysLemmas
@@ -26,3 +27,5 @@ pub mod SettledLemmas
 pub mod PlaceLemmas
 pub mod VisitLemmas
 pub mod VerdictLemmas
+pub mod PolicyLemmas
+pub mod RunningLemmas

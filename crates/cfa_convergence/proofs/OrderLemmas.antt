@@ -9,7 +9,8 @@ use Rattle.cfa_resolve.specs.declared.instances.Work.{Work}
 use Rattle.cfa_resolve.specs.declared.instances.Work.TheVariants.{Acts, Call, Report}
 use Rattle.cfa_walk.specs.History.{History, everywhere, Raised, Listed, Told, mark_in}
 use Rattle.cfa_walk.specs.Passes.{raise_each, raised_to, in_every_list}
-use Rattle.cfa_convergence.specs.Keys.{IsKeyed, KeysTellWorks}
+use Rattle.cfa_laws.specs.Keys.{IsKeyed}
+use Rattle.cfa_convergence.specs.Keys.{KeysTellWorks}
 use Rattle.cfa_convergence.specs.Conflicts.{HasActs, was_visited, is_same, IsAfter}
 use Rattle.cfa_convergence.specs.Contained.{with_acts, actuations}
 use Rattle.cfa_convergence.specs.Lasting.{IsAmong, Follow}

@@ -1,15 +1,11 @@
--- The places of elements in lists.
-use Rattle.std.proofs.Common.{◌≡◌, ℕ, suc, ◌+◌, ◌<◌, Bool, true, false, not, List, [], ◌∷◌, ◌++◌, length, Some, None, nat_lt, refl, ap, sym, arith, cond}
+-- The places of elements in lists, and lists that are empty.
+use Rattle.std.proofs.Common.{◌≡◌, ℕ, suc, ◌+◌, ◌<◌, Bool, true, false, not, List, [], ◌∷◌, ◌++◌, length, Some, None, nat_lt, refl, ap, arith, cond}
 use Rattle.std.proofs.lemmas.Bool.Decides.{nat_tests}
 use Rattle.std.specs.Prelude.{◌||◌, ◌==◌, unwrap_or}
 use Rattle.std.specs.List.{list_any, position, position_or_len}
-use Rattle.std.proofs.lemmas.Bool.{false≢true}
 
 pub lt_true : (m n : ℕ) → m < n → nat_lt m n ≡ true
 lt_true m n less = grind (arith, nat_tests)
-
-pub lt_apart : (m n : ℕ) → m < n → (m == n) ≡ false
-lt_apart m n less = grind (arith, nat_tests)
 
 pub tie : (m n : ℕ) → (m == n) ≡ true → m ≡ n
 tie m n e = grind (arith, nat_tests)
@@ -24,15 +20,6 @@ found_before p (x ∷ xs) e = go (p x) (found_before p xs) e
 
 pub position_found : {X : Type 0} (p : X → Bool) (xs : List X) → list_any p xs ≡ true → unwrap_or (position p xs) 0 ≡ position_or_len p xs
 position_found p xs e = ap (λ b. unwrap_or (cond b (Some (position_or_len p xs)) None) 0) (lt_true (position_or_len p xs) (length xs) (found_before p xs e))
-
-pub found_first : {X : Type 0} (p : X → Bool) (xs ys : List X) → list_any p xs ≡ true → position_or_len p (xs ++ ys) ≡ position_or_len p xs
-found_first p [] ys e = absurd (cc)
-found_first p (x ∷ xs) ys e = go (p x) (found_first p xs ys) e
-  where
-    go : (b : Bool) → (list_any p xs ≡ true → position_or_len p (xs ++ ys) ≡ position_or_len p xs) → (b || list_any p xs) ≡ true →
-        cond (not b) (1 + position_or_len p (xs ++ ys)) 0 ≡ cond (not b) (1 + position_or_len p xs) 0
-    go true before f = refl
-    go false before f = ap (λ n. 1 + n) (before f)
 
 pub any_last : {X : Type 0} (p : X → Bool) (xs : List X) (y : X) → p y ≡ true → list_any p (xs ++ y ∷ []) ≡ true
 any_last p [] y e = ap (λ b. b || false) e
@@ -54,14 +41,6 @@ any_left p (x ∷ xs) ys e = go (p x) (any_left p xs ys) e
     go true before f = refl
     go false before f = before f
 
-pub last_place : {X : Type 0} (p : X → Bool) (xs : List X) (y : X) → list_any p xs ≡ false → p y ≡ true → position_or_len p (xs ++ y ∷ []) ≡ length xs
-last_place p [] y none e = ap (λ b. cond (not b) 1 0) e
-last_place p (x ∷ xs) y none e = go (p x) (λ f. last_place p xs y f e) none
-  where
-    go : (b : Bool) → (list_any p xs ≡ false → position_or_len p (xs ++ y ∷ []) ≡ length xs) → (b || list_any p xs) ≡ false → cond (not b) (1 + position_or_len p (xs ++ y ∷ [])) 0 ≡ suc (length xs)
-    go true before f = absurd (false≢true (sym f))
-    go false before f = let same : position_or_len p (xs ++ y ∷ []) ≡ length xs = before f in omega arith
-
 -- one place is that of one element
 pub one_place : {X : Type 0} (p q : X → Bool) (xs : List X) → list_any p xs ≡ true → list_any q xs ≡ true → position_or_len p xs ≡ position_or_len q xs → (x : X) × (p x ≡ true) × (q x ≡ true)
 one_place {X = X} p q [] e f same = absurd (cc)
@@ -73,3 +52,12 @@ one_place {X = X} p q (x ∷ xs) e f same = go (p x) refl (q x) refl (one_place 
     go true is false it more e' f' g = absurd (omega (arith, g))
     go false is true it more e' f' g = absurd (omega (arith, g))
     go false is false it more e' f' g = more e' f' (omega (arith, g))
+
+-- parts of an empty list
+pub none_left : {X : Type 0} (xs ys : List X) → xs ++ ys ≡ [] → xs ≡ []
+none_left [] ys e = refl
+none_left (x ∷ xs) ys e = absurd (cc)
+
+pub none_right : {X : Type 0} (xs ys : List X) → xs ++ ys ≡ [] → ys ≡ []
+none_right [] ys e = e
+none_right (x ∷ xs) ys e = absurd (cc)

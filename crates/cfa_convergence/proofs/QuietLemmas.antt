@@ -16,7 +16,7 @@ use Rattle.cfa_walk.specs.History.{History, Where, everywhere, within, Begun, Se
 use Rattle.cfa_walk.specs.Numbered.{Numbered}
 use Rattle.cfa_walk.specs.Tellers.{inner_path}
 use Rattle.cfa_walk.specs.Views.{Setting, Home, scopes_in, global_status}
-use Rattle.cfa_convergence.specs.Keys.{IsPlainId, IsResolved, InstancesAreKeyed}
+use Rattle.cfa_laws.specs.Keys.{IsPlainId, IsResolved, InstancesAreKeyed}
 use Rattle.cfa_convergence.specs.Told.{Telling}
 use Rattle.cfa_convergence.proofs.AlwaysLemmas.{Kept_along, steps_along}
 use Rattle.cfa_convergence.proofs.DepthLemmas.{depth, depth_inner, deeper_apart}
@@ -56,8 +56,8 @@ module _ (Open : List ℕ → Type 0) where
   quiet_told : (i : Instance) (os : List Outcome) (h : History) → Quiet h (Told i os ∷ h)
   quiet_told i os h = record { globals = λ c. stays; locals = λ p o c. refl; scopes = λ p o. refl; marks = λ p x. stays; order = ahead_same h }
 
-  quiet_reached : (path : List ℕ) (id : PromiseId) (guard : Status) (is : Bool) (visits : ℕ) (h : History) → Quiet h (Reached path id guard is visits ∷ h)
-  quiet_reached path id guard is visits h =
+  quiet_reached : (home : Home) (p : Numbered) (guard : Status) (is : Bool) (visits : ℕ) (h : History) → Quiet h (Reached home p guard is visits ∷ h)
+  quiet_reached home p guard is visits h =
       record { globals = λ c. stays; locals = λ p o c. refl; scopes = λ p o. refl; marks = λ p x. stays; order = ahead_same h }
 
   quiet_global : (class : List ℕ) (status : Status) (source : PromiseId) (h : History) → status ≡ Maybe → Quiet h (Raised everywhere class status (Some source) ∷ h)
@@ -133,5 +133,5 @@ module _ (Open : List ℕ → Type 0) where
           steps_along Quiet quiet_same quiet_then s either_way IsDeep IsDeepPlace (λ status. status ≡ Maybe) IsResolved Fine
           (λ path deep. deep) inner_deep maybe_visit
           (λ home p type h fine. keyed (reached_at s.policy p.id (scopes_in s h home) (global_status s h) home.path (type, p.promise)) (plain home p fine))
-          refl quiet_begun quiet_set quiet_raised quiet_global (λ home p guard is visits h fine. quiet_reached home.path p.id guard is visits h) (λ path i status h fit is. quiet_listed i status h is)
+          refl quiet_begun quiet_set quiet_raised quiet_global (λ home p guard is visits h fine. quiet_reached home p guard is visits h) (λ path i status h fit is. quiet_listed i status h is)
           (λ path i status h fit has. quiet_told i (Kept ∷ Repaired ∷ []) (Listed i status ∷ h)) (λ path i h fit is. quiet_told i (Kept ∷ []) h) (λ path i h fit is. quiet_told i (Kept ∷ Repaired ∷ []) h)

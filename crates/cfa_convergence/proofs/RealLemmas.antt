@@ -117,7 +117,7 @@ Unfailed (Told i (o ∷ os) ∷ h) = NoneFailed o × Unfailed h
 Unfailed (Begun path arguments ∷ h) = Unfailed h
 Unfailed (Set path name datum ∷ h) = Unfailed h
 Unfailed (Raised place class status source ∷ h) = Unfailed h
-Unfailed (Reached path promise guard sets visits ∷ h) = Unfailed h
+Unfailed (Reached home promise guard sets visits ∷ h) = Unfailed h
 Unfailed (Listed i status ∷ h) = Unfailed h
 
 pub tally_unfailed : (h : History) → (tally_in h).failed ≡ 0 → Unfailed h
@@ -129,7 +129,7 @@ tally_unfailed (Told i (Failed ∷ os) ∷ h) e = absurd (omega (arith, e))
 tally_unfailed (Begun path arguments ∷ h) e = tally_unfailed h e
 tally_unfailed (Set path name datum ∷ h) e = tally_unfailed h e
 tally_unfailed (Raised place class status source ∷ h) e = tally_unfailed h e
-tally_unfailed (Reached path promise guard sets visits ∷ h) e = tally_unfailed h e
+tally_unfailed (Reached home promise guard sets visits ∷ h) e = tally_unfailed h e
 tally_unfailed (Listed i status ∷ h) e = tally_unfailed h e
 
 -- who tells a run that skips none
@@ -169,7 +169,7 @@ module _ (start : Start) where
   tells_alike (Begun path arguments ∷ h) told fine = tells_alike h told fine
   tells_alike (Set path name datum ∷ h) told fine = tells_alike h told fine
   tells_alike (Raised place class status source ∷ h) told fine = tells_alike h told fine
-  tells_alike (Reached path promise guard sets visits ∷ h) told fine = tells_alike h told fine
+  tells_alike (Reached home promise guard sets visits ∷ h) told fine = tells_alike h told fine
   tells_alike (Listed i status ∷ h) told fine = tells_alike h told fine
 
 abbrev pub first_agent : List Instance → Trace
@@ -221,5 +221,5 @@ module _ (start : Start) where
   run_becomes (Begun path arguments ∷ h) told fine = run_becomes h told fine
   run_becomes (Set path name datum ∷ h) told fine = run_becomes h told fine
   run_becomes (Raised place class status source ∷ h) told fine = run_becomes h told fine
-  run_becomes (Reached path promise guard sets visits ∷ h) told fine = run_becomes h told fine
+  run_becomes (Reached home promise guard sets visits ∷ h) told fine = run_becomes h told fine
   run_becomes (Listed i status ∷ h) told fine = run_becomes h told fine

@@ -15,7 +15,7 @@ use Rattle.cfa_agent.specs.Runs.{Start, actuations_in, has_record, work_entries,
 use Rattle.cfa_convergence.specs.Conflicts.{HasActs, was_visited, is_same}
 use Rattle.cfa_convergence.specs.Lasting.{PostsHold}
 use Rattle.cfa_convergence.specs.Told.{Telling, TellAlike, outcomes_by, IsToldBy}
-use Rattle.cfa_convergence.specs.Keys.{IsKeyed}
+use Rattle.cfa_laws.specs.Keys.{IsKeyed}
 use Rattle.cfa_convergence.proofs.ActuationLemmas.{ActLaws, kept_acts}
 use Rattle.cfa_convergence.proofs.KnownLemmas.{AreKnown}
 use Rattle.cfa_convergence.proofs.RealLemmas.{real_tells}
@@ -47,7 +47,7 @@ worst_kept (Begun p given ∷ h) told path = go (bytes_eq p path) (worst_kept h 
     go false before = before
 worst_kept (Set p name datum ∷ h) told path = worst_kept h told path
 worst_kept (Raised place class status source ∷ h) told path = worst_kept h told path
-worst_kept (Reached p id guard sets visits ∷ h) told path = worst_kept h told path
+worst_kept (Reached home promise guard sets visits ∷ h) told path = worst_kept h told path
 worst_kept (Listed i status ∷ h) told path = worst_kept h told path
 
 visited_later : (b : Bool) {c : Bool} → c ≡ true → ◌≡◌ {A = Bool} (elim b [ true ↦ true | false ↦ c ]) true
@@ -93,8 +93,8 @@ module _ (laws : ActLaws) (world : World) (moment : ℕ) (kept : History)
         (ap (λ x. x ∷ []) (sym (ends_kept h i i.work refl rest.1 told.1 p)), rest.0),
         ap (λ es. log_in again h ++ (es ++ [])) (writes_nothing h i i.work rest.1 p) ∙ append-nil (log_in again h) ∙ rest.1,
       )
-  rerun_alike (Listed i status ∷ h) up told known = rerun_alike h (λ j e. up j (visited_later (is_same j i) e)) told known.1
+  rerun_alike (Listed i status ∷ h) up told known = rerun_alike h (λ j e. up j (visited_later (is_same j i) e)) told known.2
   rerun_alike (Begun path given ∷ h) up told known = rerun_alike h up told known
   rerun_alike (Set path name datum ∷ h) up told known = rerun_alike h up told known
   rerun_alike (Raised place class status source ∷ h) up told known = rerun_alike h up told known
-  rerun_alike (Reached path id guard sets visits ∷ h) up told known = rerun_alike h up told known
+  rerun_alike (Reached home promise guard sets visits ∷ h) up told known = rerun_alike h up told known

@@ -22,9 +22,10 @@ use Rattle.cfa_walk.specs.Passes.{goes, bind, passes, activation, called_by, cal
 use Rattle.cfa_walk.specs.Tellers.{Teller, inner_path}
 use Rattle.cfa_walk.specs.Views.{Setting, Home}
 use Rattle.cfa_convergence.specs.Contained.{unfailing, IsSettled, LiesWithin, UnfailingRunsAreContained}
-use Rattle.cfa_convergence.specs.Keys.{KeysTellWorks, IsResolved, InstancesAreKeyed}
-use Rattle.cfa_convergence.specs.Policies.{IsOneLine, IsKnown, HasKnown}
-use Rattle.cfa_convergence.specs.Statuses.{InstancesAreSame, RaisesLieTogether, Within, no_no, no_maybe, yes_maybe, yes_yes}
+use Rattle.cfa_laws.specs.Keys.{IsResolved, InstancesAreKeyed}
+use Rattle.cfa_convergence.specs.Keys.{KeysTellWorks}
+use Rattle.cfa_convergence.specs.Policies.{HasKnown}
+use Rattle.cfa_laws.specs.Statuses.{InstancesAreSame, RaisesLieTogether, Within, no_no, no_maybe, yes_maybe, yes_yes}
 use Rattle.cfa_convergence.specs.Told.{teller_of}
 use Rattle.cfa_convergence.proofs.AlwaysLemmas.{Always, each_made, Kept_along}
 use Rattle.cfa_convergence.proofs.ContainedLemmas.{Both, Contained, Settles, If_settled, then_both, both_bound, both_more}
@@ -32,6 +33,7 @@ use Rattle.cfa_convergence.proofs.ContainmentLemmas.{Any, Any_at, Any_home, step
 use Rattle.cfa_convergence.proofs.DepthLemmas.{depth, depth_inner}
 use Rattle.cfa_convergence.proofs.LevelLemmas.{each_level, visit_level, types_level, calls_level, common_level}
 use Rattle.cfa_convergence.proofs.NameLemmas.{same_text}
+use Rattle.cfa_convergence.proofs.PlainLemmas.{Known_at, Known_common, known_commons}
 use Rattle.cfa_convergence.proofs.QuietLemmas.{either_way, Quiet, quiet_same, quiet_then, IsDeep, IsDeepPlace, steps_quiet}
 
 -- the open scopes, and one more
@@ -78,13 +80,13 @@ module _ (s : Setting) (tells : KeysTellWorks) (keyed : InstancesAreKeyed) (toge
   -- the walk alone, in the calls of a scope that is the deepest
   quietly : (n : ℕ) (Open : List ℕ → Type 0) (path : List ℕ) → IsDeepest Open path → VisitsQuietly Open path (calls_of s walk_tells n)
   quietly n Open path deepest i guard act h fit ok =
-      let steps = steps_quiet Open (depth path) deepest s keyed (IsKnown s.policy) (λ home p k. k.plain) in
+      let steps = steps_quiet Open (depth path) deepest s keyed Known_at (λ home p k. k.plain) in
       let calls = calls_level s either_way either_way (Kept_along (Quiet Open) (quiet_same Open) (quiet_then Open)) (IsDeep Open (depth path) deepest) (IsDeepPlace Open (depth path) deepest) (λ status. status ≡ Maybe)
-      IsResolved (IsKnown s.policy) steps (λ path name block at is. known.bundles path name block is) n in
+      IsResolved Known_at steps (λ path name block at is. known.bundles name block is) n in
       let same : depth i.path ≡ depth path = ap depth fit.path in
       let less = depth_inner i in
       visit_level s either_way either_way (Kept_along (Quiet Open) (quiet_same Open) (quiet_then Open)) (IsDeep Open (depth path) deepest) (IsDeepPlace Open (depth path) deepest) (λ status. status ≡ Maybe)
-      IsResolved (IsKnown s.policy) steps (calls_of s walk_tells n) (calls_of s walk_tells n) calls path guard act i h ok fit (omega arith)
+      IsResolved Known_at steps (calls_of s walk_tells n) (calls_of s walk_tells n) calls path guard act i h ok fit (omega arith)
 
   module _ (n : ℕ)
       (inner_calls : (Open : List ℕ → Type 0) (path : List ℕ) → IsDeepest Open path → AreShallowOpen Open → CallsWithin s Open path (calls_of s run_tells n) (calls_of s walk_tells n)) where
@@ -99,7 +101,7 @@ module _ (s : Setting) (tells : KeysTellWorks) (keyed : InstancesAreKeyed) (toge
         both_more (passes s run_tells (calls_of s run_tells n) (within q) home Yes (numbered_in block) 3 a1) (passes s walk_tells (calls_of s walk_tells n) (within q) home status (numbered_in block) 3 b1)
         (If_settled s (And_one Open q)) (If_settled s Open) (λ x y p st. contained_fewer Open q x y (p st))
         (passes_both s tells keyed together same' known.shared repairs (And_one Open q) (λ p e. inl (shallow p e)) (calls_of s run_tells n) (calls_of s walk_tells n) (calls_settle s n) home (inr refl) (within q) status v
-        (inner_calls (And_one Open q) q deepest_one (λ p e. inl (shallow p e))) (quietly n (And_one Open q) q deepest_one) (numbered_in block) (known.bundles q name block is) 3 a1 b1
+        (inner_calls (And_one Open q) q deepest_one (λ p e. inl (shallow p e))) (quietly n (And_one Open q) q deepest_one) (numbered_in block) (known.bundles name block is) 3 a1 b1
         (both_bound (And_one Open q) q (params_of block) given (Begun q given ∷ a) (Begun q given ∷ b) (begun_both Open q given a b c)))
       where
         deepest_one : IsDeepest (And_one Open q) q
@@ -134,9 +136,6 @@ module _ (s : Setting) (tells : KeysTellWorks) (keyed : InstancesAreKeyed) (toge
 
   abbrev deep : ℕ
   deep = length s.policy
-
-  abbrev Known_common : BlockTree → Type 0
-  Known_common block = IsOneLine (name_of block) × Each (λ (type : PromiseType). Each (IsKnown s.policy (record { path = name_of block; bundle = name_of block })) (of_type type (numbered_in block))) common_types
 
   common_both : (block : BlockTree) → Known_common block → (a b : History) → Contained IsShallow a b → Both (through_common s run_tells block a) (through_common s walk_tells block b) (If_settled s IsShallow)
   common_both block ok a b c =
@@ -181,7 +180,7 @@ module _ (s : Setting) (tells : KeysTellWorks) (keyed : InstancesAreKeyed) (toge
   commons_both zero a b c = λ st. c
   commons_both (suc n) a b c =
       then_both s IsShallow (commons_from s run_tells (common_bundles_of s.policy) a) (commons_from s walk_tells (common_bundles_of s.policy) b) (common_passes s run_tells n) (common_passes s walk_tells n)
-      (blocks_both (common_bundles_of s.policy) known.commons a b c) (λ k. commons_settle n k) (λ h k d. commons_both n h k d)
+      (blocks_both (common_bundles_of s.policy) (known_commons (common_bundles_of s.policy) known.commons) a b c) (λ k. commons_settle n k) (λ h k d. commons_both n h k d)
 
   type_both : (name : List ℕ) (type : Option BundleType) (a b : History) → Contained IsShallow a b →
       Both (by_type s run_tells name type (bundle_of s.policy name) a) (by_type s walk_tells name type (bundle_of s.policy name) b) (If_settled s IsShallow)
@@ -242,6 +241,6 @@ is_within a b c = record {
   sure = λ i key has e. c.placed.2 i key has (greatest (c.marks i.path i.text) e);
 }
 
-pub unfailing_contained : KeysTellWorks → UnfailingRunsAreContained
+pub unfailing_contained : KeysTellWorks → RaisesLieTogether → InstancesAreSame → InstancesAreKeyed → UnfailingRunsAreContained
 unfailing_contained tells together same' keyed s repairs a b known is_a is_b settled =
     is_within a b (run_contained s tells keyed together same' known repairs a b is_a is_b settled)

@@ -14,10 +14,11 @@ use Rattle.cfa_walk.specs.Views.{Setting}
 use Rattle.cfa_agent.specs.Runs.{Start, real, world_in, tally_in, log_in, history_of, run_of, log_of, quiet_start}
 use Rattle.cfa_convergence.specs.Conflicts.{was_visited, is_same, IsLive, IsAfter, first_status}
 use Rattle.cfa_convergence.specs.Contained.{unfailing, actuations, LiesWithin}
-use Rattle.cfa_convergence.specs.Keys.{IsKeyed, KeysTellWorks, InstancesAreKeyed}
+use Rattle.cfa_laws.specs.Keys.{IsKeyed, InstancesAreKeyed}
+use Rattle.cfa_convergence.specs.Keys.{KeysTellWorks}
 use Rattle.cfa_convergence.specs.Lasting.{PostsHold, by_agent, IsAmong, Follow}
 use Rattle.cfa_convergence.specs.Policies.{HasKnown}
-use Rattle.cfa_convergence.specs.Statuses.{RaisesLieTogether, InstancesAreSame}
+use Rattle.cfa_laws.specs.Statuses.{RaisesLieTogether, InstancesAreSame}
 use Rattle.cfa_convergence.specs.Settling.{IsFreeOfConflicts, FreeRunsSettle}
 use Rattle.cfa_convergence.specs.Told.{teller_of}
 use Rattle.cfa_convergence.proofs.ActuationLemmas.{ActLaws}
@@ -48,7 +49,7 @@ sure_marked (Listed j status ∷ h) i e = go (sure_marked h i) (was_visited h i)
 sure_marked (Begun path given ∷ h) i e = sure_marked h i e
 sure_marked (Set path name datum ∷ h) i e = sure_marked h i e
 sure_marked (Raised place class status source ∷ h) i e = sure_marked h i e
-sure_marked (Reached path id guard sets visits ∷ h) i e = sure_marked h i e
+sure_marked (Reached home promise guard sets visits ∷ h) i e = sure_marked h i e
 sure_marked (Told j outcomes ∷ h) i e = sure_marked h i e
 
 abbrev is_first : ℕ → Bool
@@ -97,9 +98,9 @@ module _ (laws : ActLaws) (tell : KeysTellWorks) (keyed : InstancesAreKeyed) (s 
       let same : run s (real again) ≡ goes kept = runs_determined s kept_tells (real_tells again) kept free.is_kept alike.0 in
       ap (λ c. log_in again (history_of c)) same ∙ alike.1
 
-pub free_runs_settle : ActLaws → KeysTellWorks → FreeRunsSettle
+pub free_runs_settle : ActLaws → KeysTellWorks → RaisesLieTogether → InstancesAreSame → InstancesAreKeyed → FreeRunsSettle
 unfolding run_of
-free_runs_settle laws tell together same' keyed s start kept walk h moment known free valid no_locks is none =
+free_runs_settle laws tell together same' keyed s start kept walk h known free valid no_locks is none = λ moment.
     let same : start ≡ unlocked start = ap (λ b. record start { has_locks = b }) no_locks in
     subst (λ x. log_of s (quiet_start (world_in x h) moment) ≡ []) (sym same)
     (settles_unlocked laws tell keyed s kept walk known free together same' start h moment valid (subst (λ x. run s (real x) ≡ goes h) same is) none)

@@ -1,24 +1,22 @@
 -- Each class that may be set or not has a source: the promise that first raised it by its outcome.
 use Rattle.std.proofs.Common.{◌≡◌, ℕ, Bool, true, false, List, [], ◌∷◌, Option, Some, None, refl, sym, ap, subst, ◌∙◌, inl, inr, cond}
-use Rattle.std.specs.Prelude.{◌&&◌, option_and_then}
+use Rattle.std.specs.Prelude.{◌&&◌, option_and_then, option_map}
 use Rattle.std.specs.List.{AllByRecursion as Each}
 use Rattle.std.specs.Option.{option_or}
 use Rattle.std.specs.Str.{bytes_eq}
 use Rattle.cfa_base.specs.declared.places.PromiseId.{PromiseId}
-use Rattle.cfa_tree.specs.Tree.{ExprTree, PromiseTree}
+use Rattle.cfa_tree.specs.Tree.{ExprTree}
 use Rattle.cfa_classes.specs.declared.levels.Status.{Status}
 use Rattle.cfa_classes.specs.declared.levels.Status.TheVariants.{No, Maybe, Yes}
 use Rattle.cfa_classes.specs.Status.{lesser, greater}
 use Rattle.cfa_vars.specs.declared.scoping.Datum.{Datum}
 use Rattle.cfa_defines.specs.FirstMaybe.{first_maybe_of_guard}
 use Rattle.cfa_defines.specs.ClassPromises.{Raise}
-use Rattle.cfa_kinds.specs.declared.kinds.PromiseType.{PromiseType}
-use Rattle.cfa_schema.specs.Checked.{typed_promise_of}
 use Rattle.cfa_walk.specs.History.{History, Where, everywhere, within, Begun, Raised, globally, locally, global_source, local_source, source_in}
 use Rattle.cfa_walk.specs.Passes.{handed, raise_event, raise_all}
 use Rattle.cfa_walk.specs.Views.{Setting, from_start, global_status, status_in, guard_status, source_of, is_listed}
-use Rattle.cfa_walk.specs.Walks.{blame_on, blame_on_guard}
-use Rattle.cfa_convergence.specs.Sources.{IsFirst, RaiseHasFirst}
+use Rattle.cfa_walk.specs.Waits.{wait_on, wait_of_guard}
+use Rattle.cfa_laws.specs.Sources.{IsFirst, RaiseHasFirst}
 use Rattle.cfa_convergence.proofs.FirstLemmas.{lesser_maybe, greater_maybe, maybe_first}
 
 -- there is one
@@ -33,6 +31,14 @@ given_left (Some x) b is = tt
 given_right : {X : Type 0} (a b : Option X) → IsGiven b → IsGiven (option_or a b)
 given_right None b is = is
 given_right (Some x) b is = tt
+
+pub mapped_given : {X Y : Type 0} (f : X → Y) (o : Option X) → IsGiven o → IsGiven (option_map f o)
+mapped_given f None is = absurd is
+mapped_given f (Some x) is = tt
+
+pub waits_given : (c : List ℕ) (source : Option PromiseId) → IsGiven source → IsGiven (wait_on c source)
+waits_given c None is = absurd is
+waits_given c (Some source) is = tt
 
 pub record AreSourced (h : History) : Type 0 where
   pub globals : (c : List ℕ) → globally h c ≡ Maybe → IsGiven (global_source h c)
@@ -100,27 +106,20 @@ module _ (s : Setting) (h : History) (are : AreSourced h) where
         | inr m ↦ first_given path in_expressions (q m)
       ]
 
-  -- a guard that may hold or not has a class to blame
-  pub blame_given : (path : List ℕ) (id by : PromiseId) (type : PromiseType) (promise : PromiseTree) → typed_promise_of s.policy id ≡ Some (type, promise) → guard_status s h path promise.guard ≡ Maybe →
-      IsGiven (blame_on_guard s h path id by)
-  blame_given path id by type promise found is =
-      subst (λ o. IsGiven (option_and_then (λ typed. option_and_then (λ c. blame_on by c (source_in h path c)) (first_maybe_of_guard typed.1.guard (status_in s h path))) o)) (sym found)
-      (go (first_maybe_of_guard promise.guard (status_in s h path)) (guarded promise.guard is))
+  -- a guard that may hold or not waits for a class
+  pub wait_given : (path : List ℕ) (guard : Option ExprTree) → guard_status s h path guard ≡ Maybe → IsGiven (wait_of_guard s h path guard)
+  wait_given path guard is = go (first_maybe_of_guard guard (status_in s h path)) (guarded guard is)
     where
       guarded : (guard : Option ExprTree) → guard_status s h path guard ≡ Maybe → IsFirst (status_in s h path) (first_maybe_of_guard guard (status_in s h path))
       guarded None e = absurd (cc)
       guarded (Some e') e = maybe_first (status_in s h path) e' e
 
-      blamed : (c : List ℕ) (source : Option PromiseId) → IsGiven source → IsGiven (blame_on by c source)
-      blamed c None is = absurd is
-      blamed c (Some source) is = tt
-
-      go : (first : Option (List ℕ)) → IsFirst (status_in s h path) first → IsGiven (option_and_then (λ c. blame_on by c (source_in h path c)) first)
+      go : (first : Option (List ℕ)) → IsFirst (status_in s h path) first → IsGiven (option_and_then (λ c. wait_on c (source_in h path c)) first)
       go None first = let none : None ≡ Some first.0 = first.1 in absurd (cc)
       go (Some c) first =
           let one : Some c ≡ Some first.0 = first.1 in
           let same : c ≡ first.0 = cc in
-          blamed c (source_in h path c) (source_given path c (ap (status_in s h path) same ∙ first.2))
+          waits_given c (source_in h path c) (source_given path c (ap (status_in s h path) same ∙ first.2))
 
   -- what a classes promise raises
   pub raises_sourced : (place : Where) (path : List ℕ) (guard : Status) (in_guard : Option (List ℕ)) → ((c : List ℕ) → in_guard ≡ Some c → status_in s h path c ≡ Maybe) → (guard ≡ Maybe → IsFirst (status_in s h path) in_guard) →

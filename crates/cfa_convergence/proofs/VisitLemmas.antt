@@ -1,107 +1,134 @@
 -- The visits that a walk lists, by the places of their instances.
-use Rattle.std.proofs.Common.{◌≡◌, ℕ, ◌<◌, ◌≤◌, Bool, true, false, List, [], ◌∷◌, ◌++◌, length, Some, None, refl, ap, sym, subst, ◌∙◌, inl, inr, arith, cond, eq-eqb}
+use Rattle.std.proofs.Common.{◌≡◌, ℕ, Bool, true, false, not, List, [], ◌∷◌, ◌++◌, map, Some, None, refl, ap, sym, subst, ◌∙◌, inl, inr, cond, eq-eqb}
 use Rattle.std.specs.Prelude.{◌==◌}
-use Rattle.std.specs.List.{AllByRecursion as Each, list_any, position_or_len}
-use Rattle.std.proofs.lemmas.Bool.{false≢true}
+use Rattle.std.specs.List.{list_any, position_or_len}
+use Rattle.std.specs.Str.{bytes_eq}
+use Rattle.std.proofs.lemmas.Bool.{false≢true, false_from_ne_true}
+use Rattle.std.proofs.lemmas.List.{map-append}
 use Rattle.cfa_classes.specs.declared.levels.Status.{Status}
 use Rattle.cfa_classes.specs.declared.levels.Status.TheVariants.{No, Maybe}
+use Rattle.cfa_classes.specs.Status.{greater}
 use Rattle.cfa_conflict.specs.Conflicts.{first_visit, has_visit, is_visited_after}
 use Rattle.cfa_resolve.specs.declared.instances.Instance.{Instance}
 use Rattle.cfa_walk.specs.declared.walks.Visit.{Visit}
-use Rattle.cfa_walk.specs.History.{History, Begun, Set, Raised, Reached, Listed, Told, is_named}
+use Rattle.cfa_walk.specs.History.{History, Begun, Set, Raised, Reached, Listed, Told, is_named, mark_in}
 use Rattle.cfa_walk.specs.Views.{Setting}
-use Rattle.cfa_walk.specs.Walks.{was_listed, listed_instances, blame_of, visit_of, listed_visits}
-use Rattle.cfa_convergence.specs.Conflicts.{was_visited, is_same, IsAfter, first_status}
-use Rattle.cfa_convergence.proofs.BlameLemmas.{AreBlamed}
-use Rattle.cfa_convergence.proofs.KnownLemmas.{just_visited}
-use Rattle.cfa_convergence.proofs.NameLemmas.{names_of}
-use Rattle.cfa_convergence.proofs.PlaceLemmas.{lt_apart, found_before, position_found, found_first, any_last, any_other, any_left, last_place}
-use Rattle.cfa_convergence.proofs.SourceLemmas.{IsGiven}
+use Rattle.cfa_walk.specs.Waits.{is_unvisited, is_first, waits_in}
+use Rattle.cfa_walk.specs.Walks.{with_first, listed_instances, blame_for, blame_by, listing_by, listings, visit_of}
+use Rattle.cfa_convergence.specs.Conflicts.{was_listed, was_visited, is_same, IsAfter, first_status}
+use Rattle.cfa_convergence.proofs.BlameLemmas.{greater_real, not_unvisited, AreBlamed}
+use Rattle.cfa_convergence.proofs.KnownLemmas.{AreKnown, just_visited}
+use Rattle.cfa_convergence.proofs.NameLemmas.{same_text, names_of, true_both}
+use Rattle.cfa_convergence.proofs.PlaceLemmas.{tie, position_found, any_last, any_other, any_left, one_place}
+use Rattle.cfa_convergence.proofs.SourceLemmas.{IsGiven, mapped_given}
 
 pub same_visits : (h : History) (i j : Instance) → is_same i j ≡ true → was_visited h i ≡ was_visited h j
 same_visits h i j e = let names = names_of i j e in ap (λ p. was_listed h p i.text) (sym names.0) ∙ ap (λ t. was_listed h j.path t) (sym names.1)
 
-pub listed_any : (h : History) (i : Instance) → list_any (is_same i) (listed_instances h) ≡ was_visited h i
-listed_any [] i = refl
-listed_any (Listed j status ∷ h) i = go (was_visited h j) refl (is_same i j) refl (listed_any h i)
+same_named : (i j : Instance) → j.path ≡ i.path → j.text ≡ i.text → is_same i j ≡ true
+same_named i j path text =
+    true_both (bytes_eq j.path i.path) (bytes_eq j.text i.text) (subst (λ p. bytes_eq j.path p ≡ true) path (same_text j.path)) (subst (λ x. bytes_eq j.text x ≡ true) text (same_text j.text))
+
+apart_back : (i j : Instance) → is_same i j ≡ false → is_same j i ≡ false
+apart_back i j apart =
+    false_from_ne_true (is_same j i) (λ e.
+    let names = names_of j i e in
+    false≢true (sym apart ∙ same_named i j (sym names.0) (sym names.1)))
+
+-- a visit is the first where there was none
+pub first_unvisited : (h : History) → AreKnown h → (i : Instance) → is_first h i ≡ not (was_visited h i)
+first_unvisited [] known i = refl
+first_unvisited (Listed j status ∷ h) known i = go (is_same i j) (first_unvisited h known.2 i)
+  where
+    go : (b : Bool) → is_first h i ≡ not (was_visited h i) →
+        is_unvisited (elim b [ true ↦ greater status (mark_in h i.path i.text) | false ↦ mark_in h i.path i.text ]) ≡ not (elim b [ true ↦ true | false ↦ was_visited h i ])
+    go true before = not_unvisited (greater status (mark_in h i.path i.text)) (greater_real status (mark_in h i.path i.text) known.1)
+    go false before = before
+first_unvisited (Told j outcomes ∷ h) known i = first_unvisited h known.2 i
+first_unvisited (Begun path given ∷ h) known i = first_unvisited h known i
+first_unvisited (Set path name datum ∷ h) known i = first_unvisited h known i
+first_unvisited (Raised place' cls status source ∷ h) known i = first_unvisited h known i
+first_unvisited (Reached home promise guard sets visits ∷ h) known i = first_unvisited h known i
+
+pub listed_any : (h : History) → AreKnown h → (i : Instance) → list_any (is_same i) (listed_instances h) ≡ was_visited h i
+listed_any [] known i = refl
+listed_any (Listed j status ∷ h) known i =
+    ap (λ b. list_any (is_same i) (with_first b j (listed_instances h))) (first_unvisited h known.2 j) ∙ go (was_visited h j) refl (is_same i j) refl (listed_any h known.2 i)
   where
     go : (b : Bool) → was_visited h j ≡ b → (c : Bool) → is_same i j ≡ c → list_any (is_same i) (listed_instances h) ≡ was_visited h i →
-        ◌≡◌ {A = Bool} (list_any (is_same i) (elim b [ true ↦ listed_instances h | false ↦ listed_instances h ++ j ∷ [] ])) (elim c [ true ↦ true | false ↦ was_visited h i ])
+        ◌≡◌ {A = Bool} (list_any (is_same i) (with_first (not b) j (listed_instances h))) (elim c [ true ↦ true | false ↦ was_visited h i ])
     go true e true f before = before ∙ same_visits h i j f ∙ e
     go true e false f before = before
     go false e true f before = any_last (is_same i) (listed_instances h) j f
     go false e false f before = any_other (is_same i) (listed_instances h) j f ∙ before
-listed_any (Begun path given ∷ h) i = listed_any h i
-listed_any (Set path name datum ∷ h) i = listed_any h i
-listed_any (Raised place cls status source ∷ h) i = listed_any h i
-listed_any (Reached path id guard sets visits ∷ h) i = listed_any h i
-listed_any (Told j outcomes ∷ h) i = listed_any h i
+listed_any (Told j outcomes ∷ h) known i = listed_any h known.2 i
+listed_any (Begun path given ∷ h) known i = listed_any h known i
+listed_any (Set path name datum ∷ h) known i = listed_any h known i
+listed_any (Raised place' cls status source ∷ h) known i = listed_any h known i
+listed_any (Reached home promise guard sets visits ∷ h) known i = listed_any h known i
 
-pub is_listed_there : (h : History) (i : Instance) → was_visited h i ≡ true → list_any (is_same i) (listed_instances h) ≡ true
-is_listed_there h i e = listed_any h i ∙ e
+-- ---- places in a list of instances
 
--- ---- places
+module _ (s : Setting) (is : List Instance) where
+  abbrev pub place : Instance → ℕ
+  place i = position_or_len (is_same i) is
 
-abbrev pub place : History → Instance → ℕ
-place h i = position_or_len (is_same i) (listed_instances h)
+  abbrev IsThere : Instance → Type 0
+  IsThere i = list_any (is_same i) is ≡ true
 
-pub place_same : (h : History) (i j : Instance) → is_same i j ≡ true → place h i ≡ place h j
-place_same h i j e =
-    let names = names_of i j e in
-    ap (λ p. position_or_len (is_named p i.text) (listed_instances h)) (sym names.0) ∙ ap (λ t. position_or_len (is_named j.path t) (listed_instances h)) (sym names.1)
+  -- the visits, by the places of their instances
+  abbrev pub visits_of : History → List Visit
+  visits_of h = map (visit_of is) (listings s h)
 
-place_stays : (h : History) (j : Instance) (status : Status) (i : Instance) → was_visited h i ≡ true → place (Listed j status ∷ h) i ≡ place h i
-place_stays h j status i e = go (was_visited h j)
-  where
-    go : (b : Bool) → position_or_len (is_same i) (elim b [ true ↦ listed_instances h | false ↦ listed_instances h ++ j ∷ [] ]) ≡ position_or_len (is_same i) (listed_instances h)
-    go true = refl
-    go false = found_first (is_same i) (listed_instances h) (j ∷ []) (is_listed_there h i e)
+  abbrev last_of : History → Instance → Status → Visit
+  last_of h j status = visit_of is (listing_by j status (is_first h j) (waits_in s h j.path))
 
-place_new : (h : History) (j : Instance) (status : Status) (i : Instance) → was_visited h i ≡ false → is_same i j ≡ true → place (Listed j status ∷ h) i ≡ length (listed_instances h)
-place_new h j status i e f =
-    ap (λ b. position_or_len (is_same i) (elim b [ true ↦ listed_instances h | false ↦ listed_instances h ++ j ∷ [] ])) (sym (same_visits h i j f) ∙ e)
-    ∙ last_place (is_same i) (listed_instances h) j (listed_any h i ∙ e) f
+  -- those of a list to which one more is visited
+  more_visits : (h : History) (j : Instance) (status : Status) → visits_of (Listed j status ∷ h) ≡ visits_of h ++ last_of h j status ∷ []
+  more_visits h j status = map-append (visit_of is) (listings s h) (listing_by j status (is_first h j) (waits_in s h j.path) ∷ [])
 
-more_listed : (h : History) (j : Instance) (status : Status) → length (listed_instances h) ≤ length (listed_instances (Listed j status ∷ h))
-more_listed h j status = go (was_visited h j)
-  where
-    longer : (xs : List Instance) → length xs ≤ length (xs ++ j ∷ [])
-    longer [] = omega arith
-    longer (x ∷ xs) = let less = longer xs in omega arith
+  place_same : (i j : Instance) → is_same i j ≡ true → place i ≡ place j
+  place_same i j e =
+      let names = names_of i j e in
+      ap (λ p. position_or_len (is_named p i.text) is) (sym names.0) ∙ ap (λ t. position_or_len (is_named j.path t) is) (sym names.1)
 
-    go : (b : Bool) → length (listed_instances h) ≤ length {A = Instance} (elim b [ true ↦ listed_instances h | false ↦ listed_instances h ++ j ∷ [] ])
-    go true = omega arith
-    go false = longer (listed_instances h)
+  pub place_apart : (i j : Instance) → is_same i j ≡ false → IsThere i → IsThere j → (place i == place j) ≡ false
+  place_apart i j apart there there' = go (place i == place j) refl
+    where
+      go : (b : Bool) → (place i == place j) ≡ b → b ≡ false
+      go false e = refl
+      go true e =
+          let found = one_place (is_same i) (is_same j) is there there' (tie (place i) (place j) e) in
+          let mine = names_of i found.0 found.1 in
+          let theirs = names_of j found.0 found.2 in
+          let path : j.path ≡ i.path = sym theirs.0 ∙ mine.0 in
+          let text : j.text ≡ i.text = sym theirs.1 ∙ mine.1 in
+          absurd (false≢true (sym apart ∙ same_named i j path text))
 
-module _ (s : Setting) where
-  number_of : (h : History) (j : Instance) (status : Status) → (visit_of s h j status).instance ≡ place (Listed j status ∷ h) j
-  number_of h j status = position_found (is_same j) (listed_instances (Listed j status ∷ h)) (is_listed_there (Listed j status ∷ h) j (just_visited j status h))
+  number_of : (h : History) (j : Instance) (status : Status) → IsThere j → (last_of h j status).instance ≡ place j
+  number_of h j status there = position_found (is_same j) is there
 
-  abbrev AreBelow : ℕ → List Visit → Type 0
-  AreBelow n visits = Each (λ (visit : Visit). visit.instance < n) visits
+  -- all that were visited stand in it
+  abbrev pub AreThere : History → Type 0
+  AreThere h = (i : Instance) → was_visited h i ≡ true → IsThere i
 
-  below_more : (m n : ℕ) → m ≤ n → (visits : List Visit) → AreBelow m visits → (last : Visit) → last.instance < n → AreBelow n (visits ++ last ∷ [])
-  below_more m n more [] all last less = (less, tt)
-  below_more m n more (visit ∷ visits) all last less = let low = all.0 in ((omega arith), below_more m n more visits all.1 last less)
+  later_visited : (b c : Bool) → c ≡ true → ◌≡◌ {A = Bool} (elim b [ true ↦ true | false ↦ c ]) true
+  later_visited true c e = refl
+  later_visited false c e = e
 
-  few : (h : History) → AreBelow (length (listed_instances h)) (listed_visits s h)
-  few [] = tt
-  few (Listed j status ∷ h) =
-      below_more (length (listed_instances h)) (length (listed_instances (Listed j status ∷ h))) (more_listed h j status) (listed_visits s h) (few h) (visit_of s h j status)
-      (subst (λ n. n < length (listed_instances (Listed j status ∷ h))) (sym (number_of h j status))
-      (found_before (is_same j) (listed_instances (Listed j status ∷ h)) (is_listed_there (Listed j status ∷ h) j (just_visited j status h))))
-  few (Begun path given ∷ h) = few h
-  few (Set path name datum ∷ h) = few h
-  few (Raised place' cls status source ∷ h) = few h
-  few (Reached path id guard sets visits ∷ h) = few h
-  few (Told j outcomes ∷ h) = few h
+  there_before : (h : History) (j : Instance) (status : Status) → AreThere (Listed j status ∷ h) → AreThere h
+  there_before h j status are i e = are i (later_visited (is_same i j) (was_visited h i) e)
 
   -- ---- first visits
 
-  none_before : (visits : List Visit) (n : ℕ) → AreBelow n visits → first_visit visits n ≡ None
-  none_before [] n all = refl
-  none_before (visit ∷ visits) n all =
-      ap (λ b. cond b (Some visit) (first_visit visits n)) (lt_apart visit.instance n all.0) ∙ none_before visits n all.1
+  none_last : (visits : List Visit) (last : Visit) (n : ℕ) → first_visit visits n ≡ None → (last.instance == n) ≡ false → first_visit (visits ++ last ∷ []) n ≡ None
+  none_last [] last n none e = ap (λ b. cond b (Some last) None) e
+  none_last (visit ∷ visits) last n none e = go (visit.instance == n) (λ f. none_last visits last n f e) none
+    where
+      go : (b : Bool) → (first_visit visits n ≡ None → first_visit (visits ++ last ∷ []) n ≡ None) → cond b (Some visit) (first_visit visits n) ≡ None →
+          cond b (Some visit) (first_visit (visits ++ last ∷ []) n) ≡ None
+      go true before f = absurd (cc)
+      go false before f = before f
 
   first_last : (visits : List Visit) (last : Visit) (n : ℕ) → first_visit visits n ≡ None → (last.instance == n) ≡ true → first_visit (visits ++ last ∷ []) n ≡ Some last
   first_last [] last n none e = ap (λ b. cond b (Some last) None) e
@@ -121,54 +148,73 @@ module _ (s : Setting) where
       go true before f = f
       go false before f = before f
 
+  -- an instance that wasn't visited has none
+  none_visited : (h : History) → AreThere h → (i : Instance) → IsThere i → was_visited h i ≡ false → first_visit (visits_of h) (place i) ≡ None
+  none_visited [] are i there e = refl
+  none_visited (Listed j status ∷ h) are i there e = go (is_same i j) refl (none_visited h (there_before h j status are) i there) e
+    where
+      go : (c : Bool) → is_same i j ≡ c → (was_visited h i ≡ false → first_visit (visits_of h) (place i) ≡ None) → ◌≡◌ {A = Bool} (elim c [ true ↦ true | false ↦ was_visited h i ]) false →
+          first_visit (visits_of (Listed j status ∷ h)) (place i) ≡ None
+      go true it before f = absurd (false≢true (sym f))
+      go false it before f =
+          let last : Visit = last_of h j status in
+          let at : IsThere j = are j (just_visited j status h) in
+          let other : (last.instance == place i) ≡ false = ap (λ n. n == place i) (number_of h j status at) ∙ place_apart j i (apart_back i j it) at there in
+          subst (λ vs. first_visit vs (place i) ≡ None) (sym (more_visits h j status)) (none_last (visits_of h) last (place i) (before f) other)
+  none_visited (Begun path given ∷ h) are i there e = none_visited h are i there e
+  none_visited (Set path name datum ∷ h) are i there e = none_visited h are i there e
+  none_visited (Raised place' cls status source ∷ h) are i there e = none_visited h are i there e
+  none_visited (Reached home promise guard sets visits ∷ h) are i there e = none_visited h are i there e
+  none_visited (Told j outcomes ∷ h) are i there e = none_visited h are i there e
+
   pub record HasFirst (h : History) (i : Instance) : Type 0 where
     pub visit : Visit
-    pub found : first_visit (listed_visits s h) (place h i) ≡ Some visit
+    pub found : first_visit (visits_of h) (place i) ≡ Some visit
     pub status : first_status h i ≡ visit.status
     pub some : visit.status ≡ No → ⊥
     pub blamed : visit.status ≡ Maybe → IsGiven visit.blame
 
-  pub first_visited : (h : History) → AreBlamed s h → (i : Instance) → was_visited h i ≡ true → HasFirst h i
-  first_visited [] blamed i e = absurd (cc)
-  first_visited (Listed j status ∷ h) blamed i e = go (was_visited h i) refl (is_same i j) refl (first_visited h blamed.2 i) e
+  pub first_visited : (h : History) → AreBlamed s h → AreKnown h → AreThere h → (i : Instance) → was_visited h i ≡ true → HasFirst h i
+  first_visited [] blamed known are i e = absurd (cc)
+  first_visited (Listed j status ∷ h) blamed known are i e = go (was_visited h i) refl (is_same i j) refl (first_visited h blamed.2 known.2 (there_before h j status are) i) e
     where
       here : Visit
-      here = visit_of s h j status
+      here = last_of h j status
 
       go : (b : Bool) → was_visited h i ≡ b → (c : Bool) → is_same i j ≡ c → (was_visited h i ≡ true → HasFirst h i) → ◌≡◌ {A = Bool} (elim c [ true ↦ true | false ↦ was_visited h i ]) true → HasFirst (Listed j status ∷ h) i
-      go true is c it before f =
-          let old = before is in
+      go true is' c it before f =
+          let old = before is' in
           record {
             visit = old.visit;
-            found = subst (λ n. first_visit (listed_visits s h ++ here ∷ []) n ≡ Some old.visit) (sym (place_stays h j status i is)) (first_stays (listed_visits s h) here (place h i) old.visit old.found);
-            status = ap (λ b. elim b [ true ↦ first_status h i | false ↦ elim (is_same i j) [ true ↦ status | false ↦ No ] ]) is ∙ old.status;
+            found = subst (λ vs. first_visit vs (place i) ≡ Some old.visit) (sym (more_visits h j status)) (first_stays (visits_of h) here (place i) old.visit old.found);
+            status = ap (λ b. elim b [ true ↦ first_status h i | false ↦ elim (is_same i j) [ true ↦ status | false ↦ No ] ]) is' ∙ old.status;
             some = old.some;
             blamed = old.blamed;
           }
-      go false is true it before f =
-          let number : here.instance ≡ place (Listed j status ∷ h) i = number_of h j status ∙ sym (place_same (Listed j status ∷ h) i j it) in
-          let other : was_visited h j ≡ false = sym (same_visits h i j it) ∙ is in
+      go false is' true it before f =
+          let number : here.instance ≡ place i = number_of h j status (are j (just_visited j status h)) ∙ sym (place_same i j it) in
+          let first : is_first h j ≡ true = first_unvisited h known.2 j ∙ ap not (sym (same_visits h i j it) ∙ is') in
           record {
             visit = here;
-            found = first_last (listed_visits s h) here (place (Listed j status ∷ h) i)
-                (subst (λ n. first_visit (listed_visits s h) n ≡ None) (sym (place_new h j status i is it)) (none_before (listed_visits s h) (length (listed_instances h)) (few h)))
-                (eq-eqb here.instance (place (Listed j status ∷ h) i) number);
-            status = ap (λ b. elim b [ true ↦ first_status h i | false ↦ elim (is_same i j) [ true ↦ status | false ↦ No ] ]) is ∙ ap (λ c. elim c [ true ↦ status | false ↦ No ]) it;
+            found =
+                subst (λ vs. first_visit vs (place i) ≡ Some here) (sym (more_visits h j status))
+                (first_last (visits_of h) here (place i) (none_visited h (there_before h j status are) i (are i e) is') (eq-eqb here.instance (place i) number));
+            status = ap (λ b. elim b [ true ↦ first_status h i | false ↦ elim (is_same i j) [ true ↦ status | false ↦ No ] ]) is' ∙ ap (λ c. elim c [ true ↦ status | false ↦ No ]) it;
             some = blamed.0;
-            blamed = λ maybe. subst (λ x. IsGiven (blame_of s h j x (was_visited h j))) (sym maybe) (subst (λ b. IsGiven (blame_of s h j Maybe b)) (sym other) (blamed.1 maybe other));
+            blamed = λ maybe.
+                subst (λ x. IsGiven (blame_by x (is_first h j) j.source (waits_in s h j.path))) (sym maybe)
+                (subst (λ b. IsGiven (blame_by Maybe b j.source (waits_in s h j.path))) (sym first) (mapped_given (blame_for j.source) (waits_in s h j.path) (blamed.1 maybe first)));
           }
-      go false is false it before f = absurd (false≢true (sym is ∙ f))
-  first_visited (Begun path given ∷ h) blamed i e = let old = first_visited h blamed i e in record { visit = old.visit; found = old.found; status = old.status; some = old.some; blamed = old.blamed }
-  first_visited (Set path name datum ∷ h) blamed i e = let old = first_visited h blamed i e in record { visit = old.visit; found = old.found; status = old.status; some = old.some; blamed = old.blamed }
-  first_visited (Raised place' cls status source ∷ h) blamed i e = let old = first_visited h blamed i e in record { visit = old.visit; found = old.found; status = old.status; some = old.some; blamed = old.blamed }
-  first_visited (Reached path id guard sets visits ∷ h) blamed i e = let old = first_visited h blamed.2 i e in record { visit = old.visit; found = old.found; status = old.status; some = old.some; blamed = old.blamed }
-  first_visited (Told j outcomes ∷ h) blamed i e = let old = first_visited h blamed i e in record { visit = old.visit; found = old.found; status = old.status; some = old.some; blamed = old.blamed }
+      go false is' false it before f = absurd (false≢true (sym is' ∙ f))
+  first_visited (Begun path given ∷ h) blamed known are i e = let old = first_visited h blamed known are i e in record { visit = old.visit; found = old.found; status = old.status; some = old.some; blamed = old.blamed }
+  first_visited (Set path name datum ∷ h) blamed known are i e = let old = first_visited h blamed known are i e in record { visit = old.visit; found = old.found; status = old.status; some = old.some; blamed = old.blamed }
+  first_visited (Raised place' cls status source ∷ h) blamed known are i e =
+      let old = first_visited h blamed known are i e in record { visit = old.visit; found = old.found; status = old.status; some = old.some; blamed = old.blamed }
+  first_visited (Reached home promise guard sets visits ∷ h) blamed known are i e =
+      let old = first_visited h blamed.2 known are i e in record { visit = old.visit; found = old.found; status = old.status; some = old.some; blamed = old.blamed }
+  first_visited (Told j outcomes ∷ h) blamed known are i e = let old = first_visited h blamed known.2 are i e in record { visit = old.visit; found = old.found; status = old.status; some = old.some; blamed = old.blamed }
 
   -- ---- visits after others
-
-  later_visited : (b c : Bool) → c ≡ true → ◌≡◌ {A = Bool} (elim b [ true ↦ true | false ↦ c ]) true
-  later_visited true c e = refl
-  later_visited false c e = e
 
   pub after_both : (h : History) (later earlier : Instance) → IsAfter h later earlier → (was_visited h later ≡ true) × (was_visited h earlier ≡ true)
   after_both [] later earlier e = absurd e
@@ -180,7 +226,7 @@ module _ (s : Setting) where
   after_both (Begun path given ∷ h) later earlier e = after_both h later earlier e
   after_both (Set path name datum ∷ h) later earlier e = after_both h later earlier e
   after_both (Raised place' cls status source ∷ h) later earlier e = after_both h later earlier e
-  after_both (Reached path id guard sets visits ∷ h) later earlier e = after_both h later earlier e
+  after_both (Reached home promise guard sets visits ∷ h) later earlier e = after_both h later earlier e
   after_both (Told j outcomes ∷ h) later earlier e = after_both h later earlier e
 
   after_last : (visits : List Visit) (last : Visit) (n m : ℕ) (found : Visit) → first_visit visits n ≡ Some found → (last.instance == m) ≡ true → is_visited_after (visits ++ last ∷ []) n m ≡ true
@@ -201,22 +247,19 @@ module _ (s : Setting) where
       go true before g = any_left (λ v. v.instance == m) visits (last ∷ []) g
       go false before g = before g
 
-  pub after_visited : (h : History) → AreBlamed s h → (later earlier : Instance) → IsAfter h later earlier → is_visited_after (listed_visits s h) (place h earlier) (place h later) ≡ true
-  after_visited [] blamed later earlier e = absurd e
-  after_visited (Listed j status ∷ h) blamed later earlier (inl now) =
-      let here : Visit = visit_of s h j status in
-      let first = first_visited h blamed.2 earlier now.1 in
-      let number : here.instance ≡ place (Listed j status ∷ h) later = number_of h j status ∙ sym (place_same (Listed j status ∷ h) later j now.0) in
-      subst (λ n. is_visited_after (listed_visits s h ++ here ∷ []) n (place (Listed j status ∷ h) later) ≡ true) (sym (place_stays h j status earlier now.1))
-      (after_last (listed_visits s h) here (place h earlier) (place (Listed j status ∷ h) later) first.visit first.found (eq-eqb here.instance (place (Listed j status ∷ h) later) number))
-  after_visited (Listed j status ∷ h) blamed later earlier (inr old) =
-      let here : Visit = visit_of s h j status in
-      let both = after_both h later earlier old in
-      subst (λ n. is_visited_after (listed_visits s h ++ here ∷ []) n (place (Listed j status ∷ h) later) ≡ true) (sym (place_stays h j status earlier both.1))
-      (subst (λ m. is_visited_after (listed_visits s h ++ here ∷ []) (place h earlier) m ≡ true) (sym (place_stays h j status later both.0))
-      (after_stays (listed_visits s h) here (place h earlier) (place h later) (after_visited h blamed.2 later earlier old)))
-  after_visited (Begun path given ∷ h) blamed later earlier e = after_visited h blamed later earlier e
-  after_visited (Set path name datum ∷ h) blamed later earlier e = after_visited h blamed later earlier e
-  after_visited (Raised place' cls status source ∷ h) blamed later earlier e = after_visited h blamed later earlier e
-  after_visited (Reached path id guard sets visits ∷ h) blamed later earlier e = after_visited h blamed.2 later earlier e
-  after_visited (Told j outcomes ∷ h) blamed later earlier e = after_visited h blamed later earlier e
+  pub after_visited : (h : History) → AreBlamed s h → AreKnown h → AreThere h → (later earlier : Instance) → IsAfter h later earlier → is_visited_after (visits_of h) (place earlier) (place later) ≡ true
+  after_visited [] blamed known are later earlier e = absurd e
+  after_visited (Listed j status ∷ h) blamed known are later earlier (inl now) =
+      let here : Visit = last_of h j status in
+      let first = first_visited h blamed.2 known.2 (there_before h j status are) earlier now.1 in
+      let number : here.instance ≡ place later = number_of h j status (are j (just_visited j status h)) ∙ sym (place_same later j now.0) in
+      subst (λ vs. is_visited_after vs (place earlier) (place later) ≡ true) (sym (more_visits h j status))
+      (after_last (visits_of h) here (place earlier) (place later) first.visit first.found (eq-eqb here.instance (place later) number))
+  after_visited (Listed j status ∷ h) blamed known are later earlier (inr old) =
+      subst (λ vs. is_visited_after vs (place earlier) (place later) ≡ true) (sym (more_visits h j status))
+      (after_stays (visits_of h) (last_of h j status) (place earlier) (place later) (after_visited h blamed.2 known.2 (there_before h j status are) later earlier old))
+  after_visited (Begun path given ∷ h) blamed known are later earlier e = after_visited h blamed known are later earlier e
+  after_visited (Set path name datum ∷ h) blamed known are later earlier e = after_visited h blamed known are later earlier e
+  after_visited (Raised place' cls status source ∷ h) blamed known are later earlier e = after_visited h blamed known are later earlier e
+  after_visited (Reached home promise guard sets visits ∷ h) blamed known are later earlier e = after_visited h blamed.2 known are later earlier e
+  after_visited (Told j outcomes ∷ h) blamed known are later earlier e = after_visited h blamed known.2 are later earlier e

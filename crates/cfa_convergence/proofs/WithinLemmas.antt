@@ -6,7 +6,7 @@ use Rattle.cfa_classes.specs.declared.levels.Status.{Status}
 use Rattle.cfa_classes.specs.declared.levels.Status.TheVariants.{No, Maybe, Yes}
 use Rattle.cfa_classes.specs.Status.{swapped, lesser, greater, value_of, least_of, greatest_of}
 use Rattle.cfa_walk.specs.Passes.{never_yes, visit_status}
-use Rattle.cfa_convergence.specs.Statuses.{Within, no_no, no_maybe, yes_maybe, yes_yes}
+use Rattle.cfa_laws.specs.Statuses.{Within, no_no, no_maybe, yes_maybe, yes_yes}
 
 pub within_swapped : {r w : Status} → Within r w → Within (swapped r) (swapped w)
 within_swapped no_no = yes_yes

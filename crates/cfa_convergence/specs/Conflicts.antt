@@ -1,7 +1,7 @@
 -- When instances with acts are in no conflict, over the walk in which all is kept and the open walk. An instance is live where the first
 -- of these visits it. A live instance restarts nothing, comes for sure at its first visit in the open walk, and none of its acts is
 -- disturbed: neither by an act of another instance that the open walk visits after it, nor by a later act of its own.
-use Rattle.std.specs.Prelude.{◌≡◌, ◌⊎◌, Bool, true, false, List, [], ◌∷◌}
+use Rattle.std.specs.Prelude.{◌≡◌, ◌⊎◌, ℕ, Bool, true, false, List, [], ◌∷◌}
 use Rattle.std.specs.List.{AllByRecursion as Each}
 use Rattle.cfa_acts.specs.declared.acts.Act.{Act}
 use Rattle.cfa_acts.specs.Disturbs.{disturbs}
@@ -13,13 +13,22 @@ use Rattle.cfa_resolve.specs.declared.instances.Work.{Work}
 use Rattle.cfa_resolve.specs.declared.instances.Work.TheVariants.{Acts, Call, Report}
 use Rattle.cfa_walk.specs.History.{History, Begun, Set, Raised, Reached, Listed, Told, is_named}
 use Rattle.cfa_walk.specs.Tellers.{acts_of}
-use Rattle.cfa_walk.specs.Walks.{was_listed}
-use Rattle.cfa_convergence.specs.Keys.{IsKeyed}
+use Rattle.cfa_laws.specs.Keys.{IsKeyed}
 
 abbrev pub HasActs : Work → Type 0
 HasActs (Acts acts) = Unit {0}
 HasActs (Call name arguments) = ⊥
 HasActs (Report content) = ⊥
+
+-- whether an instance of this path and key text was listed
+abbrev pub was_listed : History → (path text : List ℕ) → Bool
+was_listed [] path text = false
+was_listed (Listed instance status ∷ h) path text = elim (is_named path text instance) [ true ↦ true | false ↦ was_listed h path text ]
+was_listed (Begun p arguments ∷ h) path text = was_listed h path text
+was_listed (Set p name datum ∷ h) path text = was_listed h path text
+was_listed (Raised place class status source ∷ h) path text = was_listed h path text
+was_listed (Reached home promise guard sets visits ∷ h) path text = was_listed h path text
+was_listed (Told instance outcomes ∷ h) path text = was_listed h path text
 
 abbrev pub was_visited : History → Instance → Bool
 was_visited h instance = was_listed h instance.path instance.text
@@ -40,7 +49,7 @@ IsAfter (Listed instance status ∷ h) = λ later earlier. ((is_same later insta
 IsAfter (Begun path arguments ∷ h) = IsAfter h
 IsAfter (Set path name datum ∷ h) = IsAfter h
 IsAfter (Raised place class status source ∷ h) = IsAfter h
-IsAfter (Reached path promise guard sets visits ∷ h) = IsAfter h
+IsAfter (Reached home promise guard sets visits ∷ h) = IsAfter h
 IsAfter (Told instance outcomes ∷ h) = IsAfter h
 
 -- the status of the first visit, No where there is none
@@ -54,7 +63,7 @@ first_status (Listed other status ∷ h) instance =
 first_status (Begun path arguments ∷ h) instance = first_status h instance
 first_status (Set path name datum ∷ h) instance = first_status h instance
 first_status (Raised place class status source ∷ h) instance = first_status h instance
-first_status (Reached path promise guard sets visits ∷ h) instance = first_status h instance
+first_status (Reached home promise guard sets visits ∷ h) instance = first_status h instance
 first_status (Told other outcomes ∷ h) instance = first_status h instance
 
 -- none of these acts disturbs this one

@@ -1,7 +1,6 @@
 -- A run that ends without a failure lies within the open walk, where nothing is unsettled there: it visits and actuates only what the walk
 -- visits, in an order of the walk, and actuates what the walk visits for sure.
-use Rattle.std.specs.Prelude.{◌≡◌, ℕ, Bool, true, false, List, [], ◌∷◌}
-use Rattle.cfa_base.specs.declared.places.PromiseId.{PromiseId}
+use Rattle.std.specs.Prelude.{◌≡◌, Bool, true, false, List, [], ◌∷◌}
 use Rattle.cfa_classes.specs.declared.levels.Status.{Status}
 use Rattle.cfa_classes.specs.declared.levels.Status.TheVariants.{No, Maybe, Yes}
 use Rattle.cfa_outcomes.specs.declared.outcomes.Outcome.{Outcome}
@@ -9,17 +8,16 @@ use Rattle.cfa_outcomes.specs.declared.outcomes.Outcome.TheVariants.{Kept, Repai
 use Rattle.cfa_resolve.specs.declared.instances.Instance.{Instance}
 use Rattle.cfa_resolve.specs.declared.instances.Work.{Work}
 use Rattle.cfa_resolve.specs.declared.instances.Work.TheVariants.{Acts, Call, Report}
-use Rattle.cfa_schema.specs.Checked.{typed_promise_of}
 use Rattle.cfa_walk.specs.History.{History, Begun, Set, Raised, Reached, Listed, Told, mark_in}
+use Rattle.cfa_walk.specs.Numbered.{Numbered}
 use Rattle.cfa_walk.specs.Passes.{goes, run}
 use Rattle.cfa_walk.specs.Tellers.{open_walk}
-use Rattle.cfa_walk.specs.Views.{Setting}
+use Rattle.cfa_walk.specs.Views.{Setting, Home}
 use Rattle.cfa_walk.specs.Walks.{unsettled_edits}
 use Rattle.cfa_convergence.specs.Conflicts.{HasActs, was_visited, IsAfter}
-use Rattle.cfa_convergence.specs.Keys.{IsKeyed, InstancesAreKeyed}
+use Rattle.cfa_laws.specs.Keys.{IsKeyed}
 use Rattle.cfa_convergence.specs.Lasting.{IsAmong, Follow}
 use Rattle.cfa_convergence.specs.Policies.{HasKnown}
-use Rattle.cfa_convergence.specs.Statuses.{RaisesLieTogether, InstancesAreSame}
 use Rattle.cfa_convergence.specs.Told.{Telling, teller_of}
 
 -- ---- runs without failures
@@ -47,7 +45,7 @@ actuations (Told instance (outcome ∷ others) ∷ h) = with_acts instance.work 
 actuations (Begun path arguments ∷ h) = actuations h
 actuations (Set path name datum ∷ h) = actuations h
 actuations (Raised place class status source ∷ h) = actuations h
-actuations (Reached path promise guard sets visits ∷ h) = actuations h
+actuations (Reached home promise guard sets visits ∷ h) = actuations h
 actuations (Listed instance status ∷ h) = actuations h
 
 -- ---- settled walks
@@ -58,14 +56,14 @@ GuardIsSettled Maybe true = ⊥
 GuardIsSettled _ _ = Unit {0}
 
 -- so have the promises of its edit bundle, where it is walked
-abbrev pub EditsAreSettled : Setting → History → (path : List ℕ) → PromiseId → (guard : Status) → Type 0
-EditsAreSettled s h path id No = Unit {0}
-EditsAreSettled s h path id Maybe = unsettled_edits s h (record { path = path; bundle = id.bundle }) id (typed_promise_of s.policy id) ≡ []
-EditsAreSettled s h path id Yes = unsettled_edits s h (record { path = path; bundle = id.bundle }) id (typed_promise_of s.policy id) ≡ []
+abbrev pub EditsAreSettled : Setting → History → Home → Numbered → (guard : Status) → Type 0
+EditsAreSettled s h home promise No = Unit {0}
+EditsAreSettled s h home promise Maybe = unsettled_edits s h home promise ≡ []
+EditsAreSettled s h home promise Yes = unsettled_edits s h home promise ≡ []
 
 abbrev pub IsSettled : Setting → History → Type 0
 IsSettled s [] = Unit {0}
-IsSettled s (Reached path id guard sets visits ∷ h) = GuardIsSettled guard sets × EditsAreSettled s h path id guard × IsSettled s h
+IsSettled s (Reached home promise guard sets visits ∷ h) = GuardIsSettled guard sets × EditsAreSettled s h home promise guard × IsSettled s h
 IsSettled s (Begun path arguments ∷ h) = IsSettled s h
 IsSettled s (Set path name datum ∷ h) = IsSettled s h
 IsSettled s (Raised place class status source ∷ h) = IsSettled s h
@@ -84,10 +82,8 @@ pub record LiesWithin (run walk : History) : Type 0 where
   -- what is visited for sure is actuated
   pub sure : (i : Instance) → IsKeyed i → HasActs i.work → mark_in walk i.path i.text ≡ Yes → IsAmong i (actuations run)
 
--- the laws on classes, resolution and key texts are known, and the promises of the policy are found by their ids
 abbrev pub UnfailingRunsAreContained : Type 0
 UnfailingRunsAreContained =
-    RaisesLieTogether → InstancesAreSame → InstancesAreKeyed →
     (s : Setting) (repairs : History → Instance → Bool) (run_end walk_end : History) → HasKnown s.policy →
     run s (teller_of (unfailing repairs)) ≡ goes run_end → run s open_walk ≡ goes walk_end → IsSettled s walk_end →
     LiesWithin run_end walk_end

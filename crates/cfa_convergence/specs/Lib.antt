@@ -3,8 +3,8 @@ pub mod Contained
 pub mod Keys
 pub mod Lasting
 pub mod Policies
+pub mod Settled
 pub mod Settling
 pub mod Sources
-pub mod Statuses
 pub mod Told
 pub mod Verdicts

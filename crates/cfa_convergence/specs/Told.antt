@@ -26,7 +26,7 @@ TellAlike tells others (Told instance outcomes ∷ h) = (tells h instance ≡ ot
 TellAlike tells others (Begun path arguments ∷ h) = TellAlike tells others h
 TellAlike tells others (Set path name datum ∷ h) = TellAlike tells others h
 TellAlike tells others (Raised place class status source ∷ h) = TellAlike tells others h
-TellAlike tells others (Reached path promise guard sets visits ∷ h) = TellAlike tells others h
+TellAlike tells others (Reached home promise guard sets visits ∷ h) = TellAlike tells others h
 TellAlike tells others (Listed instance status ∷ h) = TellAlike tells others h
 
 abbrev pub RunsAreDetermined : Type 0
@@ -47,7 +47,7 @@ IsToldBy tells (Told instance outcomes ∷ h) = (outcomes ≡ outcomes_by tells 
 IsToldBy tells (Begun path arguments ∷ h) = IsToldBy tells h
 IsToldBy tells (Set path name datum ∷ h) = IsToldBy tells h
 IsToldBy tells (Raised place class status source ∷ h) = IsToldBy tells h
-IsToldBy tells (Reached path promise guard sets visits ∷ h) = IsToldBy tells h
+IsToldBy tells (Reached home promise guard sets visits ∷ h) = IsToldBy tells h
 IsToldBy tells (Listed instance status ∷ h) = IsToldBy tells h
 
 abbrev pub RunsAreTold : Type 0

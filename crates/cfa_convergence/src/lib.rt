@@ -4,6 +4,8 @@
 mod containment;
 mod keys;
 mod lasting;
+mod policies;
+mod running;
 mod runs;
 mod settling;
 mod sources;
@@ -12,6 +14,8 @@ mod verdicts;
 pub use containment::unfailing_runs_are_contained;
 pub use keys::keys_tell_works;
 pub use lasting::posts_last;
+pub use policies::checked_policies_are_known;
+pub use running::run;
 pub use runs::{runs_are_determined, runs_are_told};
 pub use settling::free_runs_settle;
 pub use sources::unlisted_are_settled;

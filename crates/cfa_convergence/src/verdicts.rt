@@ -1,30 +1,35 @@
 // What an accepted policy does.
+ghost use Rattle.cfa_schema.specs.Seen.{tree_of};
 ghost use Rattle.cfa_convergence.specs.Verdicts.{AcceptedAreFree, AcceptedRunsSettle};
 
 use crate::keys::keys_tell_works;
-use cfa_acts::{
-    kept_where_post_holds, needed_change_fits, needed_change_keeps_post, needed_change_makes_post,
+use crate::policies::checked_policies_are_known;
+use crate::settling::free_runs_settle;
+use cfa_laws::{
+    instances_are_keyed, instances_are_same, keys_are_lines, raises_have_first,
+    raises_lie_together, unsettled_are_maybe,
 };
-use cfa_outside::keeps_parents;
-use cfa_resolve::instances_are_named;
+use cfa_schema::Checked;
 
-/// Where the verdict on a policy is that it is accepted, its walks are free of conflicts.
-pub fn accepted_are_free()
-    ensures { AcceptedAreFree }
+/// Where the analysis of a policy answers that it is accepted, its walks are free of conflicts.
+pub fn accepted_are_free(checked: &Checked)
+    ensures { AcceptedAreFree (tree_of checked.now) }
 {
+    checked_policies_are_known(checked);
     keys_tell_works();
-    instances_are_named();
+    raises_lie_together();
+    raises_have_first();
+    instances_are_same();
+    unsettled_are_maybe();
+    instances_are_keyed();
+    keys_are_lines();
 }
 
-/// Where a policy is accepted, a run that ends with no instance failed leaves a world on which a rerun adds nothing to the log.
-pub fn accepted_runs_settle()
-    ensures { AcceptedRunsSettle }
+/// Where a policy is accepted, a run without locks that ends with no instance failed leaves a world on which the policy settles.
+pub fn accepted_runs_settle(checked: &Checked)
+    ensures { AcceptedRunsSettle (tree_of checked.now) }
 {
-    keys_tell_works();
-    instances_are_named();
-    kept_where_post_holds();
-    needed_change_fits();
-    needed_change_makes_post();
-    needed_change_keeps_post();
-    keeps_parents();
+    checked_policies_are_known(checked);
+    accepted_are_free(checked);
+    free_runs_settle();
 }

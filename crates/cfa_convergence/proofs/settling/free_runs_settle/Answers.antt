@@ -9,4 +9,4 @@ returns c =
       makes = c.needed_change_makes_post.ensures;
       keeps = c.needed_change_keeps_post.ensures;
       parents = c.keeps_parents.ensures.change;
-    }) c.keys_tell_works.ensures
+    }) c.keys_tell_works.ensures c.raises_lie_together.ensures c.instances_are_same.ensures c.instances_are_keyed.ensures

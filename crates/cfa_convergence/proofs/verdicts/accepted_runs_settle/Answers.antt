@@ -1,12 +1,6 @@
-use Rattle.cfa_convergence.proofs.VerdictLemmas.{accepted_runs_settle}
+use Rattle.cfa_schema.specs.Seen.{tree_of}
+use Rattle.cfa_convergence.proofs.VerdictLemmas.{accepted_settle}
 use Rattle.cfa_convergence.proofs.verdicts.accepted_runs_settle.Goals as goal
 
 pub returns : goal.returns
-returns c =
-    accepted_runs_settle (record {
-      kept = c.kept_where_post_holds.ensures;
-      fits = c.needed_change_fits.ensures;
-      makes = c.needed_change_makes_post.ensures;
-      keeps = c.needed_change_keeps_post.ensures;
-      parents = c.keeps_parents.ensures.change;
-    }) c.keys_tell_works.ensures c.instances_are_named.ensures
+returns c = accepted_settle (tree_of c.args.checked.now) c.checked_policies_are_known.ensures c.accepted_are_free.ensures c.free_runs_settle.ensures

@@ -1,0 +1,391 @@
+-- A policy that was checked is known: the names of its bundles are words, and a value of `usebundle` names a bundle that is there.
+use Rattle.std.proofs.Common.{◌≡◌, ◌≢◌, ◌∙◌, ℕ, ◌+◌, ◌<◌, ◌≤◌, ◌^◌, Bool, true, false, List, [], ◌∷◌, ◌++◌, length, map, codes, All, Option, Some, None, inl, refl, ap, sym, subst, arith}
+use Rattle.std.specs.Prelude.{IsTrue, find, if◌then◌else◌, ◌||◌}
+use Rattle.std.specs.List.{AllByRecursion as Each, Contains, cons_option, filter_map, flat_map, list_all}
+use Rattle.std.specs.Str.{bytes_eq}
+use Rattle.std.proofs.Math.Bool.{Bool-set}
+use Rattle.std.proofs.Math.Bridge.{le_prop}
+use Rattle.std.proofs.lemmas.Bool.{false≢true, and_parts}
+use Rattle.std.proofs.lemmas.List.{map-append}
+use Rattle.std.proofs.lemmas.List.Elements.{All-append, All-cons, All-contains, All-contains_itself, All-head, All-nil, All-tail, All-weaker, Contains-append_left, Contains-append_right}
+use Rattle.std.proofs.lemmas.Option.{none-some, same_Some}
+use Rattle.std.proofs.lemmas.Slice.Eq.{bytes_eq-Decides}
+use Rattle.cfa_base.specs.declared.limits.TheConstants.{MOST_SOURCE_BYTES}
+use Rattle.cfa_base.specs.declared.places.Place.{Place}
+use Rattle.cfa_base.specs.declared.places.PromiseId.{PromiseId}
+use Rattle.cfa_base.specs.Lexing.{is_word_byte}
+use Rattle.cfa_bodies.specs.Bodies.{name_given}
+use Rattle.cfa_tree.specs.Tree.{ValueTree, text, word, reference, list_reference, list, call, AttributeTree, PromiseTree, SectionTree, NamedTree, BlockTree, bundle, body, PolicyTree}
+use Rattle.cfa_kinds.specs.declared.kinds.BundleType.{BundleType}
+use Rattle.cfa_kinds.specs.declared.kinds.PromiseType.{PromiseType}
+use Rattle.cfa_kinds.specs.declared.kinds.PromiseType.TheVariants as promises
+use Rattle.cfa_kinds.specs.declared.kinds.Kind.{Kind}
+use Rattle.cfa_kinds.specs.declared.kinds.Kind.TheVariants as kinds
+use Rattle.cfa_kinds.specs.Kinds.{bundle_type, is_foreign_bundle_type, promise_type, promise_attribute, shared_attribute, vars_attribute, classes_attribute, outcome_attribute, files_attribute, methods_attribute, services_attribute, field_edits_attribute, insert_lines_attribute, replace_patterns_attribute}
+use Rattle.cfa_laws.specs.Keys.{IsPlain, IsPlainId, HasPlainCall}
+use Rattle.cfa_values.specs.Attributes.{value_of, attribute_by, attribute_refusals}
+use Rattle.cfa_values.specs.Definitions.{BundleHead, bundle_named}
+use Rattle.cfa_values.specs.Scope.{in_bundle}
+use Rattle.cfa_values.specs.Values.{Setting, is_known, value_count, text_scope, named_by_text, method_refusals, repeated}
+use Rattle.cfa_schema.specs.Checked.{promises_of, worded_promises_of, ids_from, ids_in_block, promise_ids_of}
+use Rattle.cfa_schema.specs.Control.{control_of, sequence_of}
+use Rattle.cfa_schema.specs.Defined.{bundle_head, definitions_of}
+use Rattle.cfa_schema.specs.Laws.{Stands, in_promise, by_word, by_call, NamesBundle, by_name, by_text, NothingIsRefused, AgentBundleIsThere, IsWord, HasWordName, WordsLackNewlines, NamesAreWords, NamedBundleStands, CommonBundlesStand, CommonNamesAreWords, SequenceNamesAreWords, IsCounted, IdsAreCounted}
+use Rattle.cfa_schema.specs.Served.{common_bundles_of}
+use Rattle.cfa_schema.specs.Sourced.{IsSourced}
+use Rattle.cfa_schema.specs.Valid.{Valid, refusals, repeated_bodies_after, body_name, bundle_name, default_refusals, block_refusals, bundle_by, other_type}
+use Rattle.cfa_walk.specs.Levels.{HasPlainNames}
+use Rattle.cfa_walk.specs.Numbered.{Numbered, numbered_as, numbered_from, numbered_in, name_of}
+use Rattle.cfa_walk.specs.Views.{is_listed, joined_once, shared_names}
+use Rattle.cfa_convergence.specs.Policies.{IsKnown, IsKnownCommon, HasKnown}
+use Rattle.cfa_convergence.proofs.PlaceLemmas.{none_left, none_right}
+
+-- ---- lists
+
+first_here : {X : Type 0} (x : X) (xs : List X) → Contains (x ∷ xs) x
+first_here x xs = All-head (Contains (x ∷ xs)) x xs (All-contains_itself (x ∷ xs))
+
+behind_one : {X : Type 0} (x : X) (xs : List X) (y : X) → Contains xs y → Contains (x ∷ xs) y
+behind_one x xs y has = Contains-append_right (x ∷ []) xs y has
+
+each_both : {X : Type 0} (P : X → Type 0) (xs ys : List X) → Each P xs → Each P ys → Each P (xs ++ ys)
+each_both P [] ys p q = q
+each_both P (x ∷ xs) ys p q = (p.0, each_both P xs ys p.1 q)
+
+all_left : {X : Type 0} (P : X → Type 0) (xs ys : List X) → All P (xs ++ ys) → All P xs
+all_left P xs ys all = All-weaker (Contains xs) P (λ x on. All-contains P (xs ++ ys) x all (Contains-append_left xs ys x on)) xs (All-contains_itself xs)
+
+all_right : {X : Type 0} (P : X → Type 0) (xs ys : List X) → All P (xs ++ ys) → All P ys
+all_right P xs ys all = All-weaker (Contains ys) P (λ x on. All-contains P (xs ++ ys) x all (Contains-append_right xs ys x on)) ys (All-contains_itself ys)
+
+none_in : {X : Type 0} → (xs : List X) → ((x : X) → Contains xs x → ⊥) → xs ≡ []
+none_in [] h = refl
+none_in (x ∷ xs) h = absurd (h x (first_here x xs))
+
+each_empty : {X Y : Type 0} (f : X → List Y) (xs : List X) (x : X) → flat_map f xs ≡ [] → Contains xs x → f x ≡ []
+each_empty f xs x e has = All-contains (λ y. f y ≡ []) xs x (go xs e) has
+  where
+    go : (ys : List _) → flat_map f ys ≡ [] → All (λ y. f y ≡ []) ys
+    go [] e' = All-nil (λ y. f y ≡ [])
+    go (y ∷ ys) e' = All-cons (λ y. f y ≡ []) y ys (none_left (f y) (flat_map f ys) e') (go ys (none_right (f y) (flat_map f ys) e'))
+
+-- ---- words
+
+word_bytes : (bytes : List ℕ) → list_all is_word_byte bytes ≡ true → All (λ b. IsTrue (is_word_byte b)) bytes
+word_bytes [] h = All-nil (λ b. IsTrue (is_word_byte b))
+word_bytes (b ∷ bs) h =
+    let parts = and_parts (is_word_byte b) (list_all is_word_byte bs) h in
+    All-cons (λ b. IsTrue (is_word_byte b)) b bs parts.0 (word_bytes bs parts.1)
+
+-- a word lacks the bytes that are in none
+word_lacks : (c : ℕ) → is_word_byte c ≡ false → (name : List ℕ) → IsWord name → All (λ (byte : ℕ). byte ≢ c) name
+word_lacks c none [] is = All-nil (λ (byte : ℕ). byte ≢ c)
+word_lacks c none (b ∷ bs) is =
+    All-weaker (λ b. IsTrue (is_word_byte b)) (λ (byte : ℕ). byte ≢ c) (λ x on same. false≢true (sym none ∙ subst (λ y. IsTrue (is_word_byte y)) same on)) (b ∷ bs) (word_bytes (b ∷ bs) is)
+
+plain_word : (name : List ℕ) → IsWord name → IsPlain name
+plain_word name is = record { no_semicolon = word_lacks 59 refl name is; no_newline = word_lacks 10 refl name is }
+
+-- ---- shared scopes
+
+joined_by : (b : Bool) (names : List (List ℕ)) (name : List ℕ) → All IsWord names → IsWord name → All IsWord (if b then names else names ++ name ∷ [])
+joined_by true names name words is = words
+joined_by false names name words is = All-append IsWord names (name ∷ []) words (All-cons IsWord name [] is (All-nil IsWord))
+
+joined_words : (names more : List (List ℕ)) → All IsWord names → All IsWord more → All IsWord (joined_once names more)
+joined_words names [] words rest = words
+joined_words names (name ∷ more) words rest =
+    joined_words (if is_listed names name then names else names ++ name ∷ []) more
+    (joined_by (is_listed names name) names name words (All-head IsWord name more rest)) (All-tail IsWord name more rest)
+
+named_words : (blocks : List BlockTree) → All HasWordName blocks → All IsWord (map name_of blocks)
+named_words [] words = All-nil IsWord
+named_words (bundle type_name named params sections place ∷ blocks) words =
+    All-cons IsWord named.name (map name_of blocks) (All-head HasWordName _ blocks words) (named_words blocks (All-tail HasWordName _ blocks words))
+named_words (body type_name named params attributes place ∷ blocks) words =
+    All-cons IsWord named.name (map name_of blocks) (All-head HasWordName _ blocks words) (named_words blocks (All-tail HasWordName _ blocks words))
+
+lacks_by : (b rest : Bool) → (b ≡ true → ⊥) → rest ≡ false → (b || rest) ≡ false
+lacks_by true rest never more = absurd (never refl)
+lacks_by false rest never more = more
+
+not_listed : WordsLackNewlines → (names : List (List ℕ)) (path : List ℕ) → All IsWord names → Contains path 10 → is_listed names path ≡ false
+not_listed lack [] path words newline = refl
+not_listed lack (name ∷ names) path words newline =
+    lacks_by (bytes_eq name path) (is_listed names path)
+    (λ same. lack name (All-head IsWord name names words) (subst (λ (p : List ℕ). Contains p 10) (sym ((bytes_eq-Decides name path).0 same)) newline))
+    (not_listed lack names path (All-tail IsWord name names words) newline)
+
+plain_names : (policy : PolicyTree) → WordsLackNewlines → CommonNamesAreWords → SequenceNamesAreWords → Valid policy → IsSourced policy → HasPlainNames policy
+unfolding shared_names
+plain_names policy lack common sequence valid sourced = λ path newline.
+    not_listed lack (joined_once [] (map name_of (common_bundles_of policy) ++ sequence_of policy)) path
+    (joined_words [] (map name_of (common_bundles_of policy) ++ sequence_of policy) (All-nil IsWord)
+    (All-append IsWord (map name_of (common_bundles_of policy)) (sequence_of policy)
+    (named_words (common_bundles_of policy) (common policy sourced)) (sequence policy valid sourced))) newline
+
+-- ---- bundles that are named
+
+record IsFound {X : Type 0} (test : X → Bool) (xs : List X) (x : X) : Type 0 where
+  passes : test x ≡ true
+  there : Contains xs x
+
+module _ {X : Type 0} (test : X → Bool) where
+  found_by : (x : X) (xs : List X) (y : X) (b : Bool) → test x ≡ b → (if b then Some x else find test xs) ≡ Some y → (find test xs ≡ Some y → IsFound test xs y) →
+      IsFound test (x ∷ xs) y
+  found_by x xs y true is e later = subst (IsFound test (x ∷ xs)) (same_Some x y e) (record { passes = is; there = first_here x xs })
+  found_by x xs y false is e later =
+      let more = later e in
+      record { passes = more.passes; there = behind_one x xs y more.there }
+
+  found : (xs : List X) (y : X) → find test xs ≡ Some y → IsFound test xs y
+  found [] y e = absurd (none-some y e)
+  found (x ∷ xs) y e = found_by x xs y (test x) refl e (found xs y)
+
+abbrev HasWordHead : BundleHead → Type 0
+HasWordHead b = IsWord b.name
+
+abbrev IsWordBlock : BlockTree → Type 0
+IsWordBlock (bundle type_name name params sections place) = IsWord name.name
+IsWordBlock (body type_name name params attributes place) = Unit {0}
+
+words_in : (policy : PolicyTree) → NamesAreWords → IsSourced policy → All IsWordBlock policy
+words_in policy words sourced = All-weaker (Contains policy) IsWordBlock one policy (All-contains_itself policy)
+  where
+    one : (block : BlockTree) → Contains policy block → IsWordBlock block
+    one (bundle type_name name params sections place) has = words policy type_name name params sections place sourced has
+    one (body type_name name params attributes place) has = tt
+
+heads_are_words : (blocks : List BlockTree) → All IsWordBlock blocks → All HasWordHead (filter_map bundle_head blocks)
+heads_are_words [] h = All-nil HasWordHead
+heads_are_words (bundle type_name name params sections place ∷ rest) h =
+    All-cons HasWordHead (record { type = bundle_type type_name.name; name = name.name; params = length params; place = name.place }) (filter_map bundle_head rest)
+    (All-head IsWordBlock (bundle type_name name params sections place) rest h)
+    (heads_are_words rest (All-tail IsWordBlock (bundle type_name name params sections place) rest h))
+heads_are_words (body type_name name params attributes place ∷ rest) h =
+    heads_are_words rest (All-tail IsWordBlock (body type_name name params attributes place) rest h)
+
+named_is_word : (policy : PolicyTree) → NamesAreWords → IsSourced policy → (name : List ℕ) (b : BundleHead) → bundle_named (definitions_of policy) name ≡ Some b → IsWord name
+unfolding definitions_of
+named_is_word policy words sourced name b e =
+    let there = found (λ (other : BundleHead). bytes_eq name other.name) (filter_map bundle_head policy) b e in
+    subst IsWord (sym ((bytes_eq-Decides name b.name).0 there.passes)) (All-contains HasWordHead (filter_map bundle_head policy) b (heads_are_words policy (words_in policy words sourced)) there.there)
+
+-- ---- values of `usebundle`
+
+record IsGiven (name : List ℕ) (attributes : List AttributeTree) (value : ValueTree) : Type 0 where
+  a : AttributeTree
+  is_attribute : Contains attributes a
+  named : a.name ≡ name
+  valued : a.value ≡ value
+
+given_by : (name : List ℕ) (a : AttributeTree) (rest : List AttributeTree) (value : ValueTree) (b : Bool) → bytes_eq a.name name ≡ b → (if b then Some a.value else value_of name rest) ≡ Some value →
+    (value_of name rest ≡ Some value → IsGiven name rest value) → IsGiven name (a ∷ rest) value
+given_by name a rest value true is e later =
+    record { a = a; is_attribute = first_here a rest; named = (bytes_eq-Decides a.name name).0 is; valued = same_Some a.value value e }
+given_by name a rest value false is e later =
+    let more = later e in
+    record { a = more.a; is_attribute = behind_one a rest more.a more.is_attribute; named = more.named; valued = more.valued }
+
+given : (name : List ℕ) (attributes : List AttributeTree) (value : ValueTree) → value_of name attributes ≡ Some value → IsGiven name attributes value
+given name [] value e = absurd (none-some value e)
+given name (a ∷ rest) value e = given_by name a rest value (bytes_eq a.name name) refl e (given name rest value)
+
+-- methods promises alone have it
+kind_of_call : PromiseType → Option Kind
+kind_of_call promises.Methods = Some kinds.AgentBundle
+kind_of_call type = None
+
+call_kind : (type : PromiseType) → promise_attribute type (codes "usebundle") ≡ kind_of_call type
+unfolding kind_of_call shared_attribute vars_attribute classes_attribute outcome_attribute files_attribute methods_attribute services_attribute field_edits_attribute insert_lines_attribute replace_patterns_attribute
+call_kind promises.Vars = refl
+call_kind promises.Classes = refl
+call_kind promises.Files = refl
+call_kind promises.Methods = refl
+call_kind promises.Services = refl
+call_kind promises.Reports = refl
+call_kind promises.DeleteLines = refl
+call_kind promises.FieldEdits = refl
+call_kind promises.InsertLines = refl
+call_kind promises.ReplacePatterns = refl
+
+in_methods : (s : Setting) (a : AttributeTree) (type : PromiseType) → attribute_by s a (kind_of_call type) ≡ [] → kind_of_call type ≡ Some kinds.AgentBundle
+unfolding kind_of_call
+in_methods s a promises.Methods e = refl
+in_methods s a type e = absurd (cc)
+
+text_known : (s : Setting) (content : List ℕ) (place : Place) (b : Bool) → is_known content ≡ b → named_by_text b s content place ≡ [] → IsTrue (is_known content)
+text_known s content place true is e = is
+text_known s content place false is e = absurd (cc)
+
+module _ (policy : PolicyTree) (valid : Valid policy) (sourced : IsSourced policy) (words : NamesAreWords) (nothing : NothingIsRefused) (agent : AgentBundleIsThere) where
+  plain_value : (s : Setting) (table : List ℕ → Option Kind) (a : AttributeTree) → s.definitions ≡ definitions_of policy → Stands policy s table a → table a.name ≡ Some kinds.AgentBundle → method_refusals s a.value ≡ [] →
+      (value : ValueTree) → a.value ≡ value → All (λ (byte : ℕ). byte ≢ 10) (name_given value)
+  plain_value s table a defined stands kind none value is = by_value value is
+    where
+      there : (name : List ℕ) (count : ℕ) → NamesBundle a.value name count → All (λ (byte : ℕ). byte ≢ 10) name
+      there name count names =
+          let head = agent policy s table a name count valid stands kind names in
+          word_lacks 10 refl name (named_is_word policy words sourced name head.0 (ap (λ d. bundle_named d name) (sym defined) ∙ head.1))
+
+      by_value : (value : ValueTree) → a.value ≡ value → All (λ (byte : ℕ). byte ≢ 10) (name_given value)
+      by_value (text content place) e =
+          let refused : method_refusals s (text content place) ≡ [] = ap (method_refusals s) (sym e) ∙ none in
+          let known = text_known s content place (is_known content) refl (none_left (named_by_text (is_known content) s content place) (text_scope s content place) refused) in
+          there content 0 (subst (λ v. NamesBundle v content 0) (sym e) (by_text known))
+      by_value (word name place) e = there name 0 (subst (λ v. NamesBundle v name 0) (sym e) (by_name by_word))
+      by_value (call name arguments place) e = there name (value_count arguments) (subst (λ v. NamesBundle v name (value_count arguments)) (sym e) (by_name by_call))
+      by_value (reference name place) e = All-nil (λ (byte : ℕ). byte ≢ 10)
+      by_value (list_reference name place) e = All-nil (λ (byte : ℕ). byte ≢ 10)
+      by_value (list items place) e = All-nil (λ (byte : ℕ). byte ≢ 10)
+
+  -- ---- promises
+
+  -- a bundle of a valid policy has a type of the profile
+  block_passes : (block : BlockTree) → Contains policy block → block_refusals (definitions_of policy) block ≡ []
+  unfolding refusals
+  block_passes block has =
+      let names = repeated (filter_map bundle_name policy) in
+      let others = repeated_bodies_after [] (filter_map body_name policy) in
+      let default = default_refusals (definitions_of policy) (value_of (codes "bundlesequence") (control_of policy)) in
+      let blocks = flat_map (block_refusals (definitions_of policy)) policy in
+      let none : (names ++ (others ++ (default ++ blocks))) ≡ [] = none_in (refusals policy) (λ r c. valid.none_applies r (inl c)) in
+      each_empty (block_refusals (definitions_of policy)) policy block
+      (none_right default blocks (none_right others (default ++ blocks) (none_right names (others ++ (default ++ blocks)) none))) has
+
+  type_given : (s : Setting) (type_name : NamedTree) (sections : List SectionTree) (type : Option BundleType) → bundle_by s type_name sections type ≡ [] → (within : BundleType) × (type ≡ Some within)
+  type_given s type_name sections None e = absurd (refused (is_foreign_bundle_type type_name.name) e)
+    where
+      refused : (b : Bool) → other_type b type_name.place ≡ [] → ⊥
+      refused true f = cc
+      refused false f = cc
+  type_given s type_name sections (Some within) e = (within, refl)
+
+  module _ (type_name name : NamedTree) (params : List NamedTree) (sections : List SectionTree) (place : Place) (has : Contains policy (bundle type_name name params sections place)) where
+    abbrev s : Setting
+    s = record { definitions = definitions_of policy; home = in_bundle name.name }
+
+    typed : (within : BundleType) × (bundle_type type_name.name ≡ Some within)
+    typed =
+        type_given s type_name sections (bundle_type type_name.name)
+        (none_right (repeated params) (bundle_by s type_name sections (bundle_type type_name.name)) (block_passes (bundle type_name name params sections place) has))
+
+    abbrev IsFit : List ℕ × PromiseTree → Type 0
+    IsFit x = (type : PromiseType) → promise_type x.0 ≡ Some type → HasPlainCall x.1
+
+    fits : (section : SectionTree) → Contains sections section → (p : PromiseTree) → Contains section.promises p → IsFit (section.kind, p)
+    fits section is_section p is_promise type is value e =
+        let g = given (codes "usebundle") p.attributes value e in
+        let stands : Stands policy s (promise_attribute type) g.a =
+        in_promise (record { params = params; sections = sections; place = place; section = section; within = typed.0; is_block = has; is_section = is_section; is_promise = is_promise; bundle_is = typed.1; type_is = is }) g.is_attribute in
+        let none : attribute_refusals s (promise_attribute type) g.a ≡ [] = nothing policy s (promise_attribute type) g.a valid stands in
+        let kind : promise_attribute type g.a.name ≡ kind_of_call type = ap (promise_attribute type) g.named ∙ call_kind type in
+        let agents : kind_of_call type ≡ Some kinds.AgentBundle = in_methods s g.a type (ap (attribute_by s g.a) (sym kind) ∙ none) in
+        plain_value s (promise_attribute type) g.a refl stands (kind ∙ agents) (ap (attribute_by s g.a) (sym (kind ∙ agents)) ∙ none) value g.valued
+
+    one_section : (P : List ℕ × PromiseTree → Type 0) (kind : List ℕ) (ps : List PromiseTree) → ((p : PromiseTree) → Contains ps p → P (kind, p)) → Each P (map (λ p. (kind, p)) ps)
+    one_section P kind [] f = tt
+    one_section P kind (p ∷ ps) f = (f p (first_here p ps), one_section P kind ps (λ q on. f q (behind_one p ps q on)))
+
+    all_sections : (P : List ℕ × PromiseTree → Type 0) (those : List SectionTree) → ((section : SectionTree) → Contains those section → (p : PromiseTree) → Contains section.promises p → P (section.kind, p)) →
+        Each P (flat_map worded_promises_of those)
+    all_sections P [] f = tt
+    all_sections P (section ∷ those) f =
+        each_both P (worded_promises_of section) (flat_map worded_promises_of those) (one_section P section.kind section.promises (λ p on. f section (first_here section those) p on))
+        (all_sections P those (λ other there p on. f other (behind_one section those other there) p on))
+
+    all_fit : Each IsFit (flat_map worded_promises_of sections)
+    all_fit = all_sections IsFit sections fits
+
+    -- ---- ids
+
+    plain_id : (id : PromiseId) → IsCounted id → IsPlainId id
+    plain_id id counted = record { bundle = plain_word id.bundle counted.bundle; number = few id.number counted.number_fits }
+      where
+        few : (n : ℕ) → n ≤ MOST_SOURCE_BYTES → n < 2 ^ 64
+        few n fit = omega (arith, fit)
+
+    abbrev second : List ℕ × PromiseTree → PromiseTree
+    second x = x.1
+
+    seconds_with : (kind : List ℕ) (ps : List PromiseTree) → map second (map (λ p. (kind, p)) ps) ≡ ps
+    seconds_with kind [] = refl
+    seconds_with kind (p ∷ ps) = ap (λ rest. p ∷ rest) (seconds_with kind ps)
+
+    seconds_in : (those : List SectionTree) → map second (flat_map worded_promises_of those) ≡ flat_map promises_of those
+    seconds_in [] = refl
+    seconds_in (section ∷ those) =
+        map-append second (worded_promises_of section) (flat_map worded_promises_of those)
+        ∙ ap (λ ps. ps ++ map second (flat_map worded_promises_of those)) (seconds_with section.kind section.promises)
+        ∙ ap (λ rest. section.promises ++ rest) (seconds_in those)
+
+    known_with : (number : ℕ) (x : List ℕ × PromiseTree) (type : Option PromiseType) → promise_type x.0 ≡ type → (rest : List Numbered) →
+        IsCounted (record { bundle = name.name; number = number; line = x.1.place.line }) → IsFit x → Each IsKnown rest → Each IsKnown (cons_option (numbered_as name.name number x.1 type) rest)
+    known_with number x None is rest counted fit known = known
+    known_with number x (Some type) is rest counted fit known =
+        (record { plain = plain_id (record { bundle = name.name; number = number; line = x.1.place.line }) counted; calls = fit type is }, known)
+
+    known_from : (number : ℕ) (ps : List (List ℕ × PromiseTree)) → All IsCounted (ids_from name.name number (map second ps)) → Each IsFit ps → Each IsKnown (numbered_from name.name number ps)
+    known_from number [] counted fit = tt
+    known_from number (x ∷ ps) counted fit =
+        known_with number x (promise_type x.0) refl (numbered_from name.name (number + 1) ps)
+        (All-head IsCounted _ (ids_from name.name (number + 1) (map second ps)) counted) fit.0
+        (known_from (number + 1) ps (All-tail IsCounted _ (ids_from name.name (number + 1) (map second ps)) counted) fit.1)
+
+    known_bundle : All IsCounted (ids_in_block (bundle type_name name params sections place)) → Each IsKnown (numbered_in (bundle type_name name params sections place))
+    known_bundle counted =
+        known_from 1 (flat_map worded_promises_of sections) (subst (λ ps. All IsCounted (ids_from name.name 1 ps)) (sym (seconds_in sections)) counted) all_fit
+
+  known_block : (block : BlockTree) → Contains policy block → All IsCounted (ids_in_block block) → Each IsKnown (numbered_in block)
+  known_block (bundle type_name name params sections place) has counted = known_bundle type_name name params sections place has counted
+  known_block (body type_name name params attributes place) has counted = tt
+
+  abbrev IsCountedBlock : BlockTree → Type 0
+  IsCountedBlock block = All IsCounted (ids_in_block block)
+
+  each_counted : (blocks : List BlockTree) → All IsCounted (flat_map ids_in_block blocks) → All IsCountedBlock blocks
+  each_counted [] counted = All-nil IsCountedBlock
+  each_counted (block ∷ blocks) counted =
+      All-cons IsCountedBlock block blocks (all_left IsCounted (ids_in_block block) (flat_map ids_in_block blocks) counted)
+      (each_counted blocks (all_right IsCounted (ids_in_block block) (flat_map ids_in_block blocks) counted))
+
+  known_there : IdsAreCounted → (block : BlockTree) → Contains policy block → Each IsKnown (numbered_in block)
+  unfolding promise_ids_of
+  known_there ids block has = known_block block has (All-contains IsCountedBlock policy block (each_counted policy (ids policy sourced)) has)
+
+  common_known : IdsAreCounted → WordsLackNewlines → (blocks : List BlockTree) → All (Contains policy) blocks → All HasWordName blocks → Each IsKnownCommon blocks
+  common_known ids lack [] there named = tt
+  common_known ids lack (block ∷ blocks) there named = (
+    record { name = lack (name_of block) (word_name block (All-head HasWordName block blocks named)); promises = known_there ids block (All-head (Contains policy) block blocks there) },
+    common_known ids lack blocks (All-tail (Contains policy) block blocks there) (All-tail HasWordName block blocks named),
+  )
+    where
+      word_name : (b : BlockTree) → HasWordName b → IsWord (name_of b)
+      word_name (bundle type_name name params sections place) is = is
+      word_name (body type_name name params attributes place) is = is
+
+  pub known_policy : NamedBundleStands → CommonBundlesStand → WordsLackNewlines → CommonNamesAreWords → SequenceNamesAreWords → IdsAreCounted → HasKnown policy
+  known_policy stand commons lack common sequence ids = record {
+    bundles = λ name block found. known_there ids block (stand policy name block found);
+    commons = common_known ids lack (common_bundles_of policy) (commons policy) (common policy sourced);
+    shared = plain_names policy lack common sequence valid sourced;
+  }
+
+-- ---- these are propositions
+
+known_prop : (p : Numbered) → IsProp (IsKnown p)
+known_prop p = hlevel le_prop
+
+promises_prop : (ps : List Numbered) → IsProp (Each IsKnown ps)
+promises_prop [] = hlevel []
+promises_prop (p ∷ ps) = hlevel (known_prop p, promises_prop ps)
+
+common_prop : (block : BlockTree) → IsProp (IsKnownCommon block)
+common_prop block = hlevel (promises_prop (numbered_in block))
+
+commons_prop : (blocks : List BlockTree) → IsProp (Each IsKnownCommon blocks)
+commons_prop [] = hlevel []
+commons_prop (block ∷ blocks) = hlevel (common_prop block, commons_prop blocks)
+
+pub policy_prop : (policy : PolicyTree) → IsProp (HasKnown policy)
+policy_prop policy = hlevel (promises_prop, commons_prop (common_bundles_of policy), Bool-set)

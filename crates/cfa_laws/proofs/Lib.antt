@@ -1,0 +1,16 @@
+pub mod ListLemmas
+pub mod TextLemmas
+pub mod WithinLemmas
+pub mod SaidLemmas
+pub mod RaiseLemmas
+pub mod FirstLemmas
+pub mod WalkTypes
+pub mod GuardLemmas
+pub mod EditLemmas
+pub mod ResolvingLemmas
+pub mod OriginLemmas
+pub mod ScriptLemmas
+pub mod LineLemmas
+pub mod KeyLemmas
+pub mod GivenLemmas
+pub mod InstanceLemmas

@@ -1,0 +1,110 @@
+-- Texts of one line: fields, numbers, words and names, and what is joined of them.
+use Rattle.std.proofs.Common.{◌≡◌, ◌≢◌, ℕ, ◌+◌, ◌==◌, ◌<◌, ◌%◌, ◌^◌, ◌||◌, Bool, true, false, List, [], ◌∷◌, ◌++◌, map, cond, refl, sym, ap, ◌∙◌, arith}
+use Rattle.std.specs.Fmt.{decimal}
+use Rattle.std.specs.Prelude.{All, not}
+use Rattle.std.specs.List.{join_with_byte, flat_map, list_any}
+use Rattle.std.proofs.lemmas.Bool.{true≢false}
+use Rattle.std.proofs.lemmas.Bool.Decides.{nat_tests}
+use Rattle.std.proofs.lemmas.Fmt.{decimal_by_steps}
+use Rattle.std.proofs.lemmas.List.Elements.{All-nil, All-cons, All-head, All-tail, All-append, All-push}
+use Rattle.cfa_base.specs.Escapes.{escaped}
+use Rattle.cfa_base.specs.Lexing.{is_word_byte}
+use Rattle.cfa_base.specs.lemmas.Escapes.{escaped-avoids}
+use Rattle.cfa_edits.specs.Scripts.{IsOneLine}
+use Rattle.cfa_functions.specs.Functions.{canonical_byte, canonified}
+
+-- no newline
+abbrev pub IsOther : ℕ → Type 0
+IsOther byte = byte ≢ 10
+
+pub no_text : IsOneLine []
+no_text = All-nil IsOther
+
+pub led_line : (byte : ℕ) (text : List ℕ) → byte ≢ 10 → IsOneLine text → IsOneLine (byte ∷ text)
+led_line byte text other line = All-cons IsOther byte text other line
+
+pub both_lines : (text more : List ℕ) → IsOneLine text → IsOneLine more → IsOneLine (text ++ more)
+both_lines text more line other = All-append IsOther text more line other
+
+pub either_line : (b : Bool) (text other : List ℕ) → IsOneLine text → IsOneLine other → IsOneLine (cond b text other)
+either_line true text other line line' = line
+either_line false text other line line' = line'
+
+-- ---- texts that are tested
+
+pub not_newline : (b : ℕ) → (b == 10) ≡ false → b ≢ 10
+not_newline b h = λ e. grind (arith, nat_tests)
+
+one_line_by : (b : ℕ) (rest : List ℕ) (t u : Bool) → (b == 10) ≡ t → list_any (λ byte. byte == 10) rest ≡ u → not (t || u) ≡ true → (list_any (λ byte. byte == 10) rest ≡ false → IsOneLine rest) → IsOneLine (b ∷ rest)
+one_line_by b rest true u here later h next = cc
+one_line_by b rest false true here later h next = cc
+one_line_by b rest false false here later h next = All-cons (λ byte. byte ≢ 10) b rest (not_newline b here) (next later)
+
+no_newline : (content : List ℕ) → list_any (λ byte. byte == 10) content ≡ false → IsOneLine content
+no_newline [] h = All-nil (λ byte. byte ≢ 10)
+no_newline (b ∷ rest) h = one_line_by b rest (b == 10) (list_any (λ byte. byte == 10) rest) refl refl (ap not h) (no_newline rest)
+
+not_true : (b : Bool) → not b ≡ true → b ≡ false
+not_true true h = cc
+not_true false h = refl
+
+pub one_line : (content : List ℕ) → not (list_any (λ byte. byte == 10) content) ≡ true → IsOneLine content
+one_line content h = no_newline content (not_true (list_any (λ byte. byte == 10) content) h)
+
+-- ---- what is joined
+
+pub no_lines : All IsOneLine []
+no_lines = All-nil IsOneLine
+
+pub one_more : (text : List ℕ) (texts : List (List ℕ)) → IsOneLine text → All IsOneLine texts → All IsOneLine (text ∷ texts)
+one_more text texts line lines = All-cons IsOneLine text texts line lines
+
+pub joined_line : (separator : ℕ) (texts : List (List ℕ)) → separator ≢ 10 → All IsOneLine texts → IsOneLine (join_with_byte separator texts)
+joined_line separator [] other lines = no_text
+joined_line separator (text ∷ []) other lines = All-head IsOneLine text [] lines
+joined_line separator (text ∷ next ∷ texts) other lines =
+    both_lines text (separator ∷ join_with_byte separator (next ∷ texts)) (All-head IsOneLine text (next ∷ texts) lines)
+    (led_line separator (join_with_byte separator (next ∷ texts)) other
+    (joined_line separator (next ∷ texts) other (All-tail IsOneLine text (next ∷ texts) lines)))
+
+pub led_lines : (separator : ℕ) (texts : List (List ℕ)) → separator ≢ 10 → All IsOneLine texts → IsOneLine (flat_map (λ text. separator ∷ text) texts)
+led_lines separator [] other lines = no_text
+led_lines separator (text ∷ texts) other lines =
+    both_lines (separator ∷ text) (flat_map (λ text. separator ∷ text) texts)
+    (led_line separator text other (All-head IsOneLine text texts lines))
+    (led_lines separator texts other (All-tail IsOneLine text texts lines))
+
+-- ---- fields
+
+pub field_line : (text : List ℕ) → IsOneLine (escaped text)
+field_line text = escaped-avoids 10 text (omega arith) refl
+
+pub field_lines : (texts : List (List ℕ)) → All IsOneLine (map escaped texts)
+field_lines [] = no_lines
+field_lines (text ∷ texts) = one_more (escaped text) (map escaped texts) (field_line text) (field_lines texts)
+
+-- ---- numbers
+
+digit_other : (d : ℕ) → 48 + d ≢ 10
+digit_other d = λ e. omega arith
+
+pub decimal_line : (n : ℕ) → n < 2 ^ 64 → IsOneLine (decimal n)
+decimal_line n small =
+    decimal_by_steps (λ m ds. IsOneLine ds)
+    (λ d lt. led_line (48 + d) [] (digit_other d) no_text)
+    (λ m ds ge line. All-push IsOther ds (48 + m % 10) line (digit_other (m % 10)))
+    n small
+
+-- ---- names that are canonified
+
+canonical_by : (b : ℕ) (t : Bool) → is_word_byte b ≡ t → cond t b 95 ≢ 10
+canonical_by b true word = λ e. true≢false (sym word ∙ ap is_word_byte e)
+canonical_by b false word = λ e. omega arith
+
+pub canonical_line : (text : List ℕ) → IsOneLine (canonified text)
+canonical_line [] = no_text
+canonical_line (b ∷ text) = led_line (canonical_byte b) (canonified text) (canonical_by b (is_word_byte b) refl) (canonical_line text)
+
+pub canonical_lines : (texts : List (List ℕ)) → All IsOneLine (map canonified texts)
+canonical_lines [] = no_lines
+canonical_lines (text ∷ texts) = one_more (canonified text) (map canonified texts) (canonical_line text) (canonical_lines texts)
