@@ -1,8 +1,9 @@
 -- What a whole call leaves.
-use Rattle.std.proofs.Common.{◌≡◌, ◌≢◌, ◌<◌, ◌≤◌, ◌⊎◌, inl, inr, ℕ, List, Some, None, Option, Result, Ok, Err, IfSome, refl, sym, ap, subst, ◌∙◌, arith, append-nil}
+use Rattle.std.proofs.Common.{◌≡◌, ◌≢◌, ◌<◌, ◌≤◌, ◌⊎◌, inl, inr, ℕ, Bool, List, Some, None, Option, Result, Ok, Err, IfSome, refl, sym, ap, subst, ◌∙◌, arith, append-nil}
 use Rattle.cfa_base.specs.declared.limits.TheConstants.{LAST_MOMENT}
 use Rattle.cfa_base.specs.Shown.{Shown, followed, Follows, Untouched}
 use Rattle.cfa_words.specs.declared.words.Request.{Request}
+use Rattle.cfa_words.specs.declared.words.Request.TheVariants as request
 use Rattle.cfa_words.specs.Words.{asked}
 use Rattle.cfa_outside.specs.declared.worlds.World.{World}
 use Rattle.cfa_outside.specs.Inputs.{Library}
@@ -13,48 +14,53 @@ use Rattle.cfa_output.specs.declared.ends.Stop.{Stop}
 use Rattle.cfa_output.specs.declared.ends.Stop.TheVariants.{Outside, Memory, Visits, Pattern}
 use Rattle.cfa_output.specs.declared.ends.Failure.{Failure}
 use Rattle.cfa_output.specs.declared.ends.Failure.TheVariants.{Refused, Stopped}
-use Rattle.cfa_output.specs.Lines.{words_line, moment_line, memory_line, stop_line}
+use Rattle.cfa_output.specs.Lines.{words_line, moment_line, memory_line, visits_line, pattern_line, stop_line}
+use Rattle.cfa_walk.specs.Views.{Setting}
+use Rattle.cfa_conflict.specs.Analyses.{AnalysisBuilds, analysis_of}
 use Rattle.cfa_agent.specs.Actuations.{Mark}
 use Rattle.cfa_agent.specs.Marks.{marks_of}
 use Rattle.cfa_agent.specs.Ran.{added, IfBothTold, started, StopsRun}
 use Rattle.cfa_program.specs.declared.ends.End.{End}
-use Rattle.cfa_program.specs.declared.ends.End.TheVariants.{Ended, PromiseFailed}
+use Rattle.cfa_program.specs.declared.ends.End.TheVariants.{Ended, PromiseFailed, InConflict}
 use Rattle.cfa_program.specs.declared.work.Work.{Work}
-use Rattle.cfa_program.specs.declared.work.Work.TheVariants.{Run, Show, Check}
+use Rattle.cfa_program.specs.declared.work.Work.TheVariants.{Run, Judge, Show}
 use Rattle.cfa_program.specs.Calls as calls
-use Rattle.cfa_program.specs.Calls.{Does, RefusesRequest, TakesRequest, TakenIsNotRefused, NeedsTooMany, ran}
+use Rattle.cfa_program.specs.declared.work.PolicyRun.{PolicyRun}
+use Rattle.cfa_program.specs.Calls.{IsAnalysedIn, runs, judges, Does, RefusesRequest, TakesRequest, TakenIsNotRefused, NeedsTooMany, AnalysesTooMany, ran}
 use Rattle.cfa_program.specs.Done.{IsDone, IsPut, Stands, Puts, HasFault, refused_with, status_of}
-use Rattle.cfa_program.specs.Ends.{IsEnd, IsStop, IsNotDone, AsksRun, AsksNoRun, AsksRefused, RefusesCall, of_words, of_moment, of_request, PutsRefusal, IsUnread, ReadsInTurn, PutsLast, StopsReading, StopsAtSite, RefusesText, StopsAtPattern, of_policy, of_run, StopsAtVisits}
-use Rattle.cfa_program.specs.Lines.{valid_line}
-use Rattle.cfa_program.specs.Stages.{RunsPolicy, setting_in, task_of, IsAsked, OnlyRefused, Prepared, Performed, PutsEnd, PutsStop, status_of_stop, Called, not_prepared, ended, stopped_at_work}
-use Rattle.cfa_program.proofs.Told.{some_weaker, each_some, some_injective, untouched_both, both_weaker, both, adds_none, fault_along, fault_before}
-use Rattle.cfa_program.proofs.WorkLemmas.{text_done, text_put, IsNoSink, work_stop, runs_by_stop, patterns_by_stop, patterns_at_end, untouched_without_run, failed_runs}
+use Rattle.cfa_program.specs.Ends.{IsEnd, IsStop, IsNotDone, IsRun, IsAnalysed, IsObeying, AsksRun, AsksNoRun, AsksAnalysis, AsksToObey, AsksRefused, RefusesCall, of_words, of_moment, of_request, PutsRefusal, IsUnread, ReadsInTurn, PutsLast, StopsReading, StopsAtSite, AnalysisBuilt, RunBuilt, RefusesText, StopsAtPattern, of_policy, of_analysis, of_run, StopsAtVisits, by_analysis, by_run}
+use Rattle.cfa_program.specs.Stages.{RunPerformed, RunsPolicy, Obeys, setting_in, task_of, IsAsked, OnlyRefused, Prepared, PolicyRan, not_made, made, Performed, PutsEnd, PutsStop, status_of_stop, Called, not_prepared, ended, stopped_at_work}
+use Rattle.cfa_program.proofs.Told.{some_weaker, each_some, some_injective, untouched_both, both_weaker, both, adds_none, along, fault_along, fault_before}
+use Rattle.cfa_program.proofs.WorkLemmas.{no_conflict, judged_by, judges_told, judged_done, judged_put, does_made, does_judged, cut_off_by, obeys_strict, text_done, text_put, IsNoSink, IsOfSite, work_stop, never_shown, untouched_at_stop, runs_by_site, patterns_by_stop, patterns_at_end, untouched_without_run, failed_runs, obeys_conflict}
 
 -- ---- statuses
 
-low : (n : ℕ) → IsEnd n → n ≤ 2
+low : (n : ℕ) → IsEnd n → n ≤ 3
 low n (inl e) = omega (arith, e)
 low n (inr (inl e)) = omega (arith, e)
-low n (inr (inr e)) = omega (arith, e)
+low n (inr (inr (inl e))) = omega (arith, e)
+low n (inr (inr (inr e))) = omega (arith, e)
 
 high : (n : ℕ) → IsStop n → 4 ≤ n
 high n (inl e) = omega (arith, e)
 high n (inr (inl e)) = omega (arith, e)
 high n (inr (inr e)) = omega (arith, e)
 
-no_end : (n : ℕ) → IsStop n → IsEnd n → ⊥
+pub no_end : (n : ℕ) → IsStop n → IsEnd n → ⊥
 no_end n s e = omega (arith, high n s, low n e)
 
 is_end : (end : End) (n : ℕ) → n ≡ status_of end → IsEnd n
 is_end Ended n e = inl e
-is_end PromiseFailed n e = inr (inr e)
+is_end PromiseFailed n e = inr (inr (inl e))
+is_end InConflict n e = inr (inr (inr e))
 
 not_one : (end : End) (n : ℕ) → n ≡ status_of end → n ≡ 1 → ⊥
 not_one Ended n e f = omega (arith, e, f)
 not_one PromiseFailed n e f = omega (arith, e, f)
+not_one InConflict n e f = omega (arith, e, f)
 
 -- the status of a stop
-stop_is : (stop : Stop) (out out' : Shown (List ℕ)) (n : ℕ) → PutsStop (stop_line stop) (status_of_stop stop) out out' n → IsStop n
+pub stop_is : (stop : Stop) (out out' : Shown (List ℕ)) (n : ℕ) → PutsStop (stop_line stop) (status_of_stop stop) out out' n → IsStop n
 stop_is (Outside Inputs) out out' n (inl h) = inl h.0
 stop_is (Outside Inputs) out out' n (inr h) = inl h.0
 stop_is (Outside Site) out out' n (inl h) = inl h.0
@@ -67,7 +73,7 @@ stop_is Visits out out' n (inr h) = inl h.0
 stop_is (Pattern text) out out' n (inl h) = inr (inr h.0)
 stop_is (Pattern text) out out' n (inr h) = inl h.0
 
-one_request : {o : Option Request} {a b : Request} → o ≡ Some a → o ≡ Some b → a ≡ b
+pub one_request : {o : Option Request} {a b : Request} → o ≡ Some a → o ≡ Some b → a ≡ b
 one_request {o} {a} {b} first second = some_injective a b (sym first ∙ second)
 
 -- ---- refusals
@@ -94,57 +100,81 @@ refused_put line out out' n is put = record {
 
 -- ---- work
 
-taken_at : (told : Option Library) (lib : Library) (moment : ℕ) (request : Request) (work : Work) → told ≡ Some lib → IfSome told (λ l. TakesRequest l.texts moment request (task_of work)) → TakesRequest lib.texts moment request (task_of work)
+pub taken_at : (told : Option Library) (lib : Library) (moment : ℕ) (request : Request) (work : Work) → told ≡ Some lib → IfSome told (λ l. TakesRequest l.texts moment request (task_of work)) → TakesRequest lib.texts moment request (task_of work)
 taken_at told lib moment request work is h = subst (λ (o : Option Library). IfSome o (λ l. TakesRequest l.texts moment request (task_of work))) is h
 
 no_run : (words : List (List ℕ)) (moment : ℕ) (told : Option Library) (work : Work) → IsAsked words moment told work → AsksNoRun words → ¬ RunsPolicy work
-no_run words moment told work a idle runs = idle (a.request, a.asked_is, a.is_work.runs runs)
+no_run words moment told work a idle is_run = idle (a.request, a.asked_is, a.is_work.runs is_run)
 
 asks_run : (words : List (List ℕ)) (moment : ℕ) (told : Option Library) (work : Work) → IsAsked words moment told work → RunsPolicy work → AsksRun words
-asks_run words moment told work a runs = (a.request, a.asked_is, a.is_work.runs runs)
+asks_run words moment told work a is_run = (a.request, a.asked_is, a.is_work.runs is_run)
+
+run_analysed : (request : Request) → IsRun request → IsAnalysed request
+run_analysed (request.Run policy options) is = tt
+run_analysed (request.Show policy) is = absurd is
+run_analysed (request.Check policy classes) is = tt
+run_analysed (request.Audit journal) is = absurd is
+
+obeying_analysed : (request : Request) → IsObeying request → IsAnalysed request
+obeying_analysed (request.Run policy options) is = tt
+obeying_analysed (request.Show policy) is = absurd is
+obeying_analysed (request.Check policy classes) is = tt
+obeying_analysed (request.Audit journal) is = absurd is
+
+asks_to_obey : (words : List (List ℕ)) (moment : ℕ) (told : Option Library) (work : Work) → IsAsked words moment told work → Obeys work → AsksToObey words
+asks_to_obey words moment told work a obeys = (a.request, a.asked_is, a.is_work.obeys obeys)
 
 module _ (words : List (List ℕ)) (moment : ℕ) (lib : Library) (request : Request) (asks : asked words ≡ Some request) (in_time : moment ≤ LAST_MOMENT)
     (site site' : Shown Told) (out out' : Shown (List ℕ)) (pats pats' : Shown (List (List ℕ))) where
-  -- work that was done is what its call does
-  work_stands : (work : Work) (end : End) (n : ℕ) → n ≡ status_of end → Performed work moment site site' out out' pats pats' (Ok end) → TakesRequest lib.texts moment request (task_of work) →
-      IfBothTold (λ before after. Stands (Does words moment lib.texts before.world (marks_of (added before after))) before after out out' n) site site'
-  work_stands (Run order) end n is p taken = both _ _ _ site site' (λ before after whole d. (
-    ran (setting_in order) (started moment order.locks before after),
-    calls.work_done (task_of (Run order)) asks in_time taken (whole, refl),
+  abbrev StandsHere : ℕ → Type 0
+  StandsHere n = IfBothTold (λ before after. Stands (Does words moment lib.texts before.world (marks_of (added before after))) before after out out' n) site site'
+
+  run_stands : (setting : Setting) (locks strict : Bool) (end : End) (n : ℕ) → n ≡ status_of end → PolicyRan setting moment locks strict site site' out out' pats pats' (Ok end) →
+      TakesRequest lib.texts moment request (runs setting locks strict) → StandsHere n
+  run_stands setting locks strict end n is (made may p) taken = both _ _ _ site site' (λ before after whole d. (
+    ran setting (started moment locks before after) (analysis_of setting),
+    calls.work_done (runs setting locks strict) asks in_time taken (does_made strict setting locks moment before.world (marks_of (added before after)) _ may (whole, refl)),
     record { logged = d.logged; put = d.put; status_is = is ∙ d.status_is },
   )) p.whole p.done
+  run_stands setting locks strict end n is (not_made obeyed p) taken = untouched_both _ site site' p.site_is (λ t. (
+    judged_by (analysis_of setting),
+    calls.work_done (runs setting locks strict) asks in_time taken (does_judged strict setting locks moment t.world (marks_of (added t t)) obeyed.conflict.0 obeyed.conflict.1),
+    judged_done (analysis_of setting) t out out' end n is p.judged.told,
+  ))
+
+  -- work that was done is what its call does
+  work_stands : (work : Work) (end : End) (n : ℕ) → n ≡ status_of end → Performed work moment site site' out out' pats pats' (Ok end) → TakesRequest lib.texts moment request (task_of work) → StandsHere n
+  work_stands (Run order) end n is p taken = run_stands (setting_in order.policy) order.locks order.strict end n is p taken
+  work_stands (Judge policy) end n is p taken = untouched_both _ site site' p.site_is (λ t. (
+    judged_by (analysis_of (setting_in policy)),
+    calls.work_done (judges (setting_in policy)) asks in_time taken (judges_told (analysis_of (setting_in policy)) end out out' p.judged.told),
+    judged_done (analysis_of (setting_in policy)) t out out' end n is p.judged.told,
+  ))
   work_stands (Show text) end n is p taken = untouched_both _ site site' p.site_is (λ t. (
     calls.shown text,
     calls.work_done (task_of (Show text)) asks in_time taken refl,
     text_done text t out out' end n is p.puts,
   ))
-  work_stands Check end n is p taken = untouched_both _ site site' p.site_is (λ t. (
-    calls.shown valid_line,
-    calls.work_done (task_of Check) asks in_time taken refl,
-    text_done valid_line t out out' end n is p.puts,
-  ))
 
-  -- so is work that is no run, whatever the site tells
-  work_puts : (work : Work) (end : End) (n : ℕ) → n ≡ status_of end → Performed work moment site site' out out' pats pats' (Ok end) → TakesRequest lib.texts moment request (task_of work) → ¬ RunsPolicy work →
+  run_puts : (setting : Setting) (locks strict : Bool) (end : End) (n : ℕ) → n ≡ status_of end → PolicyRan setting moment locks strict site site' out out' pats pats' (Ok end) →
+      TakesRequest lib.texts moment request (runs setting locks strict) → status_of end ≡ 3 → (w : World) (marks : List Mark) → Puts (Does words moment lib.texts w marks) out out' n
+  run_puts setting locks strict end n is (made may p) taken three w marks = absurd (no_conflict end p.ends three)
+  run_puts setting locks strict end n is (not_made obeyed p) taken three w marks = (
+    judged_by (analysis_of setting),
+    calls.work_done (runs setting locks strict) asks in_time taken (does_judged strict setting locks moment w marks obeyed.conflict.0 obeyed.conflict.1),
+    judged_put (analysis_of setting) out out' end n is p.judged.told,
+  )
+
+  -- so is work that is no run, or ends with a conflict, whatever the site tells
+  work_puts : (work : Work) (end : End) (n : ℕ) → n ≡ status_of end → Performed work moment site site' out out' pats pats' (Ok end) → TakesRequest lib.texts moment request (task_of work) → (RunsPolicy work → status_of end ≡ 3) →
       (w : World) (marks : List Mark) → Puts (Does words moment lib.texts w marks) out out' n
-  work_puts (Run order) end n is p taken no_run w marks = absurd (no_run tt)
-  work_puts (Show text) end n is p taken no_run w marks = (calls.shown text, calls.work_done (task_of (Show text)) asks in_time taken refl, text_put text out out' end n is p.puts)
-  work_puts Check end n is p taken no_run w marks = (calls.shown valid_line, calls.work_done (task_of Check) asks in_time taken refl, text_put valid_line out out' end n is p.puts)
-
-  -- a run that stops at too many visits needs too many
-  work_too_large : (work : Work) → Performed work moment site site' out out' pats pats' (Err Visits) → TakesRequest lib.texts moment request (task_of work) →
-      IfBothTold (λ before after. NeedsTooMany words moment lib.texts before.world (marks_of (added before after))) site site'
-  work_too_large (Run order) p taken = both_weaker _ _ site site' (λ before after cut. record {
-    request = request;
-    setting = setting_in order;
-    has_locks = order.locks;
-    asked_is = asks;
-    in_time = in_time;
-    takes = taken;
-    cut_off = cut;
-  }) (p.too_large refl)
-  work_too_large (Show text) p taken = absurd (runs_by_stop moment site site' out out' pats pats' (Show text) Visits p tt)
-  work_too_large Check p taken = absurd (runs_by_stop moment site site' out out' pats pats' Check Visits p tt)
+  work_puts (Run order) end n is p taken three w marks = run_puts (setting_in order.policy) order.locks order.strict end n is p taken (three tt) w marks
+  work_puts (Judge policy) end n is p taken three w marks = (
+    judged_by (analysis_of (setting_in policy)),
+    calls.work_done (judges (setting_in policy)) asks in_time taken (judges_told (analysis_of (setting_in policy)) end out out' p.judged.told),
+    judged_put (analysis_of (setting_in policy)) out out' end n is p.judged.told,
+  )
+  work_puts (Show text) end n is p taken three w marks = (calls.shown text, calls.work_done (task_of (Show text)) asks in_time taken refl, text_put text out out' end n is p.puts)
 
 -- ---- the call
 
@@ -169,7 +199,7 @@ module _ (words : List (List ℕ)) (moment : ℕ) (inputs inputs' : Shown Librar
   without_site (not_prepared {failure = Stopped stop} p un puts) idle end = absurd (no_end status (stop_is stop out out' status puts) end)
   without_site (stopped_at_work stop mid p performed puts) idle end = absurd (no_end status (stop_is stop mid out' status puts) end)
   without_site (ended {work = work} by p performed is) idle end = some_weaker inputs.told _ _ (λ lib told taken.
-      work_puts words moment lib p.work.request p.work.asked_is p.work.in_time site site' out out' pats pats' work by status is performed taken (no_run words moment inputs.told work p.work idle)) p.work.is_work.taken
+      work_puts words moment lib p.work.request p.work.asked_is p.work.in_time site site' out out' pats pats' work by status is performed taken (λ is_run. absurd (no_run words moment inputs.told work p.work idle is_run))) p.work.is_work.taken
 
   pub site_untouched : CalledHere → AsksNoRun words → Untouched site site'
   site_untouched (not_prepared {failure = Refused line} p un puts) idle = un
@@ -243,9 +273,29 @@ module _ (words : List (List ℕ)) (moment : ℕ) (inputs inputs' : Shown Librar
   pub failed : CalledHere → status ≡ 2 → AsksRun words
   failed (not_prepared {failure = Refused line} p un (inl (is, put))) two = absurd (omega (arith, is, two))
   failed (not_prepared {failure = Refused line} p un (inr (is, short))) two = absurd (omega (arith, is, two))
-  failed (not_prepared {failure = Stopped stop} p un puts) two = absurd (no_end status (stop_is stop out out' status puts) (inr (inr two)))
+  failed (not_prepared {failure = Stopped stop} p un puts) two = absurd (no_end status (stop_is stop out out' status puts) (inr (inr (inl two))))
   failed (ended {work = work} by p performed is) two = asks_run words moment inputs.told work p.work (failed_runs moment site site' out out' pats pats' work by performed (sym is ∙ two))
-  failed (stopped_at_work stop mid p performed puts) two = absurd (no_end status (stop_is stop mid out' status puts) (inr (inr two)))
+  failed (stopped_at_work stop mid p performed puts) two = absurd (no_end status (stop_is stop mid out' status puts) (inr (inr (inl two))))
+
+  three_is_end : status ≡ 3 → IsEnd status
+  three_is_end three = inr (inr (inr three))
+
+  pub conflict : CalledHere → status ≡ 3 → AsksToObey words × Untouched site site'
+  conflict (not_prepared {failure = Refused line} p un (inl (is, put))) three = absurd (omega (arith, is, three))
+  conflict (not_prepared {failure = Refused line} p un (inr (is, short))) three = absurd (omega (arith, is, three))
+  conflict (not_prepared {failure = Stopped stop} p un puts) three = absurd (no_end status (stop_is stop out out' status puts) (three_is_end three))
+  conflict (stopped_at_work stop mid p performed puts) three = absurd (no_end status (stop_is stop mid out' status puts) (three_is_end three))
+  conflict (ended {work = work} by p performed is) three =
+      let found : Obeys work × Untouched site site' = obeys_conflict moment site site' out out' pats pats' work by performed (sym is ∙ three) in
+      (asks_to_obey words moment inputs.told work p.work found.0, found.1)
+
+  pub conflict_put : CalledHere → status ≡ 3 → IfSome inputs.told (λ lib. (w : World) (marks : List Mark) → Puts (Does words moment lib.texts w marks) out out' status)
+  conflict_put (not_prepared {failure = Refused line} p un (inl (is, put))) three = absurd (omega (arith, is, three))
+  conflict_put (not_prepared {failure = Refused line} p un (inr (is, short))) three = absurd (omega (arith, is, three))
+  conflict_put (not_prepared {failure = Stopped stop} p un puts) three = absurd (no_end status (stop_is stop out out' status puts) (three_is_end three))
+  conflict_put (stopped_at_work stop mid p performed puts) three = absurd (no_end status (stop_is stop mid out' status puts) (three_is_end three))
+  conflict_put (ended {work = work} by p performed is) three = some_weaker inputs.told _ _ (λ lib told taken.
+      work_puts words moment lib p.work.request p.work.asked_is p.work.in_time site site' out out' pats pats' work by status is performed taken (λ _. sym is ∙ three)) p.work.is_work.taken
 
   -- ---- by an object of the outside
 
@@ -263,7 +313,7 @@ module _ (words : List (List ℕ)) (moment : ℕ) (inputs inputs' : Shown Librar
   stopped_reading (Pattern text) p un (inl (is, put)) four = absurd (omega (arith, is, four))
   stopped_reading (Pattern text) p un (inr (is, short)) four = inl short.failed.rose
 
-  stopped_working : (stop : Stop) (mid : Shown (List ℕ)) → StopsRun site site' out mid stop → (IsNoSink stop → AsksRun words) → PutsStop (stop_line stop) (status_of_stop stop) mid out' status → status ≡ 4 → StopsOutside
+  stopped_working : (stop : Stop) (mid : Shown (List ℕ)) → StopsRun site site' out mid stop → (IsOfSite stop → AsksRun words) → PutsStop (stop_line stop) (status_of_stop stop) mid out' status → status ≡ 4 → StopsOutside
   stopped_working (Outside Inputs) mid idle asks puts four = absurd idle
   stopped_working (Outside Site) mid (rose, same) asks (inl (is, put)) four = inr (inr (record { asks_run = asks tt; rose = rose; put = (mid, put) }))
   stopped_working (Outside Site) mid (rose, same) asks (inr (is, short)) four = inl (fault_along out mid out' same short.failed.rose)
@@ -275,9 +325,9 @@ module _ (words : List (List ℕ)) (moment : ℕ) (inputs inputs' : Shown Librar
   stopped_working (Pattern text) mid same asks (inl (is, put)) four = absurd (omega (arith, is, four))
   stopped_working (Pattern text) mid same asks (inr (is, short)) four = inl (fault_along out mid out' same short.failed.rose)
 
-  -- what is stopped otherwise than by the sink is a run
-  asks_by_stop : (work : Work) (stop : Stop) (mid : Shown (List ℕ)) → Prepared words moment inputs inputs' pats pats (Ok work) → Performed work moment site site' out mid pats pats' (Err stop) → IsNoSink stop → AsksRun words
-  asks_by_stop work stop mid p performed other = asks_run words moment inputs.told work p.work (runs_by_stop moment site site' out mid pats pats' work stop performed other)
+  -- what is stopped by the site is a run
+  asks_by_site : (work : Work) (stop : Stop) (mid : Shown (List ℕ)) → Prepared words moment inputs inputs' pats pats (Ok work) → Performed work moment site site' out mid pats pats' (Err stop) → IsOfSite stop → AsksRun words
+  asks_by_site work stop mid p performed of_site = asks_run words moment inputs.told work p.work (runs_by_site moment site site' out mid pats pats' work stop performed of_site)
 
   pub outside : CalledHere → status ≡ 4 → StopsOutside
   outside (not_prepared {failure = Refused line} p un (inl (is, put))) four = absurd (omega (arith, is, four))
@@ -285,7 +335,7 @@ module _ (words : List (List ℕ)) (moment : ℕ) (inputs inputs' : Shown Librar
   outside (not_prepared {failure = Stopped stop} p un puts) four = stopped_reading stop p un puts four
   outside (ended by p performed is) four = absurd (no_end status (inl four) (is_end by status is))
   outside (stopped_at_work {work = work} stop mid p performed puts) four =
-      stopped_working stop mid (work_stop moment site site' out mid pats pats' work stop performed) (asks_by_stop work stop mid p performed) puts four
+      stopped_working stop mid (work_stop moment site site' out mid pats pats' work stop performed) (asks_by_site work stop mid p performed) puts four
 
   read_by : (stop : Stop) → Prepared words moment inputs inputs' pats pats' (Err (Stopped stop)) → ReadsInTurn words inputs inputs'
   read_by (Outside Inputs) p = inr (inr p.inputs_are)
@@ -329,7 +379,9 @@ module _ (words : List (List ℕ)) (moment : ℕ) (inputs inputs' : Shown Librar
   memory (not_prepared {failure = Refused line} p un (inr (is, short))) five idle = absurd (omega (arith, is, five))
   memory (not_prepared {failure = Stopped stop} p un puts) five idle = memory_put stop out puts five
   memory (ended by p performed is) five idle = absurd (no_end status (inr (inl five)) (is_end by status is))
-  memory (stopped_at_work {work = work} stop mid p performed puts) five idle = absurd (idle (asks_by_stop work stop mid p performed (five_is_no_sink stop mid puts five)))
+  memory (stopped_at_work {work = work} stop mid p performed puts) five idle = along memory_line out mid out'
+      (untouched_at_stop moment site site' out mid pats pats' work stop performed (no_run words moment inputs.told work p.work idle) (five_is_no_sink stop mid puts five))
+      (memory_put stop mid puts five)
 
   pub memory_told : CalledHere → status ≡ 5 → PutsLast memory_line out'
   memory_told (not_prepared {failure = Refused line} p un (inl (is, put))) five = absurd (omega (arith, is, five))
@@ -342,8 +394,8 @@ module _ (words : List (List ℕ)) (moment : ℕ) (inputs inputs' : Shown Librar
 
   abbrev StopsAtLimit : Type 0
   StopsAtLimit =
-      StopsAtPattern words inputs.told site site' out out' pats pats' ⊎
-      StopsAtVisits words moment inputs.told site site' out' pats pats'
+      StopsAtPattern words moment inputs.told site site' out out' pats pats' ⊎
+      StopsAtVisits words moment inputs.told site site' out out' pats pats'
 
   limit_of_reading : (stop : Stop) → Prepared words moment inputs inputs' pats pats' (Err (Stopped stop)) → Untouched site site' → PutsStop (stop_line stop) (status_of_stop stop) out out' status → status ≡ 6 → StopsAtLimit
   limit_of_reading (Outside Inputs) p un (inl (is, put)) six = absurd (omega (arith, is, six))
@@ -356,7 +408,98 @@ module _ (words : List (List ℕ)) (moment : ℕ) (inputs inputs' : Shown Librar
   limit_of_reading (Pattern text) p un (inl (is, put)) six = inl (of_policy p.patterns_are.0 p.patterns_are.1 un put)
   limit_of_reading (Pattern text) p un (inr (is, short)) six = absurd (omega (arith, is, six))
 
-  limit_of_work : (work : Work) (stop : Stop) (mid : Shown (List ℕ)) → Prepared words moment inputs inputs' pats pats (Ok work) → Performed work moment site site' out mid pats pats' (Err stop) → PutsStop (stop_line stop) (status_of_stop stop) mid out' status → status ≡ 6 → StopsAtLimit
+  abbrev StopsHere : Work → Stop → Shown (List ℕ) → Type 0
+  StopsHere work stop mid = Performed work moment site site' out mid pats pats' (Err stop)
+
+  limit_of_visits : (work : Work) (mid : Shown (List ℕ)) → Prepared words moment inputs inputs' pats pats (Ok work) → StopsHere work Visits mid → Follows (adds_bytes visits_line) mid out' →
+      StopsAtVisits words moment inputs.told site site' out out' pats pats'
+  limit_of_visits (Run order) mid p (made may q) put = by_run (asks_run words moment inputs.told (Run order) p.work tt)
+      (some_weaker inputs.told _ _ (λ lib told taken. both_weaker _ _ site site' (λ before after cut. record {
+        request = p.work.request;
+        setting = setting_in order.policy;
+        has_locks = order.locks;
+        is_strict = order.strict;
+        asked_is = p.work.asked_is;
+        in_time = p.work.in_time;
+        takes = taken;
+        cut_off = cut_off_by order.strict (setting_in order.policy) (started moment order.locks before after) (analysis_of (setting_in order.policy)) may cut;
+      }) (q.too_large refl)) p.work.is_work.taken)
+      q.patterns_are (mid, put)
+  limit_of_visits (Run order) mid p (not_made obeyed q) put = by_analysis (asks_to_obey words moment inputs.told (Run order) p.work (obeyed.too_large refl))
+      (some_weaker inputs.told _ _ (λ lib told taken. record {
+        request = p.work.request;
+        task = task_of (Run order);
+        setting = setting_in order.policy;
+        asked_is = p.work.asked_is;
+        in_time = p.work.in_time;
+        takes = taken;
+        obeys = obeys_strict order.strict (setting_in order.policy) order.locks (obeyed.too_large refl);
+        too_large = q.judged.too_large refl;
+      }) p.work.is_work.taken)
+      q.site_is q.judged.patterns_are (along visits_line out mid out' q.judged.stopped put)
+  limit_of_visits (Judge policy) mid p q put = by_analysis (asks_to_obey words moment inputs.told (Judge policy) p.work tt)
+      (some_weaker inputs.told _ _ (λ lib told taken. record {
+        request = p.work.request;
+        task = task_of (Judge policy);
+        setting = setting_in policy;
+        asked_is = p.work.asked_is;
+        in_time = p.work.in_time;
+        takes = taken;
+        obeys = refl;
+        too_large = q.judged.too_large refl;
+      }) p.work.is_work.taken)
+      q.site_is q.judged.patterns_are (along visits_line out mid out' q.judged.stopped put)
+  limit_of_visits (Show text) mid p q put = absurd (never_shown moment site site' out mid pats pats' text Visits q tt)
+
+  analysed_at_pattern : (work : Work) (text : List ℕ) (mid : Shown (List ℕ)) → IsAsked words moment inputs.told work → StopsHere work (Pattern text) mid → AsksAnalysis words
+  analysed_at_pattern (Run order) text mid a q = (a.request, a.asked_is, run_analysed a.request (a.is_work.runs tt))
+  analysed_at_pattern (Judge policy) text mid a q = (a.request, a.asked_is, obeying_analysed a.request (a.is_work.obeys tt))
+  analysed_at_pattern (Show shown) text mid a q = absurd (never_shown moment site site' out mid pats pats' shown (Pattern text) q tt)
+
+  -- the text is one that the analysis builds
+  built_by_analysis : (work : Work) (text : List ℕ) (mid : Shown (List ℕ)) → IsAsked words moment inputs.told work → StopsHere work (Pattern text) mid →
+      (setting : Setting) → IsAnalysedIn (task_of work) setting → AnalysisBuilds setting text → AnalysisBuilt words moment inputs.told text
+  built_by_analysis work text mid a q setting analysed built = (
+    analysed_at_pattern work text mid a q,
+    some_weaker inputs.told _ _ (λ lib told taken. record {
+      request = a.request;
+      task = task_of work;
+      setting = setting;
+      asked_is = a.asked_is;
+      takes = taken;
+      analysed = analysed;
+      built = built;
+    }) a.is_work.taken,
+  )
+
+  -- the text is one that the run builds
+  built_by_run : (order : PolicyRun) (text : List ℕ) (mid : Shown (List ℕ)) → IsAsked words moment inputs.told (Run order) →
+      RunPerformed (setting_in order.policy) moment order.locks site site' out mid pats pats' (Err (Pattern text)) → RunBuilt words moment inputs.told site site' text
+  built_by_run order text mid a q = (
+    asks_run words moment inputs.told (Run order) a tt,
+    some_weaker inputs.told _ _ (λ lib told taken. both_weaker _ _ site site' (λ before after built. record {
+      request = a.request;
+      setting = setting_in order.policy;
+      has_locks = order.locks;
+      is_strict = order.strict;
+      asked_is = a.asked_is;
+      takes = taken;
+      built = built;
+    }) q.built) a.is_work.taken,
+  )
+
+  limit_of_pattern : (work : Work) (text : List ℕ) (mid : Shown (List ℕ)) → Prepared words moment inputs inputs' pats pats (Ok work) → StopsHere work (Pattern text) mid → Follows (adds_bytes pattern_line) mid out' →
+      StopsAtPattern words moment inputs.told site site' out out' pats pats'
+  limit_of_pattern (Run order) text mid p (made may q) put = of_run (built_by_run order text mid p.work q) q.patterns_are (mid, put)
+  limit_of_pattern (Run order) text mid p (not_made obeyed q) put = of_analysis
+      (built_by_analysis (Run order) text mid p.work (not_made obeyed q) (setting_in order.policy) refl q.judged.built)
+      q.judged.patterns_are q.site_is (along pattern_line out mid out' q.judged.stopped put)
+  limit_of_pattern (Judge policy) text mid p q put = of_analysis
+      (built_by_analysis (Judge policy) text mid p.work q (setting_in policy) refl q.judged.built)
+      q.judged.patterns_are q.site_is (along pattern_line out mid out' q.judged.stopped put)
+  limit_of_pattern (Show shown) text mid p q put = absurd (never_shown moment site site' out mid pats pats' shown (Pattern text) q tt)
+
+  limit_of_work : (work : Work) (stop : Stop) (mid : Shown (List ℕ)) → Prepared words moment inputs inputs' pats pats (Ok work) → StopsHere work stop mid → PutsStop (stop_line stop) (status_of_stop stop) mid out' status → status ≡ 6 → StopsAtLimit
   limit_of_work work (Outside Inputs) mid p performed (inl (is, put)) six = absurd (omega (arith, is, six))
   limit_of_work work (Outside Inputs) mid p performed (inr (is, short)) six = absurd (omega (arith, is, six))
   limit_of_work work (Outside Site) mid p performed (inl (is, put)) six = absurd (omega (arith, is, six))
@@ -364,16 +507,9 @@ module _ (words : List (List ℕ)) (moment : ℕ) (inputs inputs' : Shown Librar
   limit_of_work work (Outside Sink) mid p performed (is, un) six = absurd (omega (arith, is, six))
   limit_of_work work Memory mid p performed (inl (is, put)) six = absurd (omega (arith, is, six))
   limit_of_work work Memory mid p performed (inr (is, short)) six = absurd (omega (arith, is, six))
-  limit_of_work work Visits mid p performed (inl (is, put)) six = inr (record {
-    asks_run = asks_by_stop work Visits mid p performed tt;
-    too_many = some_weaker inputs.told _ _ (λ lib told taken.
-        work_too_large words moment lib p.work.request p.work.asked_is p.work.in_time site site' out mid pats pats' work performed taken) p.work.is_work.taken;
-    no_pattern = patterns_by_stop moment site site' out mid pats pats' work Visits performed;
-    put = (mid, put);
-  })
+  limit_of_work work Visits mid p performed (inl (is, put)) six = inr (limit_of_visits work mid p performed put)
   limit_of_work work Visits mid p performed (inr (is, short)) six = absurd (omega (arith, is, six))
-  limit_of_work work (Pattern text) mid p performed (inl (is, put)) six =
-      inl (of_run (asks_by_stop work (Pattern text) mid p performed tt) (patterns_by_stop moment site site' out mid pats pats' work (Pattern text) performed) (mid, put))
+  limit_of_work work (Pattern text) mid p performed (inl (is, put)) six = inl (limit_of_pattern work text mid p performed put)
   limit_of_work work (Pattern text) mid p performed (inr (is, short)) six = absurd (omega (arith, is, six))
 
   pub pattern_or_visits : CalledHere → status ≡ 6 → StopsAtLimit
@@ -384,7 +520,7 @@ module _ (words : List (List ℕ)) (moment : ℕ) (inputs inputs' : Shown Librar
   pattern_or_visits (stopped_at_work {work = work} stop mid p performed puts) six = limit_of_work work stop mid p performed puts six
 
   abbrev KeepsPatterns : Type 0
-  KeepsPatterns = Untouched pats pats' ⊎ ((status ≡ 4) × HasFault out out' × RefusesText words inputs.told pats pats')
+  KeepsPatterns = Untouched pats pats' ⊎ ((status ≡ 4) × HasFault out out' × RefusesText words moment inputs.told site site' pats pats')
 
   kept_reading : (stop : Stop) → Prepared words moment inputs inputs' pats pats' (Err (Stopped stop)) → PutsStop (stop_line stop) (status_of_stop stop) out out' status → status ≢ 6 → KeepsPatterns
   kept_reading (Outside object) p puts idle = inl p.patterns_are
@@ -393,6 +529,13 @@ module _ (words : List (List ℕ)) (moment : ℕ) (inputs inputs' : Shown Librar
   kept_reading (Pattern text) p (inl (is, put)) idle = absurd (idle is)
   kept_reading (Pattern text) p (inr (is, short)) idle =
       inr (is, short.failed.rose, record { text = text; builds = inl p.patterns_are.0; refused = p.patterns_are.1 })
+
+  built_working : (work : Work) (text : List ℕ) (mid : Shown (List ℕ)) → Prepared words moment inputs inputs' pats pats (Ok work) → StopsHere work (Pattern text) mid →
+      AnalysisBuilt words moment inputs.told text ⊎ RunBuilt words moment inputs.told site site' text
+  built_working (Run order) text mid p (made may q) = inr (built_by_run order text mid p.work q)
+  built_working (Run order) text mid p (not_made obeyed q) = inl (built_by_analysis (Run order) text mid p.work (not_made obeyed q) (setting_in order.policy) refl q.judged.built)
+  built_working (Judge policy) text mid p q = inl (built_by_analysis (Judge policy) text mid p.work q (setting_in policy) refl q.judged.built)
+  built_working (Show shown) text mid p q = absurd (never_shown moment site site' out mid pats pats' shown (Pattern text) q tt)
 
   kept_working : (work : Work) (stop : Stop) (mid : Shown (List ℕ)) → Prepared words moment inputs inputs' pats pats (Ok work) → Performed work moment site site' out mid pats pats' (Err stop) → PutsStop (stop_line stop) (status_of_stop stop) mid out' status → status ≢ 6 → KeepsPatterns
   kept_working work (Outside object) mid p performed puts idle = inl (patterns_by_stop moment site site' out mid pats pats' work (Outside object) performed)
@@ -404,7 +547,7 @@ module _ (words : List (List ℕ)) (moment : ℕ) (inputs inputs' : Shown Librar
     fault_along out mid out' (work_stop moment site site' out mid pats pats' work (Pattern text) performed) short.failed.rose,
     record {
       text = text;
-      builds = inr (asks_by_stop work (Pattern text) mid p performed tt);
+      builds = inr (built_working work text mid p performed);
       refused = patterns_by_stop moment site site' out mid pats pats' work (Pattern text) performed;
     },
   )

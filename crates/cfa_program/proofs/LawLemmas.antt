@@ -1,20 +1,23 @@
 -- What a call does is one thing alone.
-use Rattle.std.proofs.Common.{◌≡◌, ◌<◌, ◌≤◌, ℕ, Bool, List, Some, None, Option, refl, sym, ap, subst, ◌∙◌, ◌++◌, arith}
+use Rattle.std.proofs.Common.{◌≡◌, ◌<◌, ◌≤◌, ℕ, Bool, true, false, List, Some, None, Option, refl, sym, ap, subst, ◌∙◌, arith}
 use Rattle.cfa_base.specs.declared.limits.TheConstants.{LAST_MOMENT}
 use Rattle.cfa_words.specs.declared.words.Options.{Options}
 use Rattle.cfa_words.specs.declared.words.Request.{Request}
 use Rattle.cfa_words.specs.declared.words.Request.TheVariants.{Run, Show, Check, Audit}
 use Rattle.cfa_outside.specs.declared.worlds.World.{World}
-use Rattle.cfa_classes.specs.Calendar.{hard_classes}
 use Rattle.cfa_printer.specs.Printing.{printed}
 use Rattle.cfa_journal.specs.Journals.{OneJournal, NeverBoth, OneBadRecord}
 use Rattle.cfa_sources.specs.Sources.{Texts}
-use Rattle.cfa_sources.specs.Checks.{Refuses, IsValidAs}
 use Rattle.cfa_sources.specs.Laws.{FileTreeIsOne, FileLineIsOne, FileNeverBoth, PolicyTreeIsOne, PolicyLineIsOne, PolicyNeverBoth}
 use Rattle.cfa_walk.specs.Views.{Setting}
+use Rattle.cfa_conflict.specs.declared.verdicts.Verdict.{Verdict}
+use Rattle.cfa_conflict.specs.declared.verdicts.Verdict.TheVariants.{Accepted, Conflict as InConflictBy}
+use Rattle.cfa_conflict.specs.Analyses.{analysis_of}
 use Rattle.cfa_agent.specs.Actuations.{Mark}
-use Rattle.cfa_program.specs.Calls.{TakesRun, Task, runs, shows, RefusesRequest, TakesRequest, TakenIsNotRefused, DoesOneThing, words_refused, moment_refused, request_refused, work_done, ran, shown, start_of, DoesTask}
+use Rattle.cfa_agent.specs.Runs.{Start}
+use Rattle.cfa_program.specs.Calls.{TakesPolicy, TakesRun, Task, runs, judges, shows, RefusesRequest, TakesRequest, TakenIsNotRefused, DoesOneThing, words_refused, moment_refused, request_refused, work_done, start_of, StrictRunDoes, Judges, DoesTask}
 use Rattle.cfa_program.specs.Done.{Done, refused_with}
+use Rattle.cfa_program.specs.Stages.{OneSetting}
 use Rattle.cfa_program.proofs.AuditLemmas.{audit_is_one, journal_line_is_one, journal_never_both}
 use Rattle.cfa_program.proofs.PrepareLemmas.{none_or_some}
 use Rattle.cfa_program.proofs.Told.{some_injective}
@@ -34,35 +37,37 @@ pub record Laws : Type 0 where
   pub journal_both : NeverBoth
   pub journal_bad : OneBadRecord
 
--- ---- runs
+-- ---- settings
 
 same_setting : (a b : Setting) → a.policy ≡ b.policy → a.classes ≡ b.classes → a ≡ b
 same_setting a b policy classes i = record { policy = policy i; classes = classes i }
 
-one_setting : Laws → (texts : Texts) (moment : ℕ) (policy : List ℕ) (options : Options) (s t : Setting) (l k : Bool) →
-    TakesRun texts moment policy options s l → TakesRun texts moment policy options t k → s ≡ t
-one_setting laws texts moment policy options s t l k a b =
-    same_setting s t (laws.policy_tree texts policy s.policy t.policy a.valid_as b.valid_as) (a.classes_are ∙ sym b.classes_are)
+one_setting : PolicyTreeIsOne → (texts : Texts) (moment : ℕ) (policy : List ℕ) (handed_in : List (List ℕ)) (s t : Setting) →
+    TakesPolicy texts moment policy handed_in s → TakesPolicy texts moment policy handed_in t → s ≡ t
+one_setting one texts moment policy handed_in s t a b =
+    same_setting s t (one texts policy s.policy t.policy a.valid_as b.valid_as) (a.classes_are ∙ sym b.classes_are)
 
-one_run : Laws → (texts : Texts) (moment : ℕ) (policy : List ℕ) (options : Options) (s t : Setting) (l k : Bool) (world : World) (marks : List Mark) →
-    TakesRun texts moment policy options s l → TakesRun texts moment policy options t k →
-    ran s (start_of moment l world marks) ≡ ran t (start_of moment k world marks)
-one_run laws texts moment policy options s t l k world marks a b =
-    let same : l ≡ k = a.locks_are ∙ sym b.locks_are in
-    ap (λ (x : Setting). ran x (start_of moment l world marks)) (one_setting laws texts moment policy options s t l k a b) ∙
-    ap (λ (x : Bool). ran t (start_of moment x world marks)) same
+pub runs_in_one : PolicyTreeIsOne → OneSetting
+runs_in_one one texts moment (Run name options) a b l k m n r q = one_setting one texts moment name options.classes a b r.takes_policy q.takes_policy
+runs_in_one one texts moment (Show name) a b l k m n r q = absurd r
+runs_in_one one texts moment (Check name classes) a b l k m n r q = absurd r
+runs_in_one one texts moment (Audit name) a b l k m n r q = absurd r
 
 -- ---- requests
 
 pub taken_is_not_refused : Laws → TakenIsNotRefused
-taken_is_not_refused laws texts moment (Run name options) (runs setting locks) line r s = laws.policy_both texts name line setting.policy r.valid_as s
-taken_is_not_refused laws texts moment (Show name) (shows text) line r s = laws.file_both texts 0 name line r.tree r.reads s
-taken_is_not_refused laws texts moment (Check name classes) (shows text) line r s = laws.policy_both texts name line r.valid.tree r.valid.valid_as s
-taken_is_not_refused laws texts moment (Audit name) (shows text) line r s = journal_never_both laws.journal_one laws.journal_both laws.journal_bad texts name text line r s
+taken_is_not_refused laws texts moment (Run name options) (runs setting l m) line r s = laws.policy_both texts name line setting.policy r.takes_policy.valid_as s
+taken_is_not_refused laws texts moment (Run name options) (judges setting) line r s = absurd r
 taken_is_not_refused laws texts moment (Run name options) (shows text) line r s = absurd r
-taken_is_not_refused laws texts moment (Show name) (runs setting locks) line r s = absurd r
-taken_is_not_refused laws texts moment (Check name classes) (runs setting locks) line r s = absurd r
-taken_is_not_refused laws texts moment (Audit name) (runs setting locks) line r s = absurd r
+taken_is_not_refused laws texts moment (Show name) (runs setting l m) line r s = absurd r
+taken_is_not_refused laws texts moment (Show name) (judges setting) line r s = absurd r
+taken_is_not_refused laws texts moment (Show name) (shows text) line r s = laws.file_both texts 0 name line r.tree r.reads s
+taken_is_not_refused laws texts moment (Check name classes) (runs setting l m) line r s = absurd r
+taken_is_not_refused laws texts moment (Check name classes) (judges setting) line r s = laws.policy_both texts name line setting.policy r.valid_as s
+taken_is_not_refused laws texts moment (Check name classes) (shows text) line r s = absurd r
+taken_is_not_refused laws texts moment (Audit name) (runs setting l m) line r s = absurd r
+taken_is_not_refused laws texts moment (Audit name) (judges setting) line r s = absurd r
+taken_is_not_refused laws texts moment (Audit name) (shows text) line r s = journal_never_both laws.journal_one laws.journal_both laws.journal_bad texts name text line r s
 
 line_is_one : Laws → (texts : Texts) (asks : Request) (a b : List ℕ) → RefusesRequest texts asks a → RefusesRequest texts asks b → a ≡ b
 line_is_one laws texts (Run name options) a b r s = laws.policy_line texts name a b r s
@@ -70,23 +75,59 @@ line_is_one laws texts (Show name) a b r s = laws.file_line texts 0 name a b r s
 line_is_one laws texts (Check name classes) a b r s = laws.policy_line texts name a b r s
 line_is_one laws texts (Audit name) a b r s = journal_line_is_one laws.journal_one laws.journal_both laws.journal_bad texts name a b r s
 
+-- ---- work
+
+same_run : (s t : Setting) (l k m n : Bool) → s ≡ t → l ≡ k → m ≡ n → runs s l m ≡ runs t k n
+same_run s t l k m n settings locks strict i = runs (settings i) (locks i) (strict i)
+
+one_run : Laws → (texts : Texts) (moment : ℕ) (policy : List ℕ) (options : Options) (s t : Setting) (l k m n : Bool) →
+    TakesRun texts moment policy options s l m → TakesRun texts moment policy options t k n → runs s l m ≡ runs t k n
+one_run laws texts moment policy options s t l k m n a b = same_run s t l k m n
+    (one_setting laws.policy_tree texts moment policy options.classes s t a.takes_policy b.takes_policy)
+    (a.locks_are ∙ sym b.locks_are) (a.strict_is ∙ sym b.strict_is)
+
+one_task : Laws → (texts : Texts) (moment : ℕ) (asks : Request) (t u : Task) → TakesRequest texts moment asks t → TakesRequest texts moment asks u → t ≡ u
+one_task laws texts moment (Run name options) (runs s l m) (runs t k n) r q = one_run laws texts moment name options s t l k m n r q
+one_task laws texts moment (Run name options) (runs s l m) (judges t) r q = absurd q
+one_task laws texts moment (Run name options) (runs s l m) (shows w) r q = absurd q
+one_task laws texts moment (Run name options) (judges s) u r q = absurd r
+one_task laws texts moment (Run name options) (shows v) u r q = absurd r
+one_task laws texts moment (Show name) (shows v) (shows w) r q =
+    ap shows (r.text_is ∙ ap printed (laws.tree_one texts 0 name r.tree q.tree r.reads q.reads) ∙ sym q.text_is)
+one_task laws texts moment (Show name) (shows v) (runs t k n) r q = absurd q
+one_task laws texts moment (Show name) (shows v) (judges t) r q = absurd q
+one_task laws texts moment (Show name) (runs s l m) u r q = absurd r
+one_task laws texts moment (Show name) (judges s) u r q = absurd r
+one_task laws texts moment (Check name classes) (judges s) (judges t) r q = ap judges (one_setting laws.policy_tree texts moment name classes s t r q)
+one_task laws texts moment (Check name classes) (judges s) (runs t k n) r q = absurd q
+one_task laws texts moment (Check name classes) (judges s) (shows w) r q = absurd q
+one_task laws texts moment (Check name classes) (runs s l m) u r q = absurd r
+one_task laws texts moment (Check name classes) (shows v) u r q = absurd r
+one_task laws texts moment (Audit name) (shows v) (shows w) r q = ap shows (audit_is_one laws.journal_one laws.journal_both laws.journal_bad texts name v w r q)
+one_task laws texts moment (Audit name) (shows v) (runs t k n) r q = absurd q
+one_task laws texts moment (Audit name) (shows v) (judges t) r q = absurd q
+one_task laws texts moment (Audit name) (runs s l m) u r q = absurd r
+one_task laws texts moment (Audit name) (judges s) u r q = absurd r
+
+strict_one : (s : Setting) (st : Start) (verdict : Option Verdict) (a b : Done) → StrictRunDoes s st verdict a → StrictRunDoes s st verdict b → a ≡ b
+strict_one s st None a b d e = absurd d
+strict_one s st (Some (Accepted live)) a b d e = d.1 ∙ sym e.1
+strict_one s st (Some (InConflictBy c)) a b d e = d ∙ sym e
+
+judged_one : (verdict : Option Verdict) (a b : Done) → Judges verdict a → Judges verdict b → a ≡ b
+judged_one None a b d e = absurd d
+judged_one (Some verdict) a b d e = d ∙ sym e
+
+does_one : (task : Task) (moment : ℕ) (world : World) (marks : List Mark) (a b : Done) → DoesTask task moment world marks a → DoesTask task moment world marks b → a ≡ b
+does_one (runs s l true) moment world marks a b d e = strict_one s (start_of moment l world marks) (analysis_of s) a b d e
+does_one (runs s l false) moment world marks a b d e = d.1 ∙ sym e.1
+does_one (judges s) moment world marks a b d e = judged_one (analysis_of s) a b d e
+does_one (shows v) moment world marks a b d e = d ∙ sym e
+
 one_done : Laws → (texts : Texts) (moment : ℕ) (asks : Request) (t u : Task) (world : World) (marks : List Mark) (a b : Done) →
     TakesRequest texts moment asks t → TakesRequest texts moment asks u → DoesTask t moment world marks a → DoesTask u moment world marks b → a ≡ b
-one_done laws texts moment (Run name options) (runs s l) (runs t k) world marks a b r q d e =
-    d.1 ∙ one_run laws texts moment name options s t l k world marks r q ∙ sym e.1
-one_done laws texts moment (Show name) (shows v) (shows w) world marks a b r s d e =
-    d ∙ ap shown (r.text_is ∙ ap printed (laws.tree_one texts 0 name r.tree s.tree r.reads s.reads) ∙ sym s.text_is) ∙ sym e
-one_done laws texts moment (Check name classes) (shows v) (shows w) world marks a b r s d e = d ∙ ap shown (r.text_is ∙ sym s.text_is) ∙ sym e
-one_done laws texts moment (Audit name) (shows v) (shows w) world marks a b r s d e =
-    d ∙ ap shown (audit_is_one laws.journal_one laws.journal_both laws.journal_bad texts name v w r s) ∙ sym e
-one_done laws texts moment (Run name options) (runs s l) (shows w) world marks a b r q d e = absurd q
-one_done laws texts moment (Run name options) (shows v) u world marks a b r q d e = absurd r
-one_done laws texts moment (Show name) (runs s l) u world marks a b r q d e = absurd r
-one_done laws texts moment (Show name) (shows v) (runs t k) world marks a b r q d e = absurd q
-one_done laws texts moment (Check name classes) (runs s l) u world marks a b r q d e = absurd r
-one_done laws texts moment (Check name classes) (shows v) (runs t k) world marks a b r q d e = absurd q
-one_done laws texts moment (Audit name) (runs s l) u world marks a b r q d e = absurd r
-one_done laws texts moment (Audit name) (shows v) (runs t k) world marks a b r q d e = absurd q
+one_done laws texts moment asks t u world marks a b r q d e =
+    does_one u moment world marks a b (subst (λ (task : Task). DoesTask task moment world marks a) (one_task laws texts moment asks t u r q) d) e
 
 -- ---- calls
 

@@ -1,7 +1,9 @@
 pub mod AuditLemmas
 pub mod CallLemmas
+pub mod EndLemmas
 pub mod LawLemmas
 pub mod PrepareLemmas
 pub mod RunLemmas
+pub mod SettledLemmas
 pub mod Told
 pub mod WorkLemmas

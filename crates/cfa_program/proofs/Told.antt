@@ -1,7 +1,8 @@
 -- What holds of what an object of the outside tells.
-use Rattle.std.proofs.Common.{◌≡◌, ℕ, List, [], ◌++◌, Some, None, Option, Result, Ok, Err, IsErrAnd, refl, sym, ap, subst, ◌∙◌, append-nil, IfSome}
+use Rattle.std.proofs.Common.{◌≡◌, ℕ, List, [], Some, None, Option, Result, Ok, Err, IsErrAnd, refl, sym, ap, subst, ◌∙◌, append-nil, IfSome}
 use Rattle.cfa_base.specs.Causes.{Rose}
-use Rattle.cfa_base.specs.Shown.{Shown, Untouched}
+use Rattle.cfa_base.specs.Shown.{Shown, followed, Follows, Untouched}
+use Rattle.cfa_outside.specs.Sinks.{adds_bytes}
 use Rattle.cfa_outside.specs.Sites.{Told, adds}
 use Rattle.cfa_agent.specs.Ran.{IfBothTold}
 use Rattle.cfa_program.specs.Done.{HasFault}
@@ -44,6 +45,9 @@ both P Q R site site' f p q = by site.told p q where
   by None p q = tt
   by (Some b) p q = at_end b site'.told p q
 
+pub each_both : (H : Told → Told → Type 0) (site site' : Shown Told) → ((before after : Told) → H before after) → IfBothTold H site site'
+each_both H site site' f = each_some site.told _ (λ before _. each_some site'.told _ (λ after _. f before after))
+
 -- to add no entry changes nothing
 pub adds_none : (t : Told) → t ≡ adds [] t
 adds_none t i = record { world = t.world; log = sym (append-nil t.log) i }
@@ -54,6 +58,12 @@ adds_none t i = record { world = t.world; log = sym (append-nil t.log) i }
 pub on_err : {T E : Type 0} (P : Result T E → Type 0) (result : Result T E) (error : E) → IsErrAnd result (λ e. e ≡ error) → P (Err error) → P result
 on_err P (Ok _) error same h = absurd same
 on_err {T} {E} P (Err e) error same h = subst (λ (f : E). P (Err f)) (sym same) h
+
+-- ---- what is put
+
+-- where nothing was put before
+pub along : (line : List ℕ) (out mid out' : Shown (List ℕ)) → Untouched out mid → Follows (adds_bytes line) mid out' → Follows (adds_bytes line) out out'
+along line out mid out' un put = put ∙ ap (followed (adds_bytes line)) un
 
 -- ---- counts of faults
 

@@ -7,7 +7,7 @@ use Rattle.cfa_outside.specs.declared.sites.Entry.{Entry}
 use Rattle.cfa_outside.specs.Sites.{Told, adds}
 use Rattle.cfa_outside.specs.Sinks.{adds_bytes}
 use Rattle.cfa_program.specs.declared.ends.End.{End}
-use Rattle.cfa_program.specs.declared.ends.End.TheVariants.{Ended, PromiseFailed}
+use Rattle.cfa_program.specs.declared.ends.End.TheVariants.{Ended, PromiseFailed, InConflict}
 
 pub record Step : Type 0 where
   pub entries : List Entry
@@ -23,10 +23,11 @@ all_entries steps = flat_map (λ (step : Step). step.entries) steps
 abbrev pub all_lines : List Step → List ℕ
 all_lines steps = flat_map (λ (step : Step). step.lines) steps
 
--- the work came to its end, or it did so with a promise that failed
+-- the work came to its end, or it did so with a promise that failed, or the policy was found to be in conflict
 abbrev pub status_of : End → ℕ
 status_of Ended = 0
 status_of PromiseFailed = 2
+status_of InConflict = 3
 
 -- lines are put, and nothing else is done
 abbrev pub puts : List ℕ → Step

@@ -1,5 +1,5 @@
 -- How a call may end, as its clauses say it: by which status, with which line as all that was put or as the last, and what was read.
-use Rattle.std.specs.Prelude.{ℕ, ◌≡◌, ◌<◌, ◌≤◌, List, Option, Some, None, ⊤, ◌⊎◌, IfSome}
+use Rattle.std.specs.Prelude.{ℕ, ◌≡◌, ◌<◌, ◌≤◌, true, ◌++◌, List, Option, Some, None, ⊤, ◌⊎◌, IfSome}
 use Rattle.cfa_base.specs.Causes.{Rose}
 use Rattle.cfa_base.specs.declared.limits.TheConstants.{LAST_MOMENT}
 use Rattle.cfa_base.specs.Shown.{Shown, Follows, Untouched, HasFailed, IsLeft}
@@ -9,6 +9,7 @@ use Rattle.cfa_words.specs.declared.words.Request.TheVariants.{Run, Show, Check,
 use Rattle.cfa_words.specs.Words.{asked}
 use Rattle.cfa_outside.specs.Inputs.{Library}
 use Rattle.cfa_outside.specs.Sinks.{adds_bytes}
+use Rattle.cfa_outside.specs.declared.worlds.World.{World}
 use Rattle.cfa_outside.specs.Sites.{Told}
 use Rattle.cfa_output.specs.Lines.{words_line, moment_line, outside_line, visits_line, pattern_line}
 use Rattle.cfa_sources.specs.Sources.{Texts, IsNamed, IsNextFile}
@@ -16,13 +17,15 @@ use Rattle.cfa_sources.specs.Checks.{RefusesSize}
 use Rattle.cfa_sources.specs.Readings.{FailsNext}
 use Rattle.cfa_agent.specs.Marks.{marks_of}
 use Rattle.cfa_agent.specs.Ran.{added, IfBothTold}
-use Rattle.cfa_program.specs.Calls.{RefusesRequest, NeedsTooMany}
+use Rattle.cfa_walk.specs.Views.{Setting}
+use Rattle.cfa_convergence.specs.Settled.{Settles}
+use Rattle.cfa_program.specs.Calls.{Task, RefusesRequest, TakesRequest, NeedsTooMany, AnalysesTooMany, AnalysisBuildsText, RunBuildsText, RunsIn}
 
 -- ---- statuses
 
--- the call wasn't stopped: its work was done, it was refused, or a promise failed
+-- the call wasn't stopped: its work was done, it was refused, a promise failed, or a conflict was told
 abbrev pub IsEnd : (status : ℕ) → Type 0
-IsEnd status = (status ≡ 0) ⊎ ((status ≡ 1) ⊎ (status ≡ 2))
+IsEnd status = (status ≡ 0) ⊎ ((status ≡ 1) ⊎ ((status ≡ 2) ⊎ (status ≡ 3)))
 
 -- the call was stopped: by an object of the outside, by want of memory, or by a limit on patterns or on visits
 abbrev pub IsStop : (status : ℕ) → Type 0
@@ -50,6 +53,29 @@ AsksRun words = Asks IsRun words
 -- the words ask for something else than a run, or are refused
 abbrev pub AsksNoRun : (words : List (List ℕ)) → Type 0
 AsksNoRun words = ¬ AsksRun words
+
+-- a run and a check are analysed; a check and a strict run obey the analysis
+abbrev pub IsAnalysed : Request → Type 0
+IsAnalysed (Run policy options) = ⊤
+IsAnalysed (Show policy) = ⊥
+IsAnalysed (Check policy classes) = ⊤
+IsAnalysed (Audit journal) = ⊥
+
+abbrev pub IsObeying : Request → Type 0
+IsObeying (Run policy options) = options.strict ≡ true
+IsObeying (Show policy) = ⊥
+IsObeying (Check policy classes) = ⊤
+IsObeying (Audit journal) = ⊥
+
+abbrev pub AsksAnalysis : (words : List (List ℕ)) → Type 0
+AsksAnalysis words = Asks IsAnalysed words
+
+abbrev pub AsksToObey : (words : List (List ℕ)) → Type 0
+AsksToObey words = Asks IsObeying words
+
+-- the words ask for something of which the policy or the journal is taken, by these texts, in time
+abbrev pub AsksTaken : (words : List (List ℕ)) → (moment : ℕ) → Texts → Type 0
+AsksTaken words moment texts = (moment ≤ LAST_MOMENT) × Asks (λ request. (task : Task) × TakesRequest texts moment request task) words
 
 -- the words ask for something of which the policy or the journal is refused, by these texts
 abbrev pub AsksRefused : (words : List (List ℕ)) → Texts → Type 0
@@ -130,30 +156,79 @@ pub record StopsAtSite (words : List (List ℕ)) (site site' : Shown Told)
   pub rose : Rose site.faults site'.faults
   pub put : PutsLast outside_line out'
 
+-- the text is one that the analysis builds, as far as the inputs tell
+abbrev pub AnalysisBuilt : (words : List (List ℕ)) → (moment : ℕ) → (told : Option Library) → (text : List ℕ) → Type 0
+AnalysisBuilt words moment told text =
+    AsksAnalysis words × IfSome told (λ library. AnalysisBuildsText words moment library.texts text)
+
+-- the text is one that the run builds, by its definition under the marks of the entries so far, as far as is told
+abbrev pub RunBuilt :
+    (words : List (List ℕ)) → (moment : ℕ) → (told : Option Library) → (site site' : Shown Told) → (text : List ℕ) → Type 0
+RunBuilt words moment told site site' text =
+    AsksRun words × IfSome told (λ library. IfBothTold (λ before after.
+    RunBuildsText words moment library.texts before.world (marks_of (added before after)) text) site site')
+
 -- a text was refused for its size in this call: one of the patterns of the policy that is checked or run, or one that the
--- run builds
-pub record RefusesText (words : List (List ℕ)) (told : Option Library)
+-- analysis or the run builds
+pub record RefusesText (words : List (List ℕ)) (moment : ℕ) (told : Option Library) (site site' : Shown Told)
     (pats pats' : Shown (List (List ℕ))) : Type 0 where
   pub text : List ℕ
-  pub builds : AsksBuilt words told text ⊎ AsksRun words
+  pub builds : AsksBuilt words told text
+      ⊎ (AnalysisBuilt words moment told text ⊎ RunBuilt words moment told site site' text)
   pub refused : HasFailed (refuses text) pats pats'
 
--- a call was stopped by a pattern that is too big: one of its policy, so that the stop's line is all that was done, or one
--- that a run builds
-pub data StopsAtPattern (words : List (List ℕ)) (told : Option Library) (site site' : Shown Told)
+-- a call was stopped by a pattern that is too big: one of its policy, or one that the analysis builds, so that the stop's line is all that
+-- was done; or one that a run builds
+pub data StopsAtPattern (words : List (List ℕ)) (moment : ℕ) (told : Option Library) (site site' : Shown Told)
     (out out' : Shown (List ℕ)) (pats pats' : Shown (List (List ℕ))) : Type 0 where
   of_policy : {text : List ℕ} → AsksBuilt words told text → HasFailed (refuses text) pats pats' →
       Untouched site site' → Follows (adds_bytes pattern_line) out out' →
-      StopsAtPattern words told site site' out out' pats pats'
-  of_run : {text : List ℕ} → AsksRun words → HasFailed (refuses text) pats pats' →
-      PutsLast pattern_line out' → StopsAtPattern words told site site' out out' pats pats'
+      StopsAtPattern words moment told site site' out out' pats pats'
+  of_analysis : {text : List ℕ} → AnalysisBuilt words moment told text → HasFailed (refuses text) pats pats' →
+      Untouched site site' → Follows (adds_bytes pattern_line) out out' →
+      StopsAtPattern words moment told site site' out out' pats pats'
+  of_run : {text : List ℕ} → RunBuilt words moment told site site' text → HasFailed (refuses text) pats pats' →
+      PutsLast pattern_line out' → StopsAtPattern words moment told site site' out out' pats pats'
 
--- a run was stopped since its definition, under the marks of the entries so far, needs more visits than it may make
-pub record StopsAtVisits (words : List (List ℕ)) (moment : ℕ) (told : Option Library)
-    (site site' : Shown Told) (out' : Shown (List ℕ))
+-- a call was stopped by too many visits, of the analysis that it obeys, so that the stop's line is all that was done; or of its run, by the
+-- run's definition under the marks of the entries so far
+pub data StopsAtVisits (words : List (List ℕ)) (moment : ℕ) (told : Option Library)
+    (site site' : Shown Told) (out out' : Shown (List ℕ))
     (pats pats' : Shown (List (List ℕ))) : Type 0 where
-  pub asks_run : AsksRun words
-  pub too_many : IfSome told (λ library. IfBothTold (λ before after.
-      NeedsTooMany words moment library.texts before.world (marks_of (added before after))) site site')
-  pub no_pattern : Untouched pats pats'
-  pub put : PutsLast visits_line out'
+  by_analysis : AsksToObey words → IfSome told (λ library. AnalysesTooMany words moment library.texts) →
+      Untouched site site' → Untouched pats pats' → Follows (adds_bytes visits_line) out out' →
+      StopsAtVisits words moment told site site' out out' pats pats'
+  by_run : AsksRun words → IfSome told (λ library. IfBothTold (λ before after.
+      NeedsTooMany words moment library.texts before.world (marks_of (added before after))) site site') →
+      Untouched pats pats' → PutsLast visits_line out' →
+      StopsAtVisits words moment told site site' out out' pats pats'
+
+-- ---- settled
+
+-- the line is the last of these bytes
+abbrev pub EndsWith : (line bytes : List ℕ) → Type 0
+EndsWith line bytes = (front : List ℕ) × (bytes ≡ front ++ line)
+
+-- each setting in which a policy is run settles on this world
+abbrev pub IsSettledBy : (words : List (List ℕ)) → (moment : ℕ) → Texts → World → Type 0
+IsSettledBy words moment texts world =
+    (setting : Setting) → RunsIn words moment texts setting → Settles setting world
+
+-- ---- completeness
+
+-- nothing outside failed, no pattern was refused for its size, and neither the analysis that is obeyed nor the run, by what the site
+-- tells, needs too many visits
+pub record IsUnhindered (words : List (List ℕ)) (moment : ℕ) (texts : Texts) (inputs inputs' : Shown Library)
+    (site site' : Shown Told) (out out' : Shown (List ℕ))
+    (pats pats' : Shown (List (List ℕ))) : Type 0 where
+  pub inputs_stand : Rose inputs.faults inputs'.faults → ⊥
+  pub site_stands : Rose site.faults site'.faults → ⊥
+  pub sink_stands : Rose out.faults out'.faults → ⊥
+  pub builder_stands : Rose pats.faults pats'.faults → ⊥
+  pub analysis_ends : AnalysesTooMany words moment texts → ⊥
+  pub run_ends : AsksRun words → IfBothTold (λ before after.
+      NeedsTooMany words moment texts before.world (marks_of (added before after))) site site' → ⊥
+
+-- the work was done, or memory ended
+abbrev pub IsDoneOrMemory : (status : ℕ) → Type 0
+IsDoneOrMemory status = (status ≡ 0) ⊎ ((status ≡ 2) ⊎ ((status ≡ 3) ⊎ (status ≡ 5)))

@@ -2,5 +2,4 @@ pub mod Audits
 pub mod Calls
 pub mod Done
 pub mod Ends
-pub mod Lines
 pub mod Stages

@@ -1,6 +1,6 @@
 -- Of the code alone: the two phases of a call. What reads it touches neither the site nor the sink, and what does its work
 -- doesn't touch the inputs.
-use Rattle.std.specs.Prelude.{ℕ, ◌≡◌, ◌≢◌, ◌<◌, ◌≤◌, List, Option, Some, None, ⊤, ◌⊎◌, Bool, Result, Ok, Err, IfOk, OnOk, IfErr, IsErrOf, IfSome}
+use Rattle.std.specs.Prelude.{ℕ, ◌≡◌, ◌≢◌, ◌<◌, ◌≤◌, List, Option, Some, None, ⊤, ◌⊎◌, Bool, true, false, Result, Ok, Err, IfOk, OnOk, IfErr, IsErrOf, IfSome}
 use Rattle.cfa_base.specs.declared.limits.TheConstants.{LAST_MOMENT}
 use Rattle.cfa_base.specs.Shown.{Shown, Follows, Untouched}
 use Rattle.cfa_base.specs.Patterns.{SizeRefusal}
@@ -10,61 +10,84 @@ use Rattle.cfa_words.specs.Words.{asked}
 use Rattle.cfa_outside.specs.Inputs.{Library}
 use Rattle.cfa_outside.specs.Sites.{Told}
 use Rattle.cfa_outside.specs.Sinks.{adds_bytes}
-use Rattle.cfa_output.specs.declared.ends.Object.TheVariants.{Sink}
+use Rattle.cfa_output.specs.declared.ends.Object.TheVariants.{Inputs, Site, Sink}
 use Rattle.cfa_output.specs.declared.ends.Stop.{Stop}
 use Rattle.cfa_output.specs.declared.ends.Stop.TheVariants.{Outside, Memory, Visits, Pattern}
 use Rattle.cfa_output.specs.declared.ends.Failure.{Failure}
 use Rattle.cfa_output.specs.declared.ends.Failure.TheVariants.{Refused, Stopped}
 use Rattle.cfa_output.specs.Ends.{IfRefused}
+use Rattle.cfa_output.specs.declared.items.End.TheVariants.{Yes}
 use Rattle.cfa_output.specs.Lines.{words_line, moment_line, stop_line, journal_bad_line, journal_long_line}
 use Rattle.cfa_output.specs.Puts.{PutsShort}
 use Rattle.cfa_journal.specs.declared.journals.JournalErr.{JournalErr}
 use Rattle.cfa_journal.specs.declared.journals.JournalErr.TheVariants.{BadRecord, TooLong, NoMemory}
-use Rattle.cfa_sources.specs.Sources.{IsNamed, IsNextFile}
+use Rattle.cfa_sources.specs.Sources.{Texts, IsNamed, IsNextFile}
 use Rattle.cfa_sources.specs.Checks.{Refuses as RefusesPolicy, RefusesSize}
 use Rattle.cfa_sources.specs.Readings.{ReadUpTo, stop_of, stopped_by, text_too_big}
 use Rattle.cfa_walk.specs.Settings.{setting_of}
 use Rattle.cfa_walk.specs.Views.{Setting}
-use Rattle.cfa_agent.specs.Runs.{run_of}
-use Rattle.cfa_agent.specs.Ran.{started, IsWhole, IsCutOff, IfBothTold, StopsRun, Refuses}
+use Rattle.cfa_conflict.specs.declared.verdicts.Verdict.{Verdict}
+use Rattle.cfa_conflict.specs.declared.verdicts.Verdict.TheVariants.{Accepted, Conflict as InConflictBy}
+use Rattle.cfa_conflict.specs.Analyses.{AnalysisBuilds, analysis_of}
+use Rattle.cfa_agent.specs.Runs.{run_of, tally_of}
+use Rattle.cfa_agent.specs.Ran.{RunBuilds, started, IsWhole, IsCutOff, IfBothTold, StopsRun, Refuses}
+use Rattle.cfa_convergence.specs.Settled.{Settles}
 use Rattle.cfa_program.specs.declared.ends.End.{End}
-use Rattle.cfa_program.specs.declared.ends.End.TheVariants.{Ended}
+use Rattle.cfa_program.specs.declared.ends.End.TheVariants.{Ended, PromiseFailed, InConflict}
+use Rattle.cfa_program.specs.declared.work.PolicyInContext.{PolicyInContext}
 use Rattle.cfa_program.specs.declared.work.PolicyRun.{PolicyRun}
 use Rattle.cfa_program.specs.declared.work.Work.{Work}
-use Rattle.cfa_program.specs.declared.work.Work.TheVariants.{Run, Show, Check}
+use Rattle.cfa_program.specs.declared.work.Work.TheVariants.{Run, Judge, Show}
 use Rattle.cfa_program.specs.Audits.{bytes_of, AuditsAs, RefusesJournal}
-use Rattle.cfa_program.specs.Calls.{Task, runs, shows, TakesRun, RefusesRequest, TakesRequest, ran}
+use Rattle.cfa_program.specs.Calls.{Task, runs, judges, shows, TakesPolicy, TakesRun, RefusesRequest, TakesRequest, settled_by, verdict_line, verdict_end, ran}
 use Rattle.cfa_program.specs.Done.{IsDone, HasFault, status_of}
-use Rattle.cfa_program.specs.Ends.{IsRun, IsNextOf, AsksNext, BuildsOf, AsksBuilt, RefusesCall}
-use Rattle.cfa_program.specs.Lines.{valid_line}
+use Rattle.cfa_program.specs.Ends.{IsRun, IsObeying, IsNextOf, AsksNext, BuildsOf, AsksBuilt, RefusesCall}
 
 -- ---- the work
 
 abbrev pub RunsPolicy : Work → Type 0
 RunsPolicy (Run order) = ⊤
+RunsPolicy (Judge policy) = ⊥
 RunsPolicy (Show text) = ⊥
-RunsPolicy Check = ⊥
 
-abbrev pub setting_in : PolicyRun → Setting
-setting_in order = setting_of order.checked order.context
+-- the work is done as its analysis says
+abbrev pub Obeys : Work → Type 0
+Obeys (Run order) = order.strict ≡ true
+Obeys (Judge policy) = ⊤
+Obeys (Show text) = ⊥
+
+abbrev pub setting_in : PolicyInContext → Setting
+setting_in policy = setting_of policy.checked policy.context
 
 -- what the work is by the definition of a call
 abbrev pub task_of : Work → Task
-task_of (Run order) = runs (setting_in order) order.locks
+task_of (Run order) = runs (setting_in order.policy) order.locks order.strict
+task_of (Judge policy) = judges (setting_in policy)
 task_of (Show text) = shows text
-task_of Check = shows valid_line
 
 -- ---- reading
 
 -- the work is what a request asks for
 pub record IsWorkOf (request : Request) (moment : ℕ) (told : Option Library) (work : Work) : Type 0 where
   pub runs : RunsPolicy work → IsRun request
+  pub obeys : Obeys work → IsObeying request
   pub taken : IfSome told (λ library. TakesRequest library.texts moment request (task_of work))
+
+-- a policy was read, and its classes are those that are set from the start
+pub record PolicyPrepared (policy : List ℕ) (handed_in : List (List ℕ)) (moment : ℕ) (inputs inputs' : Shown Library) (pats pats' : Shown (List (List ℕ))) (result : Result PolicyInContext Failure) : Type 0 where
+  pub takes : IfOk result (λ taken. IfSome inputs.told (λ library.
+      TakesPolicy library.texts moment policy handed_in (setting_in taken)))
+  pub refused : IfErr result (λ failure. IfRefused failure (λ line.
+      IfSome inputs.told (λ library. RefusesPolicy library.texts policy line)))
+  pub inputs_are : ReadUpTo (IsNextFile policy) (stop_of result) inputs inputs'
+  pub patterns_are : SizeRefusal (λ text. IfSome inputs.told (λ library. RefusesSize library.texts policy text))
+      (text_too_big (stop_of result)) pats pats'
 
 -- a policy was read to be run
 pub record RunPrepared (policy : List ℕ) (options : Options) (moment : ℕ) (inputs inputs' : Shown Library) (pats pats' : Shown (List (List ℕ))) (result : Result PolicyRun Failure) : Type 0 where
   pub order : IfOk result (λ order. IfSome inputs.told (λ library.
-      TakesRun library.texts moment policy options (setting_in order) order.locks))
+      TakesRun library.texts moment policy options (setting_in order.policy) order.locks order.strict))
+  pub strict_is : IfOk result (λ order. order.strict ≡ options.strict)
   pub refused : IfErr result (λ failure. IfRefused failure (λ line.
       IfSome inputs.told (λ library. RefusesPolicy library.texts policy line)))
   pub inputs_are : ReadUpTo (IsNextFile policy) (stop_of result) inputs inputs'
@@ -132,18 +155,113 @@ pub record Prepared (words : List (List ℕ)) (moment : ℕ) (inputs inputs' : S
   pub inputs_are : ReadUpTo (AsksNext words) (stop_of result) inputs inputs'
   pub patterns_are : SizeRefusal (AsksBuilt words inputs.told) (text_too_big (stop_of result)) pats pats'
 
+-- ---- the analysis
+
+-- an analysis is stopped by a pattern that it builds, or by want of memory
+abbrev pub StopsAnalysis : Setting → Stop → Type 0
+StopsAnalysis setting (Outside object) = ⊥
+StopsAnalysis setting Memory = ⊤
+StopsAnalysis setting Visits = ⊥
+StopsAnalysis setting (Pattern text) = AnalysisBuilds setting text
+
+-- a policy was analysed; none where its analysis needs too many visits
+pub record Analysed (setting : Setting) (pats pats' : Shown (List (List ℕ))) (result : Result (Option Verdict) Stop) : Type 0 where
+  pub verdict_is : IfOk result (λ verdict. analysis_of setting ≡ verdict)
+  pub stopped : IfErr result (StopsAnalysis setting)
+  pub patterns_are : Refuses (text_too_big (stopped_by result)) pats pats'
+
+-- the line of a verdict was put
+abbrev pub TellsVerdict : Option Verdict → End → (out out' : Shown (List ℕ)) → Type 0
+TellsVerdict None end out out' = ⊥
+TellsVerdict (Some verdict) end out out' = (end ≡ verdict_end verdict) × Follows (adds_bytes (verdict_line verdict)) out out'
+
+-- nothing was put, unless the sink failed
+abbrev pub StopsTelling : (out out' : Shown (List ℕ)) → Stop → Type 0
+StopsTelling out out' (Outside Inputs) = ⊥
+StopsTelling out out' (Outside Site) = ⊥
+StopsTelling out out' (Outside Sink) = HasFault out out'
+StopsTelling out out' Memory = Untouched out out'
+StopsTelling out out' Visits = Untouched out out'
+StopsTelling out out' (Pattern text) = Untouched out out'
+
+-- the sink failed, or memory ended before
+abbrev pub StopsPutting : (out out' : Shown (List ℕ)) → Stop → Type 0
+StopsPutting out out' (Outside Inputs) = ⊥
+StopsPutting out out' (Outside Site) = ⊥
+StopsPutting out out' (Outside Sink) = HasFault out out'
+StopsPutting out out' Memory = Untouched out out'
+StopsPutting out out' Visits = ⊥
+StopsPutting out out' (Pattern text) = ⊥
+
+-- the line of this verdict was put, or memory ended or the sink failed
+pub record VerdictPut (verdict : Verdict) (out out' : Shown (List ℕ)) (result : Result End Stop) : Type 0 where
+  pub put : IfOk result (λ end. TellsVerdict (Some verdict) end out out')
+  pub stopped : IfErr result (StopsPutting out out')
+
+-- the text that stopped the work is one that the analysis builds
+abbrev pub BuiltToAnalyse : Setting → Option (List ℕ) → Type 0
+BuiltToAnalyse setting None = ⊤
+BuiltToAnalyse setting (Some text) = AnalysisBuilds setting text
+
+-- a policy was judged: the line of its verdict was put
+pub record PolicyJudged (setting : Setting) (out out' : Shown (List ℕ)) (pats pats' : Shown (List (List ℕ))) (result : Result End Stop) : Type 0 where
+  pub told : IfOk result (λ end. TellsVerdict (analysis_of setting) end out out')
+  pub too_large : IsErrOf result Visits → analysis_of setting ≡ None
+  pub stopped : IfErr result (StopsTelling out out')
+  pub built : BuiltToAnalyse setting (text_too_big (stopped_by result))
+  pub patterns_are : Refuses (text_too_big (stopped_by result)) pats pats'
+
+-- that was all
+pub record OnlyJudged (setting : Setting) (site site' : Shown Told) (out out' : Shown (List ℕ)) (pats pats' : Shown (List (List ℕ))) (result : Result End Stop) : Type 0 where
+  pub judged : PolicyJudged setting out out' pats pats' result
+  pub site_is : Untouched site site'
+
 -- ---- doing the work
+
+-- an end of a run that was made
+abbrev pub IsEndOfRun : End → Type 0
+IsEndOfRun Ended = ⊤
+IsEndOfRun PromiseFailed = ⊤
+IsEndOfRun InConflict = ⊥
 
 -- a run of the setting was made, or stopped
 pub record RunPerformed (setting : Setting) (moment : ℕ) (has_locks : Bool) (site site' : Shown Told) (out out' : Shown (List ℕ)) (pats pats' : Shown (List (List ℕ))) (result : Result End Stop) : Type 0 where
+  pub ends : IfOk result IsEndOfRun
   pub whole : OnOk result (IfBothTold (λ before after.
       IsWhole (run_of setting (started moment has_locks before after))) site site')
   pub done : IfOk result (λ end. IfBothTold (λ before after.
-      IsDone (ran setting (started moment has_locks before after)) before after out out' (status_of end)) site site')
+      IsDone (ran setting (started moment has_locks before after) (analysis_of setting)) before after out out' (status_of end)) site site')
+  pub settles : OnOk result (IfBothTold (λ before after.
+      settled_by has_locks (tally_of setting (started moment has_locks before after)).failed (analysis_of setting) ≡ Yes → Settles setting after.world) site site')
   pub too_large : IsErrOf result Visits → IfBothTold (λ before after.
       IsCutOff (run_of setting (started moment has_locks before after))) site site'
   pub stopped : IfErr result (StopsRun site site' out out')
+  pub built : RunBuilds setting moment has_locks site site' (text_too_big (stopped_by result))
   pub patterns_are : Refuses (text_too_big (stopped_by result)) pats pats'
+
+-- the run is made whatever the verdict, but where it is strict, which wants the policy to be accepted
+abbrev pub MayRun : (is_strict : Bool) → Option Verdict → Type 0
+MayRun false verdict = ⊤
+MayRun true None = ⊥
+MayRun true (Some (Accepted live)) = ⊤
+MayRun true (Some (InConflictBy c)) = ⊥
+
+abbrev pub IsInConflict : Option Verdict → Type 0
+IsInConflict None = ⊥
+IsInConflict (Some (Accepted live)) = ⊥
+IsInConflict (Some (InConflictBy c)) = ⊤
+
+-- the work came to its end with the analysis of a run, or was stopped there: by a conflict and by too many visits in a strict run alone
+pub record IsObeyed (is_strict : Bool) (verdict : Option Verdict) (result : Result End Stop) : Type 0 where
+  pub conflict : OnOk result ((is_strict ≡ true) × IsInConflict verdict)
+  pub too_large : IsErrOf result Visits → is_strict ≡ true
+
+-- a policy was run, or its run ended with its analysis
+pub data PolicyRan (setting : Setting) (moment : ℕ) (has_locks is_strict : Bool) (site site' : Shown Told) (out out' : Shown (List ℕ)) (pats pats' : Shown (List (List ℕ))) (result : Result End Stop) : Type 0 where
+  not_made : IsObeyed is_strict (analysis_of setting) result → OnlyJudged setting site site' out out' pats pats' result →
+      PolicyRan setting moment has_locks is_strict site site' out out' pats pats' result
+  made : MayRun is_strict (analysis_of setting) → RunPerformed setting moment has_locks site site' out out' pats pats' result →
+      PolicyRan setting moment has_locks is_strict site site' out out' pats pats' result
 
 -- a text was put, or the sink failed
 pub record TextPut (text : List ℕ) (out out' : Shown (List ℕ)) (result : Result End Stop) : Type 0 where
@@ -156,13 +274,19 @@ pub record OnlyPut (text : List ℕ) (site site' : Shown Told) (out out' : Shown
   pub site_is : Untouched site site'
   pub patterns_are : Untouched pats pats'
 
--- work that is no run touches neither the site nor the patterns
+-- work that is no run touches neither the site nor, but for its analysis, the patterns
 abbrev pub Performed :
     Work → (moment : ℕ) → (site site' : Shown Told) → (out out' : Shown (List ℕ)) → (pats pats' : Shown (List (List ℕ))) → Result End Stop → Type 0
 Performed (Run order) moment site site' out out' pats pats' result =
-    RunPerformed (setting_in order) moment order.locks site site' out out' pats pats' result
+    PolicyRan (setting_in order.policy) moment order.locks order.strict site site' out out' pats pats' result
+Performed (Judge policy) moment site site' out out' pats pats' result = OnlyJudged (setting_in policy) site site' out out' pats pats' result
 Performed (Show text) moment site site' out out' pats pats' result = OnlyPut text site site' out out' pats pats' result
-Performed Check moment site site' out out' pats pats' result = OnlyPut valid_line site site' out out' pats pats' result
+
+-- a policy is run in one setting
+abbrev pub OneSetting : Type 0
+OneSetting =
+    (texts : Texts) (moment : ℕ) (request : Request) (a b : Setting) (locks other_locks strict other_strict : Bool) →
+    TakesRequest texts moment request (runs a locks strict) → TakesRequest texts moment request (runs b other_locks other_strict) → a ≡ b
 
 -- ---- the end of a call
 

@@ -14,6 +14,8 @@ pub enum End {
     Ended,
     /// It came to its end, and a promise failed.
     PromiseFailed,
+    /// Two promises of the policy are in conflict.
+    InConflict,
 }
 
 const REFUSED: u8 = 1;
@@ -25,6 +27,7 @@ pub fn end_status(end: End) -> u8
     match end {
         End::Ended => 0,
         End::PromiseFailed => 2,
+        End::InConflict => 3,
     }
 }
 

@@ -1,5 +1,6 @@
 // Laws over the definitions of a call.
 ghost use Rattle.cfa_program.specs.Calls.{DoesOneThing, TakenIsNotRefused};
+ghost use Rattle.cfa_program.specs.Stages.{OneSetting};
 
 use cfa_journal::one_journal;
 use cfa_sources::{a_file_has_one_answer, a_policy_has_one_answer};
@@ -10,6 +11,13 @@ pub fn taken_requests_are_not_refused()
 {
     one_journal();
     a_file_has_one_answer();
+    a_policy_has_one_answer();
+}
+
+/// A policy is run in one setting: by its words and moment and the texts of its inputs.
+pub fn a_policy_is_run_in_one_setting()
+    ensures { OneSetting }
+{
     a_policy_has_one_answer();
 }
 

@@ -5,7 +5,6 @@ mod agent;
 mod auditing;
 mod ends;
 mod laws;
-mod lines;
 mod performing;
 mod preparing;
 #[cfg(test)]

@@ -3,10 +3,10 @@
 ghost use Rattle.std.specs.Prelude.{◌≡◌, ◌≤◌, ◌++◌, IfOk, IfErr};
 ghost use Rattle.cfa_classes.specs.Calendar.{hard_classes};
 ghost use Rattle.cfa_output.specs.Lines.{line_of};
-ghost use Rattle.cfa_program.specs.Stages.{RunPrepared, RequestPrepared, IsRefusalWith, Prepared};
+ghost use Rattle.cfa_program.specs.Stages.{PolicyPrepared, RunPrepared, RequestPrepared, IsRefusalWith, Prepared};
 
 use crate::auditing::audit_journal;
-use crate::work::{PolicyRun, Work};
+use crate::work::{PolicyInContext, PolicyRun, Work};
 use cfa_base::{LAST_MOMENT, Name, Names, NoMemory, Patterns};
 use cfa_classes::hard;
 use cfa_output::{Failure, Item, line};
@@ -30,6 +30,24 @@ fn context_of(alloc: Global, moment: u64, handed_in: &Names) -> Result<Context, 
     Ok(Context { classes })
 }
 
+// A policy, with the classes that are set from the start.
+fn prepare_policy<I: Inputs, P: Patterns>(
+    alloc: Global,
+    policy: &Name,
+    handed_in: &Names,
+    moment: u64,
+    inputs: &mut I,
+    pats: &mut P,
+) -> Result<PolicyInContext, Failure>
+    requires { moment ≤ LAST_MOMENT }
+    ensures { PolicyPrepared policy.now handed_in.now moment
+        (I.shown inputs.old) (I.shown inputs.new) (P.shown pats.old) (P.shown pats.new) result }
+{
+    let checked = read_policy(alloc, policy, inputs, pats)?;
+    let context = context_of(alloc, moment, handed_in)?;
+    Ok(PolicyInContext { checked, context })
+}
+
 // The run of a policy.
 fn prepare_run<I: Inputs, P: Patterns>(
     alloc: Global,
@@ -43,12 +61,11 @@ fn prepare_run<I: Inputs, P: Patterns>(
     ensures { RunPrepared policy.now options.now moment (I.shown inputs.old) (I.shown inputs.new)
         (P.shown pats.old) (P.shown pats.new) result }
 {
-    let checked = read_policy(alloc, policy, inputs, pats)?;
-    let context = context_of(alloc, moment, &options.classes)?;
+    let policy = prepare_policy(alloc, policy, &options.classes, moment, inputs, pats)?;
     Ok(PolicyRun {
-        checked,
-        context,
+        policy,
         locks: options.locks,
+        strict: options.strict,
     })
 }
 
@@ -73,9 +90,9 @@ fn prepare_request<I: Inputs, P: Patterns>(
             let tree = read_tree_of(alloc, policy, inputs)?;
             Ok(Work::Show(print(alloc, &tree)?))
         }
-        Request::Check(policy, _) => {
-            read_policy(alloc, policy, inputs, pats)?;
-            Ok(Work::Check)
+        Request::Check(policy, classes) => {
+            let policy = prepare_policy(alloc, policy, classes, moment, inputs, pats)?;
+            Ok(Work::Judge(policy))
         }
         Request::Audit(journal) => Ok(Work::Show(audit_journal(alloc, journal, inputs)?)),
     }

@@ -9,6 +9,7 @@ mod functions;
 mod host_runs;
 mod inputs;
 mod large_runs;
+mod limits;
 mod line_runs;
 mod lock_runs;
 mod ordering;
@@ -20,9 +21,12 @@ mod run_tables;
 mod runs;
 mod sequences;
 mod service_runs;
+mod settled_runs;
+mod settling;
 mod shows;
 mod stops;
 mod text_runs;
+mod verdicts;
 mod worlds;
 
 use crate::agent::agent_main;
@@ -30,6 +34,7 @@ use cfa_base::{Bytes, Name};
 use cfa_outside::{MemoryInputs, MemorySink, MemorySite, RegexPatterns, World};
 use std::alloc::Global;
 use std::process::Abort;
+use std::str;
 use std::test::Fail;
 
 const MOTD: &str = "bundle agent main\n{\n  files:\n    \"/etc/motd\" create => \"true\";\n}\n";
@@ -64,10 +69,25 @@ const PLAIN: Case<'static> = Case {
     failing_put: 0,
     refused_build: 0,
     room: 4096,
-    lines: "valid\n",
+    lines: "accepted 1\n",
     status: 0,
     entries: 0,
 };
+
+// The lines of a row that is about validity alone, whatever the verdict.
+const VALID: &str = "valid\n";
+
+// These are the line and the status of a verdict.
+fn is_verdict(lines: &[u8], status: u8) -> bool {
+    let Ok(text) = str::from_utf8(lines) else {
+        return false;
+    };
+    match status {
+        0 => text.starts_with("accepted "),
+        3 => text.starts_with("conflict C"),
+        _ => false,
+    }
+}
 
 fn empty_site(alloc: Global, failing_call: u32) -> Result<MemorySite, Fail> {
     Ok(MemorySite::new(
@@ -121,12 +141,20 @@ fn compare_on(
         &mut out,
         &mut pats,
     );
-    assert!(rt; status == case.status, "status of {}", case.words);
-    assert!(rt;
-        out.bytes() == case.lines.as_bytes(),
-        "lines of {}",
-        case.lines
-    );
+    if case.lines == VALID {
+        assert!(rt;
+            is_verdict(out.bytes(), status),
+            "validity of {}",
+            case.words
+        );
+    } else {
+        assert!(rt; status == case.status, "status of {}", case.words);
+        assert!(rt;
+            out.bytes() == case.lines.as_bytes(),
+            "lines of {}",
+            case.lines
+        );
+    }
     assert!(rt;
         site.log().len() == case.entries,
         "entries of {}",

@@ -3,14 +3,22 @@ use cfa_base::Name;
 use cfa_schema::Checked;
 use cfa_walk::Context;
 
-/// A valid policy that is run.
+/// A valid policy with the classes that are set from the start.
 #[derive(Drop)]
-pub struct PolicyRun {
+pub struct PolicyInContext {
     pub checked: Checked,
     /// The classes of the calendar, and then those that are handed in.
     pub context: Context,
+}
+
+/// A valid policy that is run.
+#[derive(Drop)]
+pub struct PolicyRun {
+    pub policy: PolicyInContext,
     /// Whether locks count.
     pub locks: bool,
+    /// Whether it is run only where it is accepted.
+    pub strict: bool,
 }
 
 /// What is to be done once the words and the moment of a call are taken, and what its words name.
@@ -18,8 +26,8 @@ pub struct PolicyRun {
 pub enum Work {
     /// This policy is run.
     Run(PolicyRun),
+    /// This policy is judged.
+    Judge(PolicyInContext),
     /// This text is shown: that of a policy, or that of an audit.
     Show(Name),
-    /// It is told that the policy is valid.
-    Check,
 }

@@ -172,7 +172,7 @@ const OF_INPUTS: InputsCase<'static> = InputsCase {
     main: WITH_INPUTS,
     files: [("b.cf", INPUT_B), ("c.cf", INPUT_C)],
     failing_read: 0,
-    lines: "valid\n",
+    lines: "accepted 1\n",
     status: 0,
 };
 

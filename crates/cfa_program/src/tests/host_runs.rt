@@ -24,12 +24,16 @@ repaired main:4@11 1
 repaired main:3@9 1
 repaired main:2@7 1
 total kept 0 repaired 3 failed 0 skipped 0
+settled: yes
 $ 0 run a.cf -K
 total kept 3 repaired 0 failed 0 skipped 0
+settled: yes
 $ 0 run a.cf
 total kept 3 repaired 0 failed 0 skipped 0
+settled: no (locks)
 $ 0 run a.cf
 total kept 0 repaired 0 failed 0 skipped 1
+settled: no (locks)
 ";
 
 const SETTINGS: &str = "settings
@@ -51,8 +55,10 @@ $ 0 run a.cf -K
 repaired main:2@6 1
 repaired main:3@11 1
 total kept 0 repaired 2 failed 0 skipped 0
+settled: yes
 $ 0 run a.cf -K
 total kept 1 repaired 0 failed 0 skipped 0
+settled: yes
 ";
 
 const LINES: &str = "lines
@@ -66,10 +72,12 @@ repaired main:4@2 2
 failed main:5@2 F3 Obstructed
 failed main:6@2 F2 Missing
 total kept 1 repaired 3 failed 2 skipped 0
+settled: no (failed)
 $ 2 run a.cf -K
 failed main:5@2 F3 Obstructed
 failed main:6@2 F2 Missing
 total kept 4 repaired 0 failed 2 skipped 0
+settled: no (failed)
 ";
 
 // Puts a file of a heading into the folder of a host.

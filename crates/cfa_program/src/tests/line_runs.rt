@@ -11,6 +11,7 @@ $ 2 run a.cf -K
 > append fail 1 main:1@1 |main 1;edit /t r:all:a:aa;k=;r=;f=;e=1| F5
 failed main:1@1 F5 NonConvergent
 total kept 0 repaired 0 failed 1 skipped 0
+settled: no (failed)
 $ 6 run a.cf -K ?1
 stopped: pattern
 == a line that stands is kept without its newline, another goes behind it
@@ -23,6 +24,7 @@ $ 0 run a.cf -K
 > append done 2 repaired 1
 repaired main:2@1 1
 total kept 1 repaired 1 failed 0 skipped 0
+settled: no (conflict)
 == a field of a line, and one that is missing
 + file /p root%3Ax%3A0%0Aroot2%3Ax%3A0
 bundle agent main { files: '/p' edit_line => cell('root:.*', ':', '2', '*'); '/p' edit_line => cell('root:.*', ':', '4', '*'); }
@@ -35,11 +37,13 @@ $ 2 run a.cf -K
 repaired main:1@1 1
 failed main:2@1 F7 FieldCount
 total kept 0 repaired 1 failed 1 skipped 0
+settled: no (failed)
 $ 2 run a.cf -K
 > append run 1704103200
 > append fail 2 main:2@1 |main 2;edit /p f:root%3A.%2A:%3A:4:%2A;k=;r=;f=;e=1| F7
 failed main:2@1 F7 FieldCount
 total kept 1 repaired 0 failed 1 skipped 0
+settled: no (failed)
 == before an anchor, without one, and where the line stands none is looked for
 + file /t a%0Ac1%0Ac2%0A
 bundle agent main { files: '/t' edit_line => add_at('b', 'before', 'first', 'c.*'); '/t' edit_line => add_at('n', 'before', 'first', 'd.*');
@@ -57,6 +61,7 @@ repaired main:1@1 1
 failed main:2@1 F6 NoAnchor
 repaired main:4@2 1
 total kept 1 repaired 2 failed 1 skipped 0
+settled: no (failed)
 == the kinds of edits come in their order, whatever that of the text
 + file /t gone%0Aroot%3Ax%3A0%0Ac1
 bundle agent main { files: '/t' edit_line => kinds; }
@@ -78,8 +83,10 @@ $ 0 run a.cf -K
 > append done 1 repaired 1
 repaired main:1@1 1
 total kept 0 repaired 1 failed 0 skipped 0
+settled: yes
 $ 0 run a.cf -K
 total kept 1 repaired 0 failed 0 skipped 0
+settled: yes
 == a carriage return is part of its line, and a blank line is one
 + file /t a%0D%0A%0Ab%0D%0A
 bundle agent main { files: '/t' edit_line => add('a'); '/t' edit_line => add(''); '/t' edit_line => drop(''); }
@@ -94,6 +101,7 @@ $ 0 run a.cf -K
 repaired main:1@1 1
 repaired main:3@1 1
 total kept 1 repaired 2 failed 0 skipped 0
+settled: no (conflict)
 == an empty file has no lines, and a script may be empty
 + file /t
 bundle agent main { files: '/t' edit_line => nothing; '/t' edit_line => drop('.*'); '/t' edit_line => add_first('x$(const.n)y$(const.n)x'); '/u' edit_line => nothing; }
@@ -106,6 +114,7 @@ $ 2 run a.cf -K
 repaired main:3@1 1
 failed main:4@1 F2 Missing
 total kept 2 repaired 1 failed 1 skipped 0
+settled: no (failed)
 == what is replaced is plain text, and the first of a line alone
 + file /t banana%0Aapple%0A
 bundle agent main { files: '/t' edit_line => change('an', '$(const.dollar)0'); '/t' edit_line => change_first('p', 'q'); }
@@ -118,6 +127,7 @@ $ 2 run a.cf -K
 repaired main:1@1 1
 failed main:2@1 F5 NonConvergent
 total kept 0 repaired 1 failed 1 skipped 0
+settled: no (failed)
 == a whole match is that of the built text
 + file /t a%0Axb%0Aax%0Ac%0A
 bundle agent main { files: '/t' edit_line => drop('a)|(?:b'); }
@@ -128,6 +138,7 @@ $ 0 run a.cf -K
 > append done 1 repaired 1
 repaired main:1@1 1
 total kept 0 repaired 1 failed 0 skipped 0
+settled: yes
 == an emptied file is given the content that the script makes of no lines
 + file /t old
 bundle agent main { files: '/t' edit_line => add('x'), edit_defaults => empty; '/t' edit_line => add_at('x', 'after', 'first', 'd'), edit_defaults => empty;
@@ -145,6 +156,7 @@ repaired main:1@1 1
 failed main:2@1 F6 NoAnchor
 repaired main:3@2 1
 total kept 0 repaired 2 failed 1 skipped 0
+settled: no (failed)
 == a promise may make its file and then edit it
 bundle agent main { files: '/d/t' create => 'true', edit_line => add('x'); }
 $ 0 run a.cf -K
@@ -155,6 +167,7 @@ $ 0 run a.cf -K
 > append done 1 repaired 2
 repaired main:1@1 2
 total kept 0 repaired 1 failed 0 skipped 0
+settled: yes
 ";
 
 #[test]
@@ -175,6 +188,7 @@ $ 0 run a.cf -K
 > append done 1 repaired 1
 repaired main:2@1 1
 total kept 0 repaired 1 failed 0 skipped 0
+settled: yes
 == it sees no variable of its caller but by its bundle's name
 + file /t
 bundle agent main { vars: 'v' string => 'x'; files: '/t' edit_line => near; '/t' edit_line => far; }
@@ -187,6 +201,7 @@ $ 0 run a.cf -K
 > append done 1 repaired 1
 repaired main:3@1 1
 total kept 0 repaired 1 failed 0 skipped 0
+settled: yes
 == edits that can't be made, and a pattern comes before a value
 + file /t a
 bundle agent main { vars: 'n' string => '1000'; files: '/t' edit_line => drop('('); '/t' edit_line => cell('a', '::', '1', 'v'); '/t' edit_line => cell('a', ':', '$(n)', 'v');
@@ -206,6 +221,7 @@ failed main:5@2 F9 BadPattern
 failed main:6@2 F10 BadValue
 failed main:7@2 F10 BadValue
 total kept 0 repaired 0 failed 6 skipped 0
+settled: no (failed)
 == too much in an edit bundle is handed to its promise, which keeps its classes and is named as it is written
 + file /t
 bundle agent main { vars: 'p' string => '/t'; files: '$(p)' edit_line => product, classes => each('k', 'r', 'f'), action => every('7'); '$(p)' edit_line => add('$(long.65536)x'); '$(p)' edit_line => longer; }
@@ -220,6 +236,7 @@ failed main:2@1 F13 TooMany
 failed main:3@1 F12 TooLong
 failed main:4@1 F12 TooLong
 total kept 0 repaired 0 failed 3 skipped 0
+settled: no (failed)
 == no text, and a file over its limit
 + raw /raw
 + long /over 16777217
@@ -238,6 +255,7 @@ failed main:3@1 F3 Obstructed
 failed main:4@1 F2 Missing
 failed main:5@1 F12 TooLong
 total kept 0 repaired 0 failed 5 skipped 0
+settled: no (failed)
 ";
 
 #[test]
@@ -254,6 +272,7 @@ $ 2 run a.cf -K
 > append fail 1 main:1@1 |main 1;edit /full i:end::x;k=;r=;f=;e=1| F12
 failed main:1@1 F12 TooLong
 total kept 0 repaired 0 failed 1 skipped 0
+settled: no (failed)
 ";
 
 #[test]

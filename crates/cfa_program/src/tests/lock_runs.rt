@@ -7,8 +7,10 @@ const LOCKS: &str = "== a lock that was set less than its minutes ago
 bundle agent main { files: '/a' create => 'true'; }
 $ 0 run a.cf
 total kept 0 repaired 0 failed 0 skipped 1
+settled: no (locks)
 $ 0 run a.cf @1704103259
 total kept 0 repaired 0 failed 0 skipped 1
+settled: no (locks)
 $ 0 run a.cf @1704103260
 > append run 1704103260
 > append open 1 main:1@1 |main 1;create /a;k=;r=;f=;e=1|
@@ -17,6 +19,7 @@ $ 0 run a.cf @1704103260
 > lock |main 1;create /a;k=;r=;f=;e=1| 1704103260
 repaired main:1@1 1
 total kept 0 repaired 1 failed 0 skipped 0
+settled: no (locks)
 == a lock of the future is due
 + lock |main 1;create /a;k=;r=;f=;e=1| 1704103201
 + file /a
@@ -24,6 +27,7 @@ bundle agent main { files: '/a' create => 'true'; }
 $ 0 run a.cf
 > lock |main 1;create /a;k=;r=;f=;e=1| 1704103200
 total kept 1 repaired 0 failed 0 skipped 0
+settled: no (locks)
 == the clock was set back
 bundle agent main { files: '/a' create => 'true', action => every('60'); }
 $ 0 run a.cf
@@ -34,11 +38,14 @@ $ 0 run a.cf
 > lock |main 1;create /a;k=;r=;f=;e=60| 1704103200
 repaired main:1@1 1
 total kept 0 repaired 1 failed 0 skipped 0
+settled: no (locks)
 $ 0 run a.cf @1704103199
 > lock |main 1;create /a;k=;r=;f=;e=60| 1704103199
 total kept 1 repaired 0 failed 0 skipped 0
+settled: no (locks)
 $ 0 run a.cf
 total kept 0 repaired 0 failed 0 skipped 1
+settled: no (locks)
 == without locks none is looked at
 + lock |main 1;create /a;k=;r=;f=;e=1| 1704103200
 + file /a
@@ -50,17 +57,21 @@ $ 2 run a.cf -K
 > append fail 1 main:1@1 |main 1;create /a;k=;r=;f=;e=1| F11
 failed main:1@1 F11 Fault
 total kept 0 repaired 0 failed 1 skipped 0
+settled: no (failed)
 $ 0 run a.cf -K
 total kept 1 repaired 0 failed 0 skipped 0
+settled: yes
 == no minutes are always due
 + file /a
 bundle agent main { files: '/a' create => 'true', action => every('0'); }
 $ 0 run a.cf
 > lock |main 1;create /a;k=;r=;f=;e=0| 1704103200
 total kept 1 repaired 0 failed 0 skipped 0
+settled: no (locks)
 $ 0 run a.cf
 > lock |main 1;create /a;k=;r=;f=;e=0| 1704103200
 total kept 1 repaired 0 failed 0 skipped 0
+settled: no (locks)
 == the minutes are those of the action, else of control
 + file /a
 body agent control { ifelapsed => '5'; }
@@ -69,17 +80,21 @@ $ 0 run a.cf
 > lock |main 1;create /a;k=;r=;f=;e=3| 1704103200
 > lock |main 2;create /a;k=;r=;f=;e=5| 1704103200
 total kept 2 repaired 0 failed 0 skipped 0
+settled: no (locks)
 $ 0 run a.cf @1704103380
 > lock |main 1;create /a;k=;r=;f=;e=3| 1704103380
 total kept 1 repaired 0 failed 0 skipped 1
+settled: no (locks)
 $ 0 run a.cf @1704103500
 > lock |main 2;create /a;k=;r=;f=;e=5| 1704103500
 total kept 1 repaired 0 failed 0 skipped 1
+settled: no (locks)
 == a skipped promise sets no class, and a later pass leaves it
 + lock |main 1;create /a;k=c;r=c;f=;e=1| 1704103200
 bundle agent main { files: '/a' create => 'true', classes => both('c'); c:: '/b' create => 'true'; }
 $ 0 run a.cf
 total kept 0 repaired 0 failed 0 skipped 1
+settled: no (locks)
 == a skipped report puts nothing, and a skipped call goes through nothing
 bundle agent main { methods: 'm' usebundle => sub; reports: 'r'; }
 bundle agent sub { reports: 'in sub'; }
@@ -90,8 +105,10 @@ $ 0 run a.cf
 R: in sub
 R: r
 total kept 3 repaired 0 failed 0 skipped 0
+settled: no (locks)
 $ 0 run a.cf
 total kept 0 repaired 0 failed 0 skipped 2
+settled: no (locks)
 == two calls of one text share the locks of their bundle
 bundle agent main { methods: 'a' usebundle => sub; 'b' usebundle => sub; }
 bundle agent sub { files: '/x' create => 'true'; }
@@ -105,6 +122,7 @@ $ 0 run a.cf
 > lock |main 2;call sub;k=;r=;f=;e=1| 1704103200
 repaired sub:1@2 1
 total kept 1 repaired 2 failed 0 skipped 1
+settled: no (locks)
 == a failed promise sets its lock
 bundle agent main { files: '/a' perms => m('600'); }
 $ 2 run a.cf
@@ -113,8 +131,10 @@ $ 2 run a.cf
 > lock |main 1;perms /a 0600 * *;k=;r=;f=;e=1| 1704103200
 failed main:1@1 F2 Missing
 total kept 0 repaired 0 failed 1 skipped 0
+settled: no (locks)
 $ 0 run a.cf
 total kept 0 repaired 0 failed 0 skipped 1
+settled: no (locks)
 == minutes that are none, found when they are expanded, make one act that fails, with one minute
 body agent control { ifelapsed => '5'; }
 bundle agent main { files: '/a' create => 'true', action => every('05'); 'a b' create => 'true', action => every('x'); }
@@ -127,6 +147,7 @@ $ 2 run a.cf
 failed main:1@2 F10 BadValue
 failed main:2@2 F10 BadValue
 total kept 0 repaired 0 failed 2 skipped 0
+settled: no (locks)
 == a report with such minutes fails and prints nothing
 bundle agent main { reports: 'r' action => every('525601'); }
 $ 2 run a.cf -K
@@ -134,6 +155,7 @@ $ 2 run a.cf -K
 > append fail 1 main:1@1 |main 1;bust F10 r;k=;r=;f=;e=1| F10
 failed main:1@1 F10 BadValue
 total kept 0 repaired 0 failed 1 skipped 0
+settled: no (failed)
 ";
 
 #[test]
@@ -163,6 +185,7 @@ $ 2 run a.cf
 > lock |main 1;create /etc/motd;k=;r=;f=;e=1| 1704103200
 failed main:1@4 F11 Fault
 total kept 0 repaired 0 failed 1 skipped 0
+settled: no (locks)
 == no record of the run
 ! 3
 $ 4 run a.cf
@@ -184,6 +207,7 @@ $ 2 run a.cf
 > lock |main 1;create /etc/motd;k=;r=;f=;e=1| 1704103200
 failed main:1@4 F11 Fault
 total kept 0 repaired 0 failed 1 skipped 0
+settled: no (locks)
 == no record of the end: the repair stays open, and the next run finds it made
 ! 6
 $ 4 run a.cf
@@ -195,6 +219,7 @@ stopped: outside
 $ 0 run a.cf
 > lock |main 1;create /etc/motd;k=;r=;f=;e=1| 1704103200
 total kept 1 repaired 0 failed 0 skipped 0
+settled: no (locks)
 == the lock can't be set
 ! 7
 $ 4 run a.cf

@@ -12,6 +12,7 @@ $ 0 run a.cf -K
 R: v z
 R: all
 total kept 2 repaired 0 failed 0 skipped 0
+settled: yes
 == a common bundle of the sequence isn't gone through again
 body common control { bundlesequence => { 'first', 'count', main }; }
 bundle agent first { reports: 'first $(count.n)'; }
@@ -21,6 +22,7 @@ $ 0 run a.cf -K
 R: first abb
 R: main abb
 total kept 2 repaired 0 failed 0 skipped 0
+settled: yes
 == the types of promises have their order, whatever that of the text
 + service on running enabled 0
 bundle agent main
@@ -53,6 +55,7 @@ R: in sub
 repaired main:2@6 1
 R: r x
 total kept 3 repaired 2 failed 0 skipped 0
+settled: yes
 == each activation has classes and variables of its own
 bundle agent main { vars: 'v' string => 'mine'; classes: 'here' expression => 'any'; methods: 'a' usebundle => sub('1'); 'b' usebundle => sub('2'); }
 bundle agent sub(n)
@@ -74,6 +77,7 @@ $ 0 run a.cf -K
 R: fresh 1
 R: fresh 2
 total kept 4 repaired 0 failed 0 skipped 0
+settled: yes
 == another bundle of the sequence is read once it was activated, and a called one never
 body common control { bundlesequence => { 'a', 'b', 'c' }; }
 bundle agent a { vars: 'x' string => 'from a'; reports: 'early $(c.x)'; }
@@ -84,6 +88,7 @@ R: in from c
 R: from a
 R: in from c
 total kept 4 repaired 0 failed 0 skipped 0
+settled: yes
 == the outcome of a call is that of its worst promise
 bundle agent main
 {
@@ -123,6 +128,7 @@ R: repaired
 R: kept
 R: empty
 total kept 8 repaired 3 failed 2 skipped 0
+settled: no (failed)
 == a call is made once for each text of its arguments
 bundle agent main { vars: 'l' slist => { 'p', 'q' }; methods: '$(l)' usebundle => sub('x', @(l)); 'n$(l)' usebundle => one('$(l)'); }
 bundle agent sub(t, items) { reports: '$(t)$(items)'; }
@@ -135,6 +141,7 @@ R: pq
 R: qp
 R: qq
 total kept 11 repaired 0 failed 0 skipped 0
+settled: yes
 ";
 
 #[test]
@@ -155,11 +162,13 @@ repaired main:3@1 1
 R: first
 R: v
 total kept 2 repaired 1 failed 0 skipped 0
+settled: no (conflict)
 == a class that was set stays set
 bundle agent main { classes: 'c' not => 'd'; 'd' expression => 'any'; reports: c.d:: 'both'; }
 $ 0 run a.cf -K
 R: both
 total kept 1 repaired 0 failed 0 skipped 0
+settled: yes
 == the classes of an outcome are canonical and global, and an empty text is none
 bundle agent main { files: '/a' create => 'true', classes => each('', 'was-made', ''); methods: 'm' usebundle => sub; }
 bundle agent sub { reports: was_made:: 'seen'; }
@@ -171,6 +180,7 @@ $ 0 run a.cf -K
 repaired main:1@1 1
 R: seen
 total kept 2 repaired 1 failed 0 skipped 0
+settled: yes
 == a failure sets its classes, and the run goes on
 bundle agent main { files: mended:: '/no' create => 'true'; any:: '/no' perms => m('600'), classes => each('', '', 'mended'); }
 $ 2 run a.cf -K
@@ -182,6 +192,7 @@ $ 2 run a.cf -K
 failed main:2@1 F2 Missing
 repaired main:1@1 1
 total kept 0 repaired 1 failed 1 skipped 0
+settled: no (failed)
 == a promise whose guard waits for a class of a report comes a pass later, and never without it
 bundle agent main { files: told:: '/a' create => 'true'; never:: '/b' create => 'true'; reports: 'r' classes => both('told'); }
 $ 0 run a.cf -K
@@ -192,6 +203,7 @@ $ 0 run a.cf -K
 R: r
 repaired main:1@1 1
 total kept 1 repaired 1 failed 0 skipped 0
+settled: yes
 == a promise waits for a variable of a class that another sets
 bundle agent main
 {
@@ -213,6 +225,7 @@ $ 0 run a.cf -K
 repaired main:2@7 1
 repaired main:3@8 1
 total kept 0 repaired 2 failed 0 skipped 0
+settled: no (conflict)
 == without the variable it waits for ever
 bundle agent main { files: '/a' create => 'true', classes => if_repaired('c'); '$(x)' create => 'true'; }
 $ 0 run a.cf -K
@@ -222,6 +235,7 @@ $ 0 run a.cf -K
 > append done 1 repaired 1
 repaired main:1@1 1
 total kept 0 repaired 1 failed 0 skipped 0
+settled: yes
 ";
 
 #[test]

@@ -25,16 +25,18 @@ pub struct Run<'a> {
     pub status: u8,
 }
 
-// A run without locks.
-pub const UNLOCKED: Run<'static> = Run {
-    text: "",
-    words: "run a.cf -K",
-    moment: MOMENT,
-    refused_build: 0,
-    log: "",
-    lines: "",
-    status: 0,
-};
+// A run without locks that ends with no failed promise.
+pub fn unlocked_run<'a>(text: &'a str, log: &'a str, lines: &'a str) -> Run<'a> {
+    Run {
+        text,
+        words: "run a.cf -K",
+        moment: MOMENT,
+        refused_build: 0,
+        log,
+        lines,
+        status: 0,
+    }
+}
 
 // A text with the key of each text that stands between two bars in its place.
 pub fn with_keys(alloc: Global, text: &str) -> Result<String, Fail> {

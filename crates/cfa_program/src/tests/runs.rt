@@ -20,13 +20,17 @@ $ 0 run a.cf
 > lock |main 1;create /etc/motd;k=;r=;f=;e=1| 1704103200
 repaired main:1@4 1
 total kept 0 repaired 1 failed 0 skipped 0
+settled: no (locks)
 $ 0 run a.cf -K
 total kept 1 repaired 0 failed 0 skipped 0
+settled: yes
 $ 0 run a.cf @1704103259
 total kept 0 repaired 0 failed 0 skipped 1
+settled: no (locks)
 $ 0 run a.cf @1704103260
 > lock |main 1;create /etc/motd;k=;r=;f=;e=1| 1704103260
 total kept 1 repaired 0 failed 0 skipped 0
+settled: no (locks)
 == classes that are handed in make no difference here
 bundle agent main
 {
@@ -41,6 +45,7 @@ $ 0 run a.cf -D web,Hr10
 > lock |main 1;create /etc/motd;k=;r=;f=;e=1| 1704103200
 repaired main:1@4 1
 total kept 0 repaired 1 failed 0 skipped 0
+settled: no (locks)
 == a run may be strict
 bundle agent main
 {
@@ -54,16 +59,20 @@ $ 0 run a.cf -K --strict
 > append done 1 repaired 1
 repaired main:1@4 1
 total kept 0 repaired 1 failed 0 skipped 0
+settled: yes
 == no promise at all
 bundle agent main { }
 $ 0 run a.cf -K
 total kept 0 repaired 0 failed 0 skipped 0
+settled: yes
 == classes of the calendar and of the command line
 bundle agent main { files: web.Hr10:: '/w' create => 'true'; }
 $ 0 run a.cf -K
 total kept 0 repaired 0 failed 0 skipped 0
+settled: yes
 $ 0 run a.cf -K -D web @1704106800
 total kept 0 repaired 0 failed 0 skipped 0
+settled: yes
 $ 0 run a.cf -K -D web
 > append run 1704103200
 > append open 1 main:1@1 |main 1;create /w;k=;r=;f=;e=1|
@@ -71,6 +80,7 @@ $ 0 run a.cf -K -D web
 > append done 1 repaired 1
 repaired main:1@1 1
 total kept 0 repaired 1 failed 0 skipped 0
+settled: yes
 == each file is made where a class is set that a later promise sets
 bundle agent main
 {
@@ -99,8 +109,10 @@ repaired main:4@11 1
 repaired main:3@9 1
 repaired main:2@7 1
 total kept 0 repaired 3 failed 0 skipped 0
+settled: yes
 $ 0 run a.cf -K
 total kept 3 repaired 0 failed 0 skipped 0
+settled: yes
 == a called bundle sets the class of a file of its caller
 bundle agent main
 {
@@ -126,8 +138,10 @@ $ 0 run a.cf -K
 repaired sub:1@12 1
 repaired main:1@5 1
 total kept 0 repaired 3 failed 0 skipped 0
+settled: yes
 $ 0 run a.cf -K
 total kept 3 repaired 0 failed 0 skipped 0
+settled: yes
 == an item that stands twice acts once
 bundle agent main { vars: 'l' slist => { 'p', 'p' }; files: '/$(l)' create => 'true'; }
 $ 0 run a.cf -K
@@ -137,6 +151,7 @@ $ 0 run a.cf -K
 > append done 1 repaired 1
 repaired main:2@1 1
 total kept 0 repaired 1 failed 0 skipped 0
+settled: yes
 == a directory with permissions, which is kept then
 bundle agent main { files: '/d/.' create => 'true', perms => m('755'); }
 $ 0 run a.cf -K
@@ -147,8 +162,10 @@ $ 0 run a.cf -K
 > append done 1 repaired 2
 repaired main:1@1 2
 total kept 0 repaired 1 failed 0 skipped 0
+settled: yes
 $ 0 run a.cf -K
 total kept 1 repaired 0 failed 0 skipped 0
+settled: yes
 == the acts of a promise come in their order, whatever that of its attributes
 + file /s a
 bundle agent main { files: '/f' perms => m('644'), edit_line => add('c'), content => 'b', copy_from => local_cp('/s'),
@@ -164,6 +181,7 @@ $ 0 run a.cf -K
 > append done 1 repaired 5
 repaired main:1@1 5
 total kept 0 repaired 1 failed 0 skipped 0
+settled: no (conflict)
 == an act that fails ends its promise, and a kept promise takes a number
 + file /kept
 bundle agent main { files: '/kept' create => 'true'; '/kept/x' create => 'true', perms => m('600'); '/d' create => 'true';
@@ -179,6 +197,7 @@ failed main:2@1 F3 Obstructed
 repaired main:3@1 1
 failed main:4@2 F2 Missing
 total kept 1 repaired 1 failed 2 skipped 0
+settled: no (failed)
 == a failure behind a change ends an open repair
 bundle agent main { files: '/d/.' create => 'true', content => 'x', perms => m('755'); }
 $ 2 run a.cf -K
@@ -188,6 +207,7 @@ $ 2 run a.cf -K
 > append done 1 failed F1
 failed main:1@1 F1 BadPath
 total kept 0 repaired 0 failed 1 skipped 0
+settled: no (failed)
 == a report and a call write no record
 bundle agent main { methods: 'm' usebundle => sub; reports: 'hello'; }
 bundle agent sub { }
@@ -196,6 +216,7 @@ $ 0 run a.cf
 > lock |main 2;report hello;k=;r=;f=;e=1| 1704103200
 R: hello
 total kept 2 repaired 0 failed 0 skipped 0
+settled: no (locks)
 == services by their policies
 + service s stopped disabled 7
 bundle agent main { services: 's'; 's' service_policy => 'enable'; 's' service_policy => 'restart'; 's' service_policy => 'start';
@@ -225,6 +246,7 @@ repaired main:5@2 1
 repaired main:6@2 1
 failed main:7@2 F8 UnknownService
 total kept 1 repaired 5 failed 1 skipped 0
+settled: no (failed)
 == owners by a list
 + file /f
 bundle agent main { vars: 'l' slist => { 'ann', 'bob' }; 'm' slist => { 'eve', 'ann' };
@@ -236,6 +258,7 @@ $ 0 run a.cf -K
 > append done 1 repaired 1
 repaired main:3@2 1
 total kept 1 repaired 1 failed 0 skipped 0
+settled: no (conflict)
 ";
 
 #[test]
@@ -258,6 +281,7 @@ bundle agent main { files: '/etc/motd' create => 'true'; }
 $ 0 run a.cf -K
 repaired main:1@1 1
 total kept 0 repaired 1 failed 0 skipped 0
+settled: yes
 ";
 
 #[test]

@@ -40,8 +40,10 @@ $ 0 run a.cf -K
 repaired main:2@6 1
 repaired main:3@11 1
 total kept 0 repaired 2 failed 0 skipped 0
+settled: yes
 $ 0 run a.cf -K
 total kept 1 repaired 0 failed 0 skipped 0
+settled: yes
 ";
 
 #[test]
@@ -62,6 +64,7 @@ $ 2 run a.cf -K
 > append fail 1 main:2@6 |main 2;edit /etc/ssh/sshd_config i:end::Port%2022,i:end::PermitRootLogin%20no,i:end::X11Forwarding%20no;k=;r=ssh_changed;f=;e=1| F11
 failed main:2@6 F11 Fault
 total kept 0 repaired 0 failed 1 skipped 0
+settled: no (failed)
 == the file can't be read
 + dir /etc
 + dir /etc/ssh
@@ -74,6 +77,7 @@ $ 2 run a.cf -K
 > append fail 1 main:2@6 |main 2;edit /etc/ssh/sshd_config i:end::Port%2022,i:end::PermitRootLogin%20no,i:end::X11Forwarding%20no;k=;r=ssh_changed;f=;e=1| F11
 failed main:2@6 F11 Fault
 total kept 0 repaired 0 failed 1 skipped 0
+settled: no (failed)
 == the record of the run can't be written
 + dir /etc
 + dir /etc/ssh
@@ -106,6 +110,7 @@ $ 2 run a.cf -K
 > append done 1 failed F11
 failed main:2@6 F11 Fault
 total kept 0 repaired 0 failed 1 skipped 0
+settled: no (failed)
 == the end of the repair can't be recorded
 + dir /etc
 + dir /etc/ssh
@@ -134,6 +139,7 @@ $ 2 run a.cf -K
 repaired main:2@6 1
 failed main:3@11 F11 Fault
 total kept 0 repaired 1 failed 1 skipped 0
+settled: no (failed)
 == the restart can't be recorded
 + dir /etc
 + dir /etc/ssh
@@ -165,6 +171,7 @@ $ 2 run a.cf -K
 repaired main:2@6 1
 failed main:3@11 F11 Fault
 total kept 0 repaired 1 failed 1 skipped 0
+settled: no (failed)
 == the end of the restart can't be recorded
 + dir /etc
 + dir /etc/ssh
@@ -199,9 +206,9 @@ const NOTHING: &str = "stopped: outside\n";
 const FILE: &str = "repaired main:2@6 1\nstopped: outside\n";
 
 const ALL: &str =
-    "repaired main:2@6 1\nrepaired main:3@11 1\ntotal kept 0 repaired 2 failed 0 skipped 0\n";
+    "repaired main:2@6 1\nrepaired main:3@11 1\ntotal kept 0 repaired 2 failed 0 skipped 0\nsettled: yes\n";
 
-const KEPT: &str = "total kept 1 repaired 0 failed 0 skipped 0\n";
+const KEPT: &str = "total kept 1 repaired 0 failed 0 skipped 0\nsettled: yes\n";
 
 // The run is stopped behind so many changes: what it puts, and what the next run on the world left puts. Once the file stands its
 // service isn't restarted any more.

@@ -21,6 +21,10 @@ const CUT: Case<'static> = Case {
     ..RUN
 };
 
+// Two promises in conflict.
+const IN_CONFLICT: &str =
+    "bundle agent main\n{\n  files:\n    \"/a\" content => \"x\";\n    \"/a\" content => \"y\";\n}\n";
+
 // A bundle of edits that no promise names.
 const UNUSED_PATTERN: &str =
     "bundle agent main\n{\n}\nbundle edit_line e\n{\n  delete_lines:\n    \".*\";\n}\n";
@@ -119,7 +123,7 @@ fn a_run_reads_the_inputs(rt: HostRuntime) -> Result<(), Fail> {
 }
 
 // Calls whose sink fails at a put, or is full. After a put that failed nothing more is put, not even the line of the stop.
-const WITH_A_FAILING_SINK: [Case<'static>; 9] = [
+const WITH_A_FAILING_SINK: [Case<'static>; 12] = [
     Case {
         words: "start j",
         room: 0,
@@ -139,6 +143,25 @@ const WITH_A_FAILING_SINK: [Case<'static>; 9] = [
         failing_put: 2,
         lines: "repaired main:1@4 1\n",
         entries: 5,
+        ..CUT
+    },
+    Case {
+        failing_put: 3,
+        lines: "repaired main:1@4 1\ntotal kept 0 repaired 1 failed 0 skipped 0\n",
+        entries: 5,
+        ..CUT
+    },
+    Case {
+        words: "run a.cf --strict",
+        text: IN_CONFLICT,
+        failing_put: 1,
+        ..CUT
+    },
+    Case {
+        words: "check a.cf",
+        text: IN_CONFLICT,
+        room: 11,
+        lines: "conflict C3",
         ..CUT
     },
     Case {

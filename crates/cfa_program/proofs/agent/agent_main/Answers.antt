@@ -1,4 +1,5 @@
 use Rattle.cfa_program.proofs.CallLemmas as calls
+use Rattle.cfa_program.proofs.SettledLemmas as settled
 use Rattle.cfa_program.proofs.agent.agent_main.Goals as goal
 
 pub returns-clause-exact : goal.returns-clause-exact
@@ -30,6 +31,18 @@ returns-clause-request_refused g c = calls.request_refused c.args.words.now c.ar
 
 pub returns-clause-failed : goal.returns-clause-failed
 returns-clause-failed g c = calls.failed c.args.words.now c.args.moment (g.I.Inputs.shown c.args.inputs.now) (g.I.Inputs.shown c.call.new.inputs) (g.S.Site.shown c.args.site.now) (g.S.Site.shown c.call.new.site) (g.O.Sink.shown c.args.out.now) (g.O.Sink.shown c.call.new.out) (g.P.Patterns.shown c.args.pats.now) (g.P.Patterns.shown c.call.new.pats) c.call.result c.call.ensures
+
+pub returns-clause-conflict : goal.returns-clause-conflict
+returns-clause-conflict g c = calls.conflict c.args.words.now c.args.moment (g.I.Inputs.shown c.args.inputs.now) (g.I.Inputs.shown c.call.new.inputs) (g.S.Site.shown c.args.site.now) (g.S.Site.shown c.call.new.site) (g.O.Sink.shown c.args.out.now) (g.O.Sink.shown c.call.new.out) (g.P.Patterns.shown c.args.pats.now) (g.P.Patterns.shown c.call.new.pats) c.call.result c.call.ensures
+
+pub returns-clause-conflict_put : goal.returns-clause-conflict_put
+returns-clause-conflict_put g c = calls.conflict_put c.args.words.now c.args.moment (g.I.Inputs.shown c.args.inputs.now) (g.I.Inputs.shown c.call.new.inputs) (g.S.Site.shown c.args.site.now) (g.S.Site.shown c.call.new.site) (g.O.Sink.shown c.args.out.now) (g.O.Sink.shown c.call.new.out) (g.P.Patterns.shown c.args.pats.now) (g.P.Patterns.shown c.call.new.pats) c.call.result c.call.ensures
+
+pub returns-clause-settled : goal.returns-clause-settled
+returns-clause-settled g c = settled.settled c.args.words.now c.args.moment (g.I.Inputs.shown c.args.inputs.now) (g.I.Inputs.shown c.call.new.inputs) (g.S.Site.shown c.args.site.now) (g.S.Site.shown c.call.new.site) (g.O.Sink.shown c.args.out.now) (g.O.Sink.shown c.call.new.out) (g.P.Patterns.shown c.args.pats.now) (g.P.Patterns.shown c.call.new.pats) c.call.result c.taken_requests_are_not_refused.ensures c.a_policy_is_run_in_one_setting.ensures c.conflicts_meet_in_resources.ensures c.call.ensures
+
+pub returns-clause-complete : goal.returns-clause-complete
+returns-clause-complete g c = settled.complete c.args.words.now c.args.moment (g.I.Inputs.shown c.args.inputs.now) (g.I.Inputs.shown c.call.new.inputs) (g.S.Site.shown c.args.site.now) (g.S.Site.shown c.call.new.site) (g.O.Sink.shown c.args.out.now) (g.O.Sink.shown c.call.new.out) (g.P.Patterns.shown c.args.pats.now) (g.P.Patterns.shown c.call.new.pats) c.call.result c.taken_requests_are_not_refused.ensures c.call.ensures
 
 pub returns-clause-outside : goal.returns-clause-outside
 returns-clause-outside g c = calls.outside c.args.words.now c.args.moment (g.I.Inputs.shown c.args.inputs.now) (g.I.Inputs.shown c.call.new.inputs) (g.S.Site.shown c.args.site.now) (g.S.Site.shown c.call.new.site) (g.O.Sink.shown c.args.out.now) (g.O.Sink.shown c.call.new.out) (g.P.Patterns.shown c.args.pats.now) (g.P.Patterns.shown c.call.new.pats) c.call.result c.call.ensures
