@@ -232,6 +232,13 @@ fn add_choice(
     add_made(&mut all.instances, &mut all.names, made)
 }
 
+// No instances, with room for the one that most promises have.
+fn room_for_one(alloc: Global) -> Result<Vec<Instance>, NoMemory>
+    ensures { IfOk result (λ instances. instances.items ≡ []) }
+{
+    Ok(Vec::with_capacity(alloc, 1)?)
+}
+
 /// What is made of all combinations, unless the edit bundle counts more visits than are left.
 pub(crate) fn make_all<P: Patterns>(
     alloc: Global,
@@ -255,7 +262,7 @@ pub(crate) fn make_all<P: Patterns>(
         (too_big_in result) (P.shown pats.old) (P.shown pats.new) }
 {
     let mut all = AllMade {
-        instances: Vec::new(alloc),
+        instances: room_for_one(alloc)?,
         names: Names::new(alloc),
         unsettled: UnsettledList::from_vec(Vec::new(alloc)),
         visits: 0,

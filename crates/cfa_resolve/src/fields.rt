@@ -8,6 +8,9 @@ ghost use Rattle.cfa_resolve.specs.KeyTexts.{fields_after, octal_digit, mode_tex
 use cfa_base::{Name, NoMemory, escape};
 use std::alloc::Global;
 
+// Few fields with a word before them are longer. Room for so many bytes is taken at once.
+const USUAL_LENGTH: usize = 64;
+
 /// Adds a separator and a text behind it.
 pub(crate) fn add_field(whole: &mut String, separator: &str, field: &str) -> Result<(), NoMemory>
     ensures { OnOk result
@@ -39,7 +42,8 @@ pub(crate) fn join_by_commas(alloc: Global, items: &[Name]) -> Result<Name, NoMe
 pub(crate) fn fields_after(alloc: Global, first: &str, fields: &[Name]) -> Result<Name, NoMemory>
     ensures { IfOk result (λ text. text ≡ fields_after first.now fields.now) }
 {
-    let mut whole = String::from_str(alloc, first)?;
+    let mut whole = String::with_capacity(alloc, USUAL_LENGTH)?;
+    whole.push_str(first)?;
     for field in fields {
         add_field(&mut whole, " ", field.as_str())?;
     }

@@ -15,6 +15,9 @@ use cfa_outside::Path;
 use cfa_vars::Datum;
 use std::alloc::Global;
 
+// Few key texts are longer. Room for so many bytes is taken at once.
+const USUAL_LENGTH: usize = 96;
+
 // A word and the field of a text.
 fn one_field(alloc: Global, word: &str, text: &Name) -> Result<Name, NoMemory>
     ensures { IfOk result (λ t. t ≡ fields_after word.now (escaped text.now ∷ [])) }
@@ -115,15 +118,20 @@ fn datum_text(alloc: Global, datum: &Datum) -> Result<Name, NoMemory>
     }
 }
 
-fn acts_text(alloc: Global, promiser: &Name, acts: &[Act]) -> Result<Name, NoMemory>
-    ensures { IfOk result
-        (λ t. t ≡ flat_map (λ act. 59 ∷ act_text promiser.now act) acts.now) }
+// Adds the texts of acts, `;` before each.
+fn add_acts(
+    alloc: Global,
+    promiser: &Name,
+    acts: &[Act],
+    whole: &mut String,
+) -> Result<(), NoMemory>
+    ensures { OnOk result (string_bytes whole.new ≡ string_bytes whole.old
+        ++ flat_map (λ act. 59 ∷ act_text promiser.now act) acts.now) }
 {
-    let mut whole = String::new(alloc);
     for act in acts {
-        add_field(&mut whole, ";", act_text(alloc, promiser, act)?.as_str())?;
+        add_field(whole, ";", act_text(alloc, promiser, act)?.as_str())?;
     }
-    Ok(Name::from_string(whole))
+    Ok(())
 }
 
 fn call_text(alloc: Global, name: &Name, arguments: &[Datum]) -> Result<Name, NoMemory>
@@ -138,42 +146,37 @@ fn call_text(alloc: Global, name: &Name, arguments: &[Datum]) -> Result<Name, No
     fields_after(alloc, "call", &fields)
 }
 
-// A part of a work, behind its semicolon.
-fn one_part(alloc: Global, part: &Name) -> Result<Name, NoMemory>
-    ensures { IfOk result (λ t. t ≡ 59 ∷ part.now) }
-{
-    let part = part.as_str();
-    Ok(Name::from_string(format!(in alloc; ";{part}")?))
-}
-
-fn work_text(alloc: Global, promiser: &Name, work: &Work) -> Result<Name, NoMemory>
-    ensures { IfOk result (λ t. t ≡ work_text promiser.now work.now) }
+// Adds the parts of a work.
+fn add_work(alloc: Global, promiser: &Name, work: &Work, whole: &mut String) -> Result<(), NoMemory>
+    ensures { OnOk result (string_bytes whole.new
+        ≡ string_bytes whole.old ++ work_text promiser.now work.now) }
 {
     match work {
-        Work::Acts(acts) => acts_text(alloc, promiser, acts.as_slice()),
-        Work::Call(name, data) => one_part(alloc, &call_text(alloc, name, data.as_slice())?),
-        Work::Report(content) => one_part(alloc, &one_field(alloc, "report", content)?),
+        Work::Acts(acts) => add_acts(alloc, promiser, acts.as_slice(), whole),
+        Work::Call(name, data) => {
+            add_field(
+                whole,
+                ";",
+                call_text(alloc, name, data.as_slice())?.as_str(),
+            )
+        }
+        Work::Report(content) => {
+            add_field(whole, ";", one_field(alloc, "report", content)?.as_str())
+        }
     }
 }
 
-// What stands behind the work.
-fn classes_and_minutes(
+// Adds what stands before the classes of an outcome, and the classes.
+fn add_classes(
     alloc: Global,
-    kept: &[Name],
-    repaired: &[Name],
-    failed: &[Name],
-    minutes: u32,
-) -> Result<String, NoMemory>
-    ensures { IfOk result (λ t. string_bytes t ≡ codes ";k=" ++ (classes_text kept.now
-        ++ (codes ";r=" ++ (classes_text repaired.now
-        ++ (codes ";f=" ++ (classes_text failed.now
-        ++ (codes ";e=" ++ decimal minutes))))))) }
+    before: &str,
+    classes: &[Name],
+    whole: &mut String,
+) -> Result<(), NoMemory>
+    ensures { OnOk result (string_bytes whole.new
+        ≡ string_bytes whole.old ++ (before.now ++ classes_text classes.now)) }
 {
-    let kept = join_by_commas(alloc, kept)?;
-    let repaired = join_by_commas(alloc, repaired)?;
-    let failed = join_by_commas(alloc, failed)?;
-    let (kept, repaired, failed) = (kept.as_str(), repaired.as_str(), failed.as_str());
-    Ok(format!(in alloc; ";k={kept};r={repaired};f={failed};e={minutes}")?)
+    add_field(whole, before, join_by_commas(alloc, classes)?.as_str())
 }
 
 /// The key text of an instance. What couldn't be made tells this promiser there.
@@ -189,15 +192,13 @@ pub(crate) fn key_text(
     ensures { IfOk result (λ t. t ≡ key_text id.now promiser.now work.now outcomes.now.kept
         outcomes.now.repaired outcomes.now.failed minutes) }
 {
-    let work = work_text(alloc, promiser, work)?;
-    let end = classes_and_minutes(
-        alloc,
-        outcomes.kept.as_slice(),
-        outcomes.repaired.as_slice(),
-        outcomes.failed.as_slice(),
-        minutes,
-    )?;
     let (bundle, number) = (id.bundle.as_str(), id.number);
-    let (work, end) = (work.as_str(), end.as_str());
-    Ok(Name::from_string(format!(in alloc; "{bundle} {number}{work}{end}")?))
+    let mut text = String::with_capacity(alloc, USUAL_LENGTH)?;
+    write!(text, "{bundle} {number}")?;
+    add_work(alloc, promiser, work, &mut text)?;
+    add_classes(alloc, ";k=", outcomes.kept.as_slice(), &mut text)?;
+    add_classes(alloc, ";r=", outcomes.repaired.as_slice(), &mut text)?;
+    add_classes(alloc, ";f=", outcomes.failed.as_slice(), &mut text)?;
+    write!(text, ";e={minutes}")?;
+    Ok(Name::from_string(text))
 }

@@ -13,5 +13,5 @@ returns-in_err-walk-clause-sizes g c =
     let here = subst (λ (choice : Chosen). SizeRefusal (IsBuiltByCall (caller_of r choice) (edit_call r)) (too_big_in c.walk_for.result) (g.P.Patterns.shown c.loop-choice.pats) (g.P.Patterns.shown c.walk_for.new.pats)) c.as_slice.ensures c.walk_for.ensures.sizes in
     let whole = built_among r c.args.choices.now c.loop-choice.choice-index c.choice-item.result c.loop-choice-test.true c.choice-item.is (too_big_in c.walk_for.result) (g.P.Patterns.shown c.args.pats.now) (g.P.Patterns.shown c.loop-choice.pats) (g.P.Patterns.shown c.walk_for.new.pats) c.loop-choice.invariant.5 here in
     let was = c.in_err-walk.was in
-    let h = c.from_residual.ensures in
-    sizes_kept (IsBuiltAmong r c.args.choices.now) c.walk_for.result c.from_residual.result c.in_err-walk.field-0.0 (g.P.Patterns.shown c.args.pats.now) (g.P.Patterns.shown c.walk_for.new.pats) was (search rules) whole
+    let h = c.from_residual-in_err-walk.ensures in
+    sizes_kept (IsBuiltAmong r c.args.choices.now) c.walk_for.result c.from_residual-in_err-walk.result c.in_err-walk.field-0.0 (g.P.Patterns.shown c.args.pats.now) (g.P.Patterns.shown c.walk_for.new.pats) was (search rules) whole
