@@ -1,25 +1,17 @@
 // Calls of the top call over objects in memory: worlds, logs, lines and statuses.
 mod act_runs;
 mod audits;
-mod blocks;
-mod bodies;
 mod checks;
-mod frames;
-mod functions;
 mod host_runs;
 mod inputs;
 mod large_runs;
 mod limits;
 mod line_runs;
 mod lock_runs;
-mod ordering;
-mod promises;
-mod references;
 mod rule_runs;
 mod run_logs;
 mod run_tables;
 mod runs;
-mod sequences;
 mod service_runs;
 mod settled_runs;
 mod settling;

@@ -1,5 +1,5 @@
 // Patterns, which are looked at last, and which of several refusals is given.
-use super::frames::{ALONE, BESIDE_MAIN_AND_SHARED, IN_AN_EDIT_BUNDLE, Row, check_rows};
+use crate::frames::{ALONE, BESIDE_MAIN_AND_SHARED, IN_AN_EDIT_BUNDLE, Row, check_rows};
 use std::test::Fail;
 
 // Literal patterns of edits, read as they are built.

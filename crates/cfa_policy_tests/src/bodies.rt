@@ -1,5 +1,5 @@
 // The attributes of each type of body.
-use super::frames::{BESIDE_MAIN_AND_SHARED, Row, check_rows};
+use crate::frames::{BESIDE_MAIN_AND_SHARED, Row, check_rows};
 use std::test::Fail;
 
 // Bodies of files promises, and those of every promise that is actuated.

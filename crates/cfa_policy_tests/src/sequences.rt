@@ -1,5 +1,5 @@
 // The sequence of bundles, and calls among bundles.
-use super::frames::{ALONE, Frame, Row, check_rows};
+use crate::frames::{ALONE, Frame, Row, check_rows};
 use std::test::Fail;
 
 // The value of `bundlesequence` behind bundles of each type.

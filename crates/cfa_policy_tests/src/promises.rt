@@ -1,5 +1,5 @@
 // The attributes of each type of promise: what each may be, and its refusals.
-use super::frames::{IN_AN_AGENT_BUNDLE, IN_AN_EDIT_BUNDLE, Row, check_rows};
+use crate::frames::{IN_AN_AGENT_BUNDLE, IN_AN_EDIT_BUNDLE, Row, check_rows};
 use std::test::Fail;
 
 // A vars promise gives exactly one of `string`, `int` and `slist` to a word.

@@ -1,5 +1,5 @@
 // Types of blocks and of promises, and names that stand twice.
-use super::frames::{Frame, Row, check_rows};
+use crate::frames::{Frame, Row, check_rows};
 use std::test::Fail;
 
 // Blocks behind the agent bundle `main`.

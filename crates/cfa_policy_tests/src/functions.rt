@@ -1,5 +1,5 @@
 // Calls of functions: their kinds, and the numbers and kinds of their arguments.
-use super::frames::{IN_AN_AGENT_BUNDLE, Row, check_rows};
+use crate::frames::{IN_AN_AGENT_BUNDLE, Row, check_rows};
 use std::test::Fail;
 
 // Functions that give a text.

@@ -1,5 +1,5 @@
 // References: which names a text may refer to, and where.
-use super::frames::{Frame, IN_AN_EDIT_BUNDLE, Row, check_rows};
+use crate::frames::{Frame, IN_AN_EDIT_BUNDLE, Row, check_rows};
 use std::test::Fail;
 
 // Sections of `main`, where `b` is of the sequence too and `away` isn't.
