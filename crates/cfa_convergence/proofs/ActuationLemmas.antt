@@ -108,8 +108,8 @@ module _ (laws : ActLaws) where
       go later (Fail reason) e f = absurd (cc)
       go later (Fault call) e f = absurd (cc)
 
-  -- acts whose posts hold need nothing
-  pub kept_acts : (as' : List Act) (w : World) → PostsHold w as' → actuated as' w ≡ no_more
-  kept_acts [] w p = refl
-  kept_acts (a ∷ as') w p =
-      ap (λ d. actuated_by d (actuated as' w) (λ c. actuated as' (after_change c w))) ((laws.kept a w).1 p.0) ∙ kept_acts as' w p.1
+-- acts whose posts hold need nothing
+pub kept_acts : KeptWherePostHolds → (as' : List Act) (w : World) → PostsHold w as' → actuated as' w ≡ no_more
+kept_acts keeps [] w p = refl
+kept_acts keeps (a ∷ as') w p =
+    ap (λ d. actuated_by d (actuated as' w) (λ c. actuated as' (after_change c w))) ((keeps a w).1 p.0) ∙ kept_acts keeps as' w p.1

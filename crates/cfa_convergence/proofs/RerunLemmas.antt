@@ -3,21 +3,24 @@ use Rattle.std.proofs.Common.{◌≡◌, ℕ, suc, Bool, true, false, List, [], 
 use Rattle.std.specs.Str.{bytes_eq}
 use Rattle.cfa_outside.specs.declared.worlds.World.{World}
 use Rattle.cfa_outside.specs.Sites.{after}
+use Rattle.cfa_acts.specs.Laws.{KeptWherePostHolds}
 use Rattle.cfa_outcomes.specs.declared.outcomes.Outcome.{Outcome}
 use Rattle.cfa_outcomes.specs.declared.outcomes.Outcome.TheVariants.{Kept}
 use Rattle.cfa_resolve.specs.declared.instances.Instance.{Instance}
 use Rattle.cfa_resolve.specs.declared.instances.Work.{Work}
 use Rattle.cfa_resolve.specs.declared.instances.Work.TheVariants.{Acts, Call, Report}
 use Rattle.cfa_walk.specs.History.{History, Begun, Set, Raised, Reached, Listed, Told}
+use Rattle.cfa_walk.specs.Passes.{goes, run}
 use Rattle.cfa_walk.specs.Tellers.{no_more, actuated, acts_of, worse, worst, worst_in, inner_path}
 use Rattle.cfa_agent.specs.Actuations.{done_by, done_on, outcome_done, entries_of}
-use Rattle.cfa_agent.specs.Runs.{Start, actuations_in, has_record, work_entries, log_in, world_in, outcome_by_work, quiet_start}
+use Rattle.cfa_agent.specs.Runs.{Start, actuations_in, has_record, work_entries, log_in, world_in, outcome_by_work, real, history_of, run_of, log_of, quiet_start}
 use Rattle.cfa_convergence.specs.Conflicts.{HasActs, was_visited, is_same}
 use Rattle.cfa_convergence.specs.Lasting.{PostsHold}
-use Rattle.cfa_convergence.specs.Told.{Telling, TellAlike, outcomes_by, IsToldBy}
-use Rattle.cfa_laws.specs.Keys.{IsKeyed}
-use Rattle.cfa_convergence.proofs.ActuationLemmas.{ActLaws, kept_acts}
-use Rattle.cfa_convergence.proofs.KnownLemmas.{AreKnown}
+use Rattle.cfa_convergence.specs.Reruns.{RerunsAreKept}
+use Rattle.cfa_convergence.specs.Told.{Telling, TellAlike, outcomes_by, IsToldBy, RunsAreDetermined, RunsAreTold}
+use Rattle.cfa_laws.specs.Keys.{IsKeyed, InstancesAreKeyed}
+use Rattle.cfa_convergence.proofs.ActuationLemmas.{kept_acts}
+use Rattle.cfa_convergence.proofs.KnownLemmas.{AreKnown, runs_known}
 use Rattle.cfa_convergence.proofs.RealLemmas.{real_tells}
 
 -- every instance is kept
@@ -54,7 +57,7 @@ visited_later : (b : Bool) {c : Bool} → c ≡ true → ◌≡◌ {A = Bool} (e
 visited_later true e = refl
 visited_later false e = e
 
-module _ (laws : ActLaws) (world : World) (moment : ℕ) (kept : History)
+module _ (keeps : KeptWherePostHolds) (world : World) (moment : ℕ) (kept : History)
     (posts : (i : Instance) → IsKeyed i → HasActs i.work → was_visited kept i ≡ true → PostsHold world (acts_of i.work)) where
   abbrev again : Start
   again = quiet_start world moment
@@ -62,7 +65,7 @@ module _ (laws : ActLaws) (world : World) (moment : ℕ) (kept : History)
   -- an instance whose posts hold does nothing
   done_nothing : (number : ℕ) (i : Instance) (w : World) → w ≡ world → PostsHold world (acts_of i.work) → done_on [] number i w ≡ done_by no_more None
   unfolding done_on
-  done_nothing number i w same p = ap (λ v. done_by (actuated (acts_of i.work) v) None) same ∙ ap (λ d. done_by d None) (kept_acts laws (acts_of i.work) world p)
+  done_nothing number i w same p = ap (λ v. done_by (actuated (acts_of i.work) v) None) same ∙ ap (λ d. done_by d None) (kept_acts keeps (acts_of i.work) world p)
 
   ends_kept : (h : History) (i : Instance) (w : Work) → i.work ≡ w → log_in again h ≡ [] → IsToldBy kept_tells h → (HasActs w → PostsHold world (acts_of i.work)) →
       outcome_by_work again (world_in again h) h i w ≡ Kept
@@ -83,7 +86,7 @@ module _ (laws : ActLaws) (world : World) (moment : ℕ) (kept : History)
   writes_nothing h i (Report content) none p = refl
 
   -- both tell that all is kept, and nothing is written
-  pub rerun_alike : (h : History) → ((i : Instance) → was_visited h i ≡ true → was_visited kept i ≡ true) → IsToldBy kept_tells h → AreKnown h →
+  rerun_alike : (h : History) → ((i : Instance) → was_visited h i ≡ true → was_visited kept i ≡ true) → IsToldBy kept_tells h → AreKnown h →
       TellAlike kept_tells (real_tells again) h × (log_in again h ≡ [])
   rerun_alike [] up told known = (tt, refl)
   rerun_alike (Told i [] ∷ h) up told known = let all : [] ≡ Kept ∷ [] = told.0 ∙ kept_told h i i.work in absurd (cc)
@@ -98,3 +101,13 @@ module _ (laws : ActLaws) (world : World) (moment : ℕ) (kept : History)
   rerun_alike (Set path name datum ∷ h) up told known = rerun_alike h up told known
   rerun_alike (Raised place class status source ∷ h) up told known = rerun_alike h up told known
   rerun_alike (Reached home promise guard sets visits ∷ h) up told known = rerun_alike h up told known
+
+-- the rerun is the walk in which all is kept
+pub reruns_kept : KeptWherePostHolds → RunsAreTold → RunsAreDetermined → InstancesAreKeyed → RerunsAreKept
+unfolding run_of log_of
+reruns_kept keeps told determined keyed s kept world moment known is_kept posts =
+    let start : Start = quiet_start world moment in
+    let alike = rerun_alike keeps world moment kept (λ i key has visited. posts i key (record { acts = has; visited = visited })) kept (λ i e. e)
+    (told s kept_tells kept is_kept) (runs_known s kept_tells keyed known kept is_kept) in
+    let same : run s (real start) ≡ goes kept = determined s kept_tells (real_tells start) kept is_kept alike.0 in
+    (same, ap (λ c. log_in start (history_of c)) same ∙ alike.1)

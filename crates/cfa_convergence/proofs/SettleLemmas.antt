@@ -1,7 +1,6 @@
--- Where a policy is free of conflicts, a run without a failure settles.
-use Rattle.std.proofs.Common.{◌≡◌, ℕ, zero, suc, Bool, true, false, List, [], ◌∷◌, refl, sym, ap, subst, ◌∙◌}
+-- Where a policy is free of conflicts, a run without a failure actuates each live instance, leaves its posts, and settles.
+use Rattle.std.proofs.Common.{◌≡◌, ℕ, zero, suc, Bool, true, false, List, [], ◌∷◌, refl, sym, ap, subst}
 use Rattle.std.specs.List.{AllByRecursion as Each}
-use Rattle.cfa_outside.specs.declared.worlds.World.{World}
 use Rattle.cfa_outside.specs.Worlds.{HasParents}
 use Rattle.cfa_classes.specs.declared.levels.Status.{Status}
 use Rattle.cfa_classes.specs.declared.levels.Status.TheVariants.{No, Maybe, Yes}
@@ -11,23 +10,17 @@ use Rattle.cfa_walk.specs.History.{History, Begun, Set, Raised, Reached, Listed,
 use Rattle.cfa_walk.specs.Passes.{goes, run}
 use Rattle.cfa_walk.specs.Tellers.{acts_of}
 use Rattle.cfa_walk.specs.Views.{Setting}
-use Rattle.cfa_agent.specs.Runs.{Start, real, world_in, tally_in, log_in, history_of, run_of, log_of, quiet_start}
+use Rattle.cfa_agent.specs.Runs.{Start, real, world_in, run_of}
 use Rattle.cfa_convergence.specs.Conflicts.{was_visited, is_same, IsLive, IsAfter, first_status}
-use Rattle.cfa_convergence.specs.Contained.{unfailing, actuations, LiesWithin}
+use Rattle.cfa_convergence.specs.Contained.{unfailing, actuations, LiesWithin, UnfailingRunsAreContained}
 use Rattle.cfa_laws.specs.Keys.{IsKeyed, InstancesAreKeyed}
-use Rattle.cfa_convergence.specs.Keys.{KeysTellWorks}
-use Rattle.cfa_convergence.specs.Lasting.{PostsHold, by_agent, IsAmong, Follow}
+use Rattle.cfa_convergence.specs.Lasting.{PostsHold, by_agent, IsAmong, Follow, PostsLast}
 use Rattle.cfa_convergence.specs.Policies.{HasKnown}
-use Rattle.cfa_laws.specs.Statuses.{RaisesLieTogether, InstancesAreSame}
-use Rattle.cfa_convergence.specs.Settling.{IsFreeOfConflicts, FreeRunsSettle}
-use Rattle.cfa_convergence.specs.Told.{teller_of}
-use Rattle.cfa_convergence.proofs.ActuationLemmas.{ActLaws}
+use Rattle.cfa_convergence.specs.Reruns.{RerunsAreKept}
+use Rattle.cfa_convergence.specs.Settling.{IsFreeOfConflicts, LivePostsHold, FreeRunsSettle}
+use Rattle.cfa_convergence.specs.Told.{teller_of, RunsAreDetermined, RunsAreTold}
 use Rattle.cfa_convergence.proofs.KnownLemmas.{runs_known, actuations_keyed}
-use Rattle.cfa_convergence.proofs.LastingLemmas.{posts_last}
 use Rattle.cfa_convergence.proofs.RealLemmas.{Unfailed, tally_unfailed, real_tells, repairs_of, tells_alike, first_agent, unlocked, run_becomes}
-use Rattle.cfa_convergence.proofs.RerunLemmas.{kept_tells, rerun_alike}
-use Rattle.cfa_convergence.proofs.RunLemmas.{run_contained, is_within}
-use Rattle.cfa_convergence.proofs.ToldLemmas.{runs_determined, runs_told}
 
 greater_yes : (s m : Status) → m ≡ Yes → greater s m ≡ Yes
 greater_yes No m e = e
@@ -69,38 +62,32 @@ own_keyed : (is : List Instance) → Each IsKeyed is → Each (λ (step : ℕ ×
 own_keyed [] keyed = tt
 own_keyed (i ∷ is) keyed = ((refl, keyed.0), own_keyed is keyed.1)
 
-module _ (laws : ActLaws) (tell : KeysTellWorks) (keyed : InstancesAreKeyed) (s : Setting) (kept walk : History) (known : HasKnown s.policy) (free : IsFreeOfConflicts s kept walk) (together : RaisesLieTogether) (same' : InstancesAreSame) where
-  -- the posts of live instances hold in the end
-  posts_hold : (start : Start) (h : History) → HasParents start.world.nodes → run s (teller_of (real_tells (unlocked start))) ≡ goes h → Unfailed h →
-      (i : Instance) → IsKeyed i → IsLive kept i → PostsHold (world_in (unlocked start) h) (acts_of i.work)
-  posts_hold start h valid is fine i key live =
-      let told = runs_told s (real_tells (unlocked start)) h is in
-      let determined = runs_determined s (real_tells (unlocked start)) (unfailing (repairs_of (unlocked start))) h is (tells_alike (unlocked start) h told fine) in
-      let placed : LiesWithin h walk = is_within h walk (run_contained s tell keyed together same' known (repairs_of (unlocked start)) h walk determined free.is_open free.settled) in
-      let acted : IsAmong i (actuations h) = placed.sure i key live.acts (sure_marked walk i (free.free.sure i key live)) in
-      posts_last laws tell kept walk is_first 0 start.world (world_in (unlocked start) h) (first_agent (actuations h)) free.free refl valid (run_becomes start h told fine)
-      (own_keyed (actuations h) (actuations_keyed h (runs_known s (real_tells (unlocked start)) keyed known h is)))
-      (λ k at. let e = first_is k at in subst (λ n. Follow (IsAfter walk) (by_agent n (first_agent (actuations h)))) (sym e) (subst (Follow (IsAfter walk)) (sym (own_list (actuations h))) placed.order))
-      i key live
-      (λ k at. let e = first_is k at in subst (λ n. IsAmong i (by_agent n (first_agent (actuations h)))) (sym e) (subst (IsAmong i) (sym (own_list (actuations h))) acted))
+module _ (told : RunsAreTold) (determined : RunsAreDetermined) (contained : UnfailingRunsAreContained) (last : PostsLast) (keyed : InstancesAreKeyed) where
+  -- live instances were actuated, and their posts hold in the end
+  unlocked_posts : (s : Setting) (start : Start) (kept walk h : History) → HasKnown s.policy → IsFreeOfConflicts s kept walk → HasParents start.world.nodes →
+      run s (teller_of (real_tells (unlocked start))) ≡ goes h → Unfailed h → (i : Instance) → IsKeyed i → IsLive kept i →
+      IsAmong i (actuations h) × PostsHold (world_in (unlocked start) h) (acts_of i.work)
+  unlocked_posts s start kept walk h known free valid is fine i key live =
+      let heard = told s (real_tells (unlocked start)) h is in
+      let unfailed = determined s (real_tells (unlocked start)) (unfailing (repairs_of (unlocked start))) h is (tells_alike (unlocked start) h heard fine) in
+      let placed : LiesWithin h walk = contained s (repairs_of (unlocked start)) h walk known unfailed free.is_open free.settled in
+      let acted : IsAmong i (actuations h) = placed.sure i key live.acts (sure_marked walk i (free.free.sure i key live)) in (
+        acted,
+        last kept walk is_first 0 start.world (world_in (unlocked start) h) (first_agent (actuations h)) free.free refl valid (run_becomes start h heard fine)
+            (own_keyed (actuations h) (actuations_keyed h (runs_known s (real_tells (unlocked start)) keyed known h is)))
+            (λ k at. let e = first_is k at in subst (λ n. Follow (IsAfter walk) (by_agent n (first_agent (actuations h)))) (sym e) (subst (Follow (IsAfter walk)) (sym (own_list (actuations h))) placed.order))
+            i key live
+            (λ k at. let e = first_is k at in subst (λ n. IsAmong i (by_agent n (first_agent (actuations h)))) (sym e) (subst (IsAmong i) (sym (own_list (actuations h))) acted)),
+      )
 
-  -- the rerun is the walk in which all is kept
-  settles_unlocked : (start : Start) (h : History) (moment : ℕ) → HasParents start.world.nodes → run s (real (unlocked start)) ≡ goes h → (tally_in h).failed ≡ 0 →
-      log_of s (quiet_start (world_in (unlocked start) h) moment) ≡ []
-  unfolding run_of log_of
-  settles_unlocked start h moment valid is none =
-      let world : World = world_in (unlocked start) h in
-      let again : Start = quiet_start world moment in
-      let told = runs_told s kept_tells kept free.is_kept in
-      let alike = rerun_alike laws world moment kept
-      (λ i key has visited. posts_hold start h valid is (tally_unfailed h none) i key (record { acts = has; visited = visited })) kept (λ i e. e) told
-      (runs_known s kept_tells keyed known kept free.is_kept) in
-      let same : run s (real again) ≡ goes kept = runs_determined s kept_tells (real_tells again) kept free.is_kept alike.0 in
-      ap (λ c. log_in again (history_of c)) same ∙ alike.1
-
-pub free_runs_settle : ActLaws → KeysTellWorks → RaisesLieTogether → InstancesAreSame → InstancesAreKeyed → FreeRunsSettle
+pub live_posts : RunsAreTold → RunsAreDetermined → UnfailingRunsAreContained → PostsLast → InstancesAreKeyed → LivePostsHold
 unfolding run_of
-free_runs_settle laws tell together same' keyed s start kept walk h known free valid no_locks is none = λ moment.
+live_posts told determined contained last keyed s start kept walk h known free valid no_locks is none i key live =
     let same : start ≡ unlocked start = ap (λ b. record start { has_locks = b }) no_locks in
-    subst (λ x. log_of s (quiet_start (world_in x h) moment) ≡ []) (sym same)
-    (settles_unlocked laws tell keyed s kept walk known free together same' start h moment valid (subst (λ x. run s (real x) ≡ goes h) same is) none)
+    subst (λ x. IsAmong i (actuations h) × PostsHold (world_in x h) (acts_of i.work)) (sym same)
+    (unlocked_posts told determined contained last keyed s start kept walk h known free valid (subst (λ x. run s (real x) ≡ goes h) same is) (tally_unfailed h none) i key live)
+
+-- the posts of what is live hold, so that a rerun is the walk in which all is kept
+pub free_settle : LivePostsHold → RerunsAreKept → FreeRunsSettle
+free_settle posts reruns s start kept walk h known free valid no_locks is none = λ moment.
+    (reruns s kept (world_in start h) moment known free.is_kept (λ i key live. (posts s start kept walk h known free valid no_locks is none i key live).1)).1

@@ -3,6 +3,7 @@ pub mod Contained
 pub mod Keys
 pub mod Lasting
 pub mod Policies
+pub mod Reruns
 pub mod Settled
 pub mod Settling
 pub mod Sources

@@ -17,7 +17,7 @@ use cfa_walk::Context;
 use std::alloc::Global;
 
 /// Runs a policy, as `cfa_agent` does. Where the policy is accepted, a run without locks that ends with no promise failed leaves a
-/// world on which a rerun changes nothing.
+/// world on which a rerun without locks and without a failed call changes nothing.
 pub fn run<S: Site, O: Sink, P: Patterns>(
     alloc: Global,
     checked: &Checked,

@@ -1,24 +1,14 @@
-// What a rerun does.
+// What a run without a failure leaves behind.
 ghost use Rattle.cfa_convergence.specs.Settling.{FreeRunsSettle};
 
-use crate::keys::keys_tell_works;
-use cfa_acts::{
-    kept_where_post_holds, needed_change_fits, needed_change_keeps_post, needed_change_makes_post,
-};
-use cfa_laws::{instances_are_keyed, instances_are_same, raises_lie_together};
-use cfa_outside::keeps_parents;
+use crate::lasting::live_posts_hold;
+use crate::reruns::reruns_are_kept;
 
-/// Where a policy is free of conflicts, a run that ends with no instance failed leaves a world on which the policy settles.
+/// Where a policy is free of conflicts, a run without locks that ends with no instance failed leaves a world on which the policy
+/// settles.
 pub fn free_runs_settle()
     ensures { FreeRunsSettle }
 {
-    keys_tell_works();
-    raises_lie_together();
-    instances_are_same();
-    instances_are_keyed();
-    kept_where_post_holds();
-    needed_change_fits();
-    needed_change_makes_post();
-    needed_change_keeps_post();
-    keeps_parents();
+    live_posts_hold();
+    reruns_are_kept();
 }
