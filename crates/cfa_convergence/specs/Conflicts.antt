@@ -1,7 +1,7 @@
 -- When instances with acts are in no conflict, over the walk in which all is kept and the open walk. An instance is live where the first
 -- of these visits it. A live instance restarts nothing, comes for sure at its first visit in the open walk, and none of its acts is
 -- disturbed: neither by an act of another instance that the open walk visits after it, nor by a later act of its own.
-use Rattle.std.specs.Prelude.{◌≡◌, ◌⊎◌, ℕ, Bool, true, false, List, [], ◌∷◌}
+use Rattle.std.specs.Prelude.{◌≡◌, ◌⊎◌, ℕ, Bool, true, false, T, List, [], ◌∷◌}
 use Rattle.std.specs.List.{AllByRecursion as Each}
 use Rattle.cfa_acts.specs.declared.acts.Act.{Act}
 use Rattle.cfa_acts.specs.Disturbs.{disturbs}
@@ -10,15 +10,14 @@ use Rattle.cfa_classes.specs.declared.levels.Status.{Status}
 use Rattle.cfa_classes.specs.declared.levels.Status.TheVariants.{No, Yes}
 use Rattle.cfa_resolve.specs.declared.instances.Instance.{Instance}
 use Rattle.cfa_resolve.specs.declared.instances.Work.{Work}
-use Rattle.cfa_resolve.specs.declared.instances.Work.TheVariants.{Acts, Call, Report}
 use Rattle.cfa_walk.specs.History.{History, Begun, Set, Raised, Reached, Listed, Told, is_named}
 use Rattle.cfa_walk.specs.Tellers.{acts_of}
+use Rattle.cfa_conflict.specs.Conflicts.{has_acts}
 use Rattle.cfa_laws.specs.Keys.{IsKeyed}
 
+-- the work is acts, of which there may be none
 abbrev pub HasActs : Work → Type 0
-HasActs (Acts acts) = Unit {0}
-HasActs (Call name arguments) = ⊥
-HasActs (Report content) = ⊥
+HasActs work = T (has_acts work)
 
 -- whether an instance of this path and key text was listed
 abbrev pub was_listed : History → (path text : List ℕ) → Bool
