@@ -1,4 +1,4 @@
-//! The verdict on a policy: the first two promises that undo each other, and what they meet in.
+//! The verdict on a policy: its first two promises in conflict, and what they meet in.
 #![tactic(auto)]
 
 mod analysing;

@@ -49,7 +49,8 @@ fn with_acts(instances: &[Instance]) -> usize
     count
 }
 
-/// How many instances of a walk have acts. A number that isn't a `u32` is out of the reach of any memory.
+/// How many instances of a walk have acts. The walk of a policy has at most `MOST_VISITS` of them, so only a walk made by hand
+/// has too many.
 pub(crate) fn live_instances(kept: &Walk) -> Result<u32, NoMemory>
     ensures { IfOk result (λ count. count ≡ live_instances kept.now) }
 {
