@@ -2,20 +2,22 @@
 use Rattle.std.proofs.Common.{◌≡◌, ℕ, ◌+◌, ◌<◌, ◌≤◌, List, [], ◌∷◌, ◌++◌, length, get_or, take, drop, Bool, true, false, ◌&&◌, cond, eqb, eq-eqb, refl, sym, ap, subst, ◌∙◌, arith}
 use Rattle.std.proofs.lemmas.Bool.{false≢true, false_from_ne_true, eqb-true, and_parts, and_from}
 use Rattle.std.proofs.lemmas.Bool.Decides.{nat_tests}
-use Rattle.std.proofs.lemmas.Cmp.{ranked, nat_list_cmp_total, is_lt_index}
+use Rattle.std.proofs.lemmas.Cmp.{ranked, nat_list_cmp_total, is_lt_index, tied_itself}
 use Rattle.std.proofs.lemmas.List.{take-append-drop, get_or-drop, get_or-take, length-drop, length-take-le, append-nil}
 use Rattle.std.proofs.lemmas.List.Elements.{filter-append, All-head, All-tail}
+use Rattle.std.proofs.lemmas.Map.Text.{is_eq-slice_cmp}
+use Rattle.std.proofs.lemmas.Slice.Eq.{bytes_eq-Decides}
 use Rattle.std.proofs.lemmas.List.Sorted.{sorted_far, searchable_from_sorted, ranks_by}
 use Rattle.std.specs.Prelude.{nat_eq}
 use Rattle.std.specs.Cmp.Lexicographic.{slice_cmp}
 use Rattle.std.specs.List.{All, AllWithin, filter, starts_with}
 use Rattle.std.specs.List.Sorted.{IsSorted, IsPartitionedBy, IsPartitionPoint}
-use Rattle.std.specs.Ordering.{is_lt, is_gt, nat_cmp, ordering_then, ordering_reverse, ordering_index}
+use Rattle.std.specs.Ordering.{is_lt, is_gt, is_eq, nat_cmp, ordering_then, ordering_reverse, ordering_index}
 use Rattle.std.specs.declared.cmp.Ordering.{Ordering}
 use Rattle.std.specs.declared.cmp.Ordering.TheVariants.{Less, Equal, Greater}
 use denote.Ref.{Bor}
 use Rattle.cfa_base.specs.Index.{Text}
-use Rattle.cfa_conflict.specs.Targets.{AreSorted, is_row_before, begins_with}
+use Rattle.cfa_conflict.specs.Targets.{AreSorted, is_row_before, begins_with, is_target}
 
 abbrev text_cmp : Text → Text → Ordering
 text_cmp = slice_cmp nat_cmp
@@ -110,19 +112,50 @@ parted_by_key rows key up = λ i j d le lt is.
     let high = text_cmp (get_or rows j d).0.now key in
     is_lt_index low ∙ zero_below (ordering_index low) (ordering_index high) rises (sym (is_lt_index high) ∙ is)
 
--- the rows from a place on, none of which is before the front
-pub parted_by_front : (rows : List (Bor Text × ℕ)) (front : Text) (start : ℕ) → AreSorted rows
-    → AllWithin (λ row. is_before front row ≡ false) rows start (length rows) → IsPartitionedBy (begins_with front) (drop start rows)
-parted_by_front rows front start up late = λ i j d le lt is.
+-- ---- tests of rows that stand together
+
+-- no row before the key passes, and each one between the key and one that passes does
+pub record PassesTogether (key : Text) (test : Bor Text × ℕ → Bool) : Type 0 where
+  pub none_before : (row : Bor Text × ℕ) → is_before key row ≡ true → test row ≡ false
+  pub all_between : (low high : Bor Text × ℕ) → is_gt (text_cmp key low.0.now) ≡ false → is_gt (text_cmp low.0.now high.0.now) ≡ false
+      → test high ≡ true → test low ≡ true
+
+pub those_beginning : (front : Text) → PassesTogether front (begins_with front)
+those_beginning front = record {
+  none_before = λ row early. false_from_ne_true (begins_with front row) (λ is. false≢true (sym (not_before_front front row.0.now is) ∙ early));
+  all_between = λ low high above up_to is. between front low.0.now high.0.now above up_to is;
+}
+
+both_ways : (o : Ordering) → is_gt o ≡ false → is_gt (ordering_reverse o) ≡ false → is_eq o ≡ true
+both_ways Less a b = absurd (false≢true (sym b))
+both_ways Equal a b = refl
+both_ways Greater a b = absurd (false≢true (sym a))
+
+pub those_at : (key : Text) → PassesTogether key (is_target key)
+those_at key = record {
+  none_before = λ row early. false_from_ne_true (is_target key row) (λ is.
+      let same : key ≡ row.0.now = (bytes_eq-Decides key row.0.now).0 is in
+      false≢true (sym (ap is_lt (tied_itself nat_list_cmp_total key)) ∙ ap (λ (t : Text). is_lt (text_cmp t key)) same ∙ early));
+  all_between = λ low high above up_to is.
+      let same : key ≡ high.0.now = (bytes_eq-Decides key high.0.now).0 is in
+      let below : is_gt (text_cmp low.0.now key) ≡ false = ap (λ (t : Text). is_gt (text_cmp low.0.now t)) same ∙ up_to in
+      sym (is_eq-slice_cmp key low.0.now)
+      ∙ both_ways (text_cmp key low.0.now) above (ap is_gt (sym (nat_list_cmp_total.antisymm low.0.now key)) ∙ below);
+}
+
+-- the rows from a place on, none of which is before the key
+pub parted_by_test : (rows : List (Bor Text × ℕ)) (key : Text) (test : Bor Text × ℕ → Bool) (start : ℕ) → PassesTogether key test → AreSorted rows
+    → AllWithin (λ row. is_before key row ≡ false) rows start (length rows) → IsPartitionedBy test (drop start rows)
+parted_by_test rows key test start near up late = λ i j d le lt is.
     let within : start + j < length rows = omega (arith, length-drop start rows) in
     let at : get_or (drop start rows) i d ≡ get_or rows (start + i) d = get_or-drop start rows i d in
     let there : get_or (drop start rows) j d ≡ get_or rows (start + j) d = get_or-drop start rows j d in
-    let low = (get_or rows (start + i) d).0.now in
-    let high = (get_or rows (start + j) d).0.now in
-    let found : starts_with nat_eq high front ≡ true = ap (begins_with front) (sym there) ∙ is in
-    let above = upto front low (late (start + i) d (omega arith) (omega arith)) in
-    let up_to = upto low high (far rows up (start + i) (start + j) d (omega arith) within) in
-    ap (begins_with front) at ∙ between front low high above up_to found
+    let low = get_or rows (start + i) d in
+    let high = get_or rows (start + j) d in
+    let found : test high ≡ true = ap test (sym there) ∙ is in
+    let above = upto key low.0.now (late (start + i) d (omega arith) (omega arith)) in
+    let up_to = upto low.0.now high.0.now (far rows up (start + i) (start + j) d (omega arith) within) in
+    ap test at ∙ near.all_between low high above up_to found
 
 -- ---- what a filter keeps of a part
 
@@ -162,24 +195,18 @@ kept_between test xs start end low high front found back =
     sym (ap (filter test) (sym (take-append-drop start xs)) ∙ filter-append test (take start xs) rest
     ∙ ap (λ l. l ++ filter test rest) before ∙ split)
 
--- before the front no row begins with it
-pub none_before : (rows : List (Bor Text × ℕ)) (front : Text) (start : ℕ) → AllWithin (λ row. is_before front row ≡ true) rows 0 start
-    → AllWithin (λ row. begins_with front row ≡ false) rows 0 start
-none_before rows front start early = λ k d low high.
-    let row = get_or rows k d in
-    false_from_ne_true (begins_with front row) (λ is. false≢true (sym (not_before_front front row.0.now is) ∙ early k d low high))
-
 -- what two searches find
-pub begin_together : (rows rest found : List (Bor Text × ℕ)) (front : Text) (start end : ℕ) → AreSorted rows → start ≤ length rows → rest ≡ drop start rows
-    → end ≤ length rest → found ≡ take end rest
-    → (IsPartitionedBy (is_before front) rows → IsPartitionPoint (λ row. is_before front row ≡ true) (λ row. is_before front row ≡ false) rows start)
-    → (IsPartitionedBy (begins_with front) rest → IsPartitionPoint (λ row. begins_with front row ≡ true) (λ row. begins_with front row ≡ false) rest end)
-    → found ≡ filter (begins_with front) rows
-begin_together rows rest found front start end up low behind high taken first second =
-    let point = first (parted_by_key rows front up) in
-    let parted = parted_by_front rows front start up point.1 in
-    let last = second (subst (λ (l : List (Bor Text × ℕ)). IsPartitionedBy (begins_with front) l) (sym behind) parted) in
+pub found_together : (rows rest found : List (Bor Text × ℕ)) (key : Text) (test : Bor Text × ℕ → Bool) (start end : ℕ) → PassesTogether key test → AreSorted rows
+    → start ≤ length rows → rest ≡ drop start rows → end ≤ length rest → found ≡ take end rest
+    → (IsPartitionedBy (is_before key) rows → IsPartitionPoint (λ row. is_before key row ≡ true) (λ row. is_before key row ≡ false) rows start)
+    → (IsPartitionedBy test rest → IsPartitionPoint (λ row. test row ≡ true) (λ row. test row ≡ false) rest end)
+    → found ≡ filter test rows
+found_together rows rest found key test start end near up low behind high taken first second =
+    let point = first (parted_by_key rows key up) in
+    let parted = parted_by_test rows key test start near up point.1 in
+    let last = second (subst (λ (l : List (Bor Text × ℕ)). IsPartitionedBy test l) (sym behind) parted) in
     let bound : end ≤ length (drop start rows) = subst (λ (l : List (Bor Text × ℕ)). end ≤ length l) behind high in
-    let found_here = subst (λ (l : List (Bor Text × ℕ)). AllWithin (λ row. begins_with front row ≡ true) l 0 end) behind last.0 in
-    let none_behind = subst (λ (l : List (Bor Text × ℕ)). AllWithin (λ row. begins_with front row ≡ false) l end (length l)) behind last.1 in
-    taken ∙ ap (take end) behind ∙ kept_between (begins_with front) rows start end low bound (none_before rows front start point.0) found_here none_behind
+    let found_here = subst (λ (l : List (Bor Text × ℕ)). AllWithin (λ row. test row ≡ true) l 0 end) behind last.0 in
+    let none_behind = subst (λ (l : List (Bor Text × ℕ)). AllWithin (λ row. test row ≡ false) l end (length l)) behind last.1 in
+    let none_in_front : AllWithin (λ row. test row ≡ false) rows 0 start = λ k d from to. near.none_before (get_or rows k d) (point.0 k d from to) in
+    taken ∙ ap (take end) behind ∙ kept_between test rows start end low bound none_in_front found_here none_behind

@@ -6,6 +6,7 @@ use Rattle.std.specs.Cmp.Lexicographic.{slice_cmp}
 use Rattle.std.specs.List.{flat_map, filter, list_any, starts_with}
 use Rattle.std.specs.List.Sorted.{IsSortedBy}
 use Rattle.std.specs.Ordering.{is_lt, nat_cmp}
+use Rattle.std.specs.Str.{bytes_eq}
 use denote.Ref.{Bor}
 use Rattle.cfa_base.specs.Index.{Text}
 use Rattle.cfa_acts.specs.declared.acts.Act.{Act}
@@ -64,6 +65,9 @@ HasRows rows instances = (test : Row → Bool) → list_any test (seen_rows rows
 
 abbrev pub begins_with : (front : Text) → Bor Text × ℕ → Bool
 begins_with front row = starts_with nat_eq row.0.now front
+
+abbrev pub is_target : (key : Text) → Bor Text × ℕ → Bool
+is_target key row = bytes_eq key row.0.now
 
 -- the target is the key; or, where it may be beneath, goes on with a slash
 abbrev pub goes_on : (beneath : Bool) → (rest : Text) → Bool

@@ -54,8 +54,8 @@ fn undone_in(
     Ok(None)
 }
 
-// The first of what any instance undoes of this one. The other ones are looked for by the paths and services of its acts; so
-// this costs as much as they have acts there.
+// The first of what any instance undoes of this one. The other ones are looked for by the paths and services of its acts, and
+// each of them is looked at once, however many acts it has there.
 fn first_undone(
     alloc: Global,
     all: &Open<'_>,
@@ -130,8 +130,9 @@ fn first_conflict(alloc: Global, kept: &Walk, open: &Walk) -> Result<Option<Conf
 }
 
 /// The verdict by the walk where all is kept and the open walk. It costs as much as both walks list, with a logarithm, where the
-/// acts of instances are on different paths and services. Each act is compared with each other one on its path or service, so
-/// many acts on one of them cost as many pairs.
+/// acts of instances are on different paths and services. Each live instance is compared with each instance that has an act on a
+/// path or service of it, on the source of a copy, or at or beneath a path that it deletes; so many instances on one path cost
+/// as many pairs. A deletion looks through all targets that begin with the text of its path.
 pub fn judge(alloc: Global, kept: &Walk, open: &Walk) -> Result<Verdict, NoMemory>
     ensures { IfOk result (λ verdict. verdict ≡ verdict_of kept.now «open».now) }
 {

@@ -2,7 +2,7 @@
 ghost use Rattle.std.specs.Prelude.{◌≡◌, ℕ, ◌++◌, IfOk, OnOk, nat_eq, option_copied};
 ghost use Rattle.std.specs.List.{filter, flat_map, list_any};
 ghost use Rattle.std.specs.List.Sorted.{IsNonDecreasing};
-ghost use Rattle.cfa_conflict.specs.Targets.{target_of, rows_of, seen_rows, is_sought, places_of, sought, AreSorted, HasRows, begins_with};
+ghost use Rattle.cfa_conflict.specs.Targets.{target_of, rows_of, seen_rows, is_sought, places_of, sought, AreSorted, HasRows, begins_with, is_target};
 
 use crate::pairs::acts_of;
 use cfa_acts::Act;
@@ -98,11 +98,39 @@ impl<'a> TargetIndex<'a> {
         found
     }
 
+    // The rows of a target stand together.
+    fn at_target(&self, key: &str) -> &[(&'a str, usize)]
+        ensures { result.now ≡ filter (is_target key.now) self.now.rows.items }
+    {
+        let rows = self.rows.as_slice();
+        let start = rows.partition_point(|row| row.0 < key);
+        let (_, rest) = rows.split_at(start);
+        let end = rest.partition_point(
+            |row: &(&str, usize)| -> bool
+                ensures { result ≡ is_target key.entry.now row.entry.now }
+            { key == row.0 },
+        );
+        let (found, _) = rest.split_at(end);
+        found
+    }
+
+    // The rows among which all those are that are sought.
+    fn rows_near(&self, key: &str, beneath: bool) -> &[(&'a str, usize)]
+        ensures { places_of (seen_rows result.now) key.now beneath
+            ≡ places_of (seen_rows self.now.rows.items) key.now beneath }
+    {
+        if beneath {
+            self.beginning_with(key)
+        } else {
+            self.at_target(key)
+        }
+    }
+
     fn add_places(&self, key: &str, beneath: bool, places: &mut Vec<usize>) -> Result<(), NoMemory>
         ensures { OnOk result (places.new.items ≡ places.old.items
             ++ places_of (seen_rows self.now.rows.items) key.now beneath) }
     {
-        let found = self.beginning_with(key);
+        let found = self.rows_near(key, beneath);
         for (target, place) in found {
             if is_sought(key, beneath, target) {
                 places.push(*place)?;
@@ -133,7 +161,7 @@ impl<'a> TargetIndex<'a> {
         }
     }
 
-    /// The places of the acts that can disturb one of these, in their order.
+    /// The places of the acts that can disturb one of these, in their order and each once.
     pub(crate) fn places_sought(&self, alloc: Global, acts: &[Act]) -> Result<Vec<usize>, NoMemory>
         ensures places { IfOk result (λ places. (place : ℕ)
             → list_any (nat_eq place) places.items ≡ list_any (nat_eq place)
@@ -145,6 +173,7 @@ impl<'a> TargetIndex<'a> {
             self.add_sought(act, &mut places)?;
         }
         places.sort()?;
+        places.dedup();
         Ok(places)
     }
 }
