@@ -1,11 +1,14 @@
 pub mod AnalysisLemmas
+pub mod CalmLemmas
 pub mod FirstLemmas
+pub mod LikeLemmas
 pub mod MeetingLemmas
 pub mod NameLemmas
 pub mod NumberLemmas
 pub mod OrderLemmas
 pub mod QuietLemmas
 pub mod RowLemmas
+pub mod SameLemmas
 pub mod SoughtLemmas
 pub mod TargetLemmas
 pub mod VerdictLemmas

@@ -38,7 +38,7 @@ in_push [] y x (inr none) = absurd none
 in_push (z ∷ zs) y x (inl same) = inl (inl same)
 in_push (z ∷ zs) y x (inr among) = ⊎_elim (λ h. inl (inr h)) (λ h. inr h) (in_push zs y x among)
 
-none_by_later : (instance : Instance) (acts earlier later : List Act) → ((b a : Act) → In b acts → In a acts → disturbs b a ≡ false)
+pub none_by_later : (instance : Instance) (acts earlier later : List Act) → ((b a : Act) → In b acts → In a acts → disturbs b a ≡ false)
     → ((a : Act) → In a earlier → In a acts) → ((b : Act) → In b later → In b acts) → undone_by_later instance earlier later ≡ []
 none_by_later instance acts earlier [] quiet before behind = refl
 none_by_later instance acts earlier (act ∷ later) quiet before behind =
@@ -49,7 +49,7 @@ none_by_later instance acts earlier (act ∷ later) quiet before behind =
     ap (λ l. l ++ undone_by_later instance (earlier ++ act ∷ []) later) none
     ∙ none_by_later instance acts (earlier ++ act ∷ []) later quiet grown (λ b among. behind b (inr among))
 
-none_by_other : (instance other : Instance) → ((b a : Act) → In b (acts_of other.work) → In a (acts_of instance.work) → disturbs b a ≡ false)
+pub none_by_other : (instance other : Instance) → ((b a : Act) → In b (acts_of other.work) → In a (acts_of instance.work) → disturbs b a ≡ false)
     → undone_by_other instance other ≡ []
 none_by_other instance other quiet =
     none_found (undone_by instance other (acts_of instance.work)) (acts_of other.work)

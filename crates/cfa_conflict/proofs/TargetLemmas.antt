@@ -13,7 +13,7 @@ use Rattle.cfa_acts.specs.declared.acts.Act.TheVariants.{Create, MakeDir, Delete
 use Rattle.cfa_acts.specs.Disturbs.{is_at_or_beneath, disturbs}
 use Rattle.cfa_resolve.specs.declared.instances.Instance.{Instance}
 use Rattle.cfa_walk.specs.Tellers.{acts_of}
-use Rattle.cfa_conflict.specs.Targets.{Row, target_of, placed, rows_of, rows_from, goes_on, is_sought, places_of, sought}
+use Rattle.cfa_conflict.specs.Targets.{Row, target_of, placed, rows_of, rows_from, is_row, goes_on, is_sought, places_of, sought}
 use Rattle.cfa_conflict.proofs.SoughtLemmas.{passes, seeks, disturbs_sought}
 
 -- ---- which targets are sought
@@ -55,13 +55,10 @@ sought_beneath key target is =
 
 -- ---- the rows of a target
 
-abbrev pub is_row : (target : Text) → (place : ℕ) → Row → Bool
-is_row target place row = bytes_eq target row.0 && nat_eq place row.1
-
-in_left : {X : Type 0} (test : X → Bool) (xs ys : List X) → list_any test xs ≡ true → list_any test (xs ++ ys) ≡ true
+pub in_left : {X : Type 0} (test : X → Bool) (xs ys : List X) → list_any test xs ≡ true → list_any test (xs ++ ys) ≡ true
 in_left test xs ys h = list_any-append test xs ys ∙ or_left (list_any test xs) (list_any test ys) h
 
-in_right : {X : Type 0} (test : X → Bool) (xs ys : List X) → list_any test ys ≡ true → list_any test (xs ++ ys) ≡ true
+pub in_right : {X : Type 0} (test : X → Bool) (xs ys : List X) → list_any test ys ≡ true → list_any test (xs ++ ys) ≡ true
 in_right test xs ys h = list_any-append test xs ys ∙ or_right (list_any test xs) (list_any test ys) h
 
 found_place : (test : Text → Bool) (rows : List Row) (target : Text) (place : ℕ) → test target ≡ true → list_any (is_row target place) rows ≡ true
@@ -82,7 +79,7 @@ found_place test (row ∷ rows) target place passes is =
     ]
 
 -- an act looks at the places of each target that it seeks
-sought_place : (rows : List Row) (act : Act) (target : Text) (place : ℕ) → seeks act target ≡ true → list_any (is_row target place) rows ≡ true
+pub sought_place : (rows : List Row) (act : Act) (target : Text) (place : ℕ) → seeks act target ≡ true → list_any (is_row target place) rows ≡ true
     → list_any (nat_eq place) (sought rows act) ≡ true
 sought_place rows (Create path) target place is among = found_place (is_sought path false) rows target place (sought_at path target false is) among
 sought_place rows (MakeDir path) target place is among = found_place (is_sought path false) rows target place (sought_at path target false is) among
@@ -122,7 +119,7 @@ row_of_act place (y ∷ ys) act target among is =
       | inr more ↦ in_right (is_row target place) (placed place (target_of y)) (rows_of place ys) (row_of_act place ys act target more is)
     ]
 
-row_of_instance : (instances : List Instance) (from k place : ℕ) (d : Instance) (act : Act) (target : Text) → place ≡ from + k → k < length instances
+pub row_of_instance : (instances : List Instance) (from k place : ℕ) (d : Instance) (act : Act) (target : Text) → place ≡ from + k → k < length instances
     → In act (acts_of (get_or instances k d).work) → target_of act ≡ Some target → list_any (is_row target place) (rows_from instances from) ≡ true
 row_of_instance [] from k place d act target at lt among is = absurd (omega arith)
 row_of_instance (instance ∷ instances) from zero place d act target at lt among is =
@@ -131,7 +128,7 @@ row_of_instance (instance ∷ instances) from zero place d act target at lt amon
 row_of_instance (instance ∷ instances) from (suc k) place d act target at lt among is =
     in_right (is_row target place) (rows_of from (acts_of instance.work)) (rows_from instances (from + 1)) (row_of_instance instances (from + 1) k place d act target (omega arith) (omega arith) among is)
 
-looked_at : (rows : List Row) (acts : List Act) (act : Act) (place : ℕ) → In act acts → list_any (nat_eq place) (sought rows act) ≡ true
+pub looked_at : (rows : List Row) (acts : List Act) (act : Act) (place : ℕ) → In act acts → list_any (nat_eq place) (sought rows act) ≡ true
     → list_any (nat_eq place) (flat_map (sought rows) acts) ≡ true
 looked_at rows [] act place among is = absurd among
 looked_at rows (y ∷ ys) act place among is =

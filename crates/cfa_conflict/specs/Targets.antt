@@ -1,8 +1,8 @@
 -- Of the code alone: where the acts are that can disturb an act. An act changes one target, a path or a service. It can disturb
 -- an act that stands on this target, a copy from it, and the deletion of a path at or above it. So each act looks among the acts
 -- of some targets alone.
-use Rattle.std.specs.Prelude.{◌≡◌, ℕ, ◌+◌, Bool, true, false, ◌&&◌, ◌==◌, nat_eq, List, [], ◌∷◌, ◌++◌, length, drop, get_or, map, Option, Some, None}
-use Rattle.std.specs.Cmp.Lexicographic.{slice_cmp}
+use Rattle.std.specs.Prelude.{◌≡◌, ℕ, ◌+◌, Bool, true, false, ◌&&◌, ◌||◌, ◌==◌, nat_eq, List, [], ◌∷◌, ◌++◌, length, drop, get_or, map, Option, Some, None, slice_get}
+use Rattle.std.specs.Cmp.Lexicographic.{slice_cmp, pointwise}
 use Rattle.std.specs.List.{flat_map, filter, list_any, starts_with}
 use Rattle.std.specs.List.Sorted.{IsSortedBy}
 use Rattle.std.specs.Ordering.{is_lt, nat_cmp}
@@ -13,6 +13,9 @@ use Rattle.cfa_acts.specs.declared.acts.Act.{Act}
 use Rattle.cfa_acts.specs.declared.acts.Act.TheVariants.{Create, MakeDir, Delete, Content, Copy, Edit, Perms, Start, Stop, Enable, Disable, Restart, Bust}
 use Rattle.cfa_resolve.specs.declared.instances.Instance.{Instance}
 use Rattle.cfa_walk.specs.Tellers.{acts_of}
+use Rattle.cfa_walk.specs.declared.walks.Visit.{Visit}
+use Rattle.cfa_conflict.specs.Conflicts.{undone_from}
+use Rattle.cfa_conflict.specs.Same.{is_same}
 
 -- a target with the place of an instance that has an act on it
 abbrev pub Row : Type 0
@@ -96,6 +99,35 @@ sought rows (Disable name) = places_of rows name false
 sought rows (Restart name) = []
 sought rows (Bust reason) = []
 
+-- ---- instances with the same acts
+
+-- the acts of the instance at a place, and none where there is no instance
+abbrev pub acts_in : Option Instance → List Act
+acts_in None = []
+acts_in (Some instance) = acts_of instance.work
+
+abbrev pub acts_at : List Instance → (place : ℕ) → List Act
+acts_at instances place = acts_in (slice_get instances place)
+
+abbrev pub is_row : (target : Text) → (place : ℕ) → Row → Bool
+is_row target place row = bytes_eq target row.0 && nat_eq place row.1
+
+-- a row of the target with this place, or with that of an instance with the same acts
+abbrev pub is_like : List Instance → (target : Text) → (place : ℕ) → Row → Bool
+is_like instances target place row =
+    bytes_eq target row.0
+    && (nat_eq place row.1 || pointwise is_same (acts_at instances row.1) (acts_at instances place))
+
+-- each of the rows is like one of those
+abbrev pub HaveLikes : List Instance → (rows likes : List (Bor Text × ℕ)) → Type 0
+HaveLikes instances rows likes = (target : Text) (place : ℕ) → list_any (is_row target place) (seen_rows rows) ≡ true
+    → list_any (is_like instances target place) (seen_rows likes) ≡ true
+
 -- the instance at a place
 abbrev pub IsAt : List Instance → (place : ℕ) → Instance → Type 0
 IsAt instances place instance = (d : Instance) → instance ≡ get_or instances place d
+
+-- whatever the visits are, no instance undoes anything of this one
+abbrev pub IsNeverUndone : Instance → List Instance → Type 0
+IsNeverUndone instance instances = (visits : List Visit) (place : ℕ) → IsAt instances place instance
+    → undone_from visits instance place instances 0 ≡ []

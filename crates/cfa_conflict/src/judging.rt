@@ -1,8 +1,8 @@
 // The verdict.
-ghost use Rattle.std.specs.Prelude.{◌≡◌, ◌<◌, ◌++◌, IfOk, length, vec_len};
+ghost use Rattle.std.specs.Prelude.{◌≡◌, ◌<◌, ◌++◌, false, IfOk, length, vec_len};
 ghost use Rattle.cfa_conflict.specs.Conflicts.{restarts_of, first_visit, unsure_at, undone_in, undone_from, conflicts_from, verdict_of};
 ghost use Rattle.cfa_conflict.specs.Firsts.{first_of};
-ghost use Rattle.cfa_conflict.specs.Targets.{HasRows, IsAt};
+ghost use Rattle.cfa_conflict.specs.Targets.{HasRows, HaveLikes, IsAt, IsNeverUndone};
 
 use crate::live::{is_live, live_instances, names_of};
 use crate::numbers::VisitIndex;
@@ -29,8 +29,11 @@ struct Open<'a> {
     instances: &'a [Instance],
     visits: VisitIndex<'a>,
     targets: TargetIndex<'a>,
+    // Of instances with the same acts on one target the first alone.
+    distinct: TargetIndex<'a>,
     ghost each_placed: { vec_len visits.firsts ≡ length instances.now },
     ghost each_aimed: { HasRows targets.rows.items instances.now },
+    ghost each_like: { HaveLikes instances.now targets.rows.items distinct.rows.items },
 }
 
 // The first of what the other instance undoes of this one.
@@ -54,8 +57,26 @@ fn undone_in(
     Ok(None)
 }
 
+// Whether an act of any instance may disturb one of this one, whichever is visited first. Of instances with the same acts one is
+// looked at.
+fn may_be_undone(alloc: Global, all: &Open<'_>, one: &Instance) -> Result<bool, NoMemory>
+    ensures { IfOk result (λ may. may ≡ false
+        → IsNeverUndone one.now all.now.instances.now) }
+{
+    let places = all.distinct.places_sought(alloc, acts_of(&one.work))?;
+    for place in &places {
+        let Some(other) = all.instances.get(*place) else {
+            continue;
+        };
+        if undone_by_other(alloc, one, other)?.is_some() {
+            return Ok(true);
+        }
+    }
+    Ok(false)
+}
+
 // The first of what any instance undoes of this one. The other ones are looked for by the paths and services of its acts, and
-// each of them is looked at once, however many acts it has there.
+// each of them is looked at once, where an act of them may disturb one of this one at all.
 fn first_undone(
     alloc: Global,
     all: &Open<'_>,
@@ -66,6 +87,9 @@ fn first_undone(
     ensures { IfOk result (λ found. found ≡ first_of (undone_from all.now.visits.visits.now
         one.entry.instance.now one.entry.place all.now.instances.now 0)) }
 {
+    if !may_be_undone(alloc, all, one.instance)? {
+        return Ok(None);
+    }
     let places = all
         .targets
         .places_sought(alloc, acts_of(&one.instance.work))?;
@@ -113,10 +137,12 @@ fn first_conflict(alloc: Global, kept: &Walk, open: &Walk) -> Result<Option<Conf
     let instances = open.instances.as_slice();
     let visits = VisitIndex::new(alloc, open.visits.as_slice(), instances.len())?;
     let targets = TargetIndex::new(alloc, instances)?;
+    let distinct = targets.distinct(alloc, instances)?;
     let all = Open {
         instances,
         visits,
         targets,
+        distinct,
     };
     for (place, instance) in instances.iter().enumerate() {
         if is_live(&names, instance) {
@@ -130,9 +156,10 @@ fn first_conflict(alloc: Global, kept: &Walk, open: &Walk) -> Result<Option<Conf
 }
 
 /// The verdict by the walk where all is kept and the open walk. It costs as much as both walks list, with a logarithm, where the
-/// acts of instances are on different paths and services. Each live instance is compared with each instance that has an act on a
-/// path or service of it, on the source of a copy, or at or beneath a path that it deletes; so many instances on one path cost
-/// as many pairs. A deletion looks through all targets that begin with the text of its path.
+/// acts of instances are on different paths and services, or are the same. Of the instances with an act on a path or service of a
+/// live instance, on the source of a copy, or at or beneath a path that it deletes, those with different acts are looked at; and
+/// all of them only where an act among these may disturb it. So many instances with different acts on one path, or with deletions or
+/// edits there, cost as many pairs. A deletion looks through all targets that begin with the text of its path.
 pub fn judge(alloc: Global, kept: &Walk, open: &Walk) -> Result<Verdict, NoMemory>
     ensures { IfOk result (λ verdict. verdict ≡ verdict_of kept.now «open».now) }
 {

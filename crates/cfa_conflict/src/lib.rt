@@ -7,6 +7,7 @@ mod live;
 mod numbers;
 mod pairs;
 mod resources;
+mod same;
 mod targets;
 mod verdicts;
 

@@ -1,10 +1,11 @@
 // Where the acts are that can disturb an act.
-ghost use Rattle.std.specs.Prelude.{◌≡◌, ℕ, ◌++◌, IfOk, OnOk, nat_eq, option_copied};
+ghost use Rattle.std.specs.Prelude.{◌≡◌, ℕ, ◌++◌, true, IfOk, OnOk, nat_eq, option_copied};
 ghost use Rattle.std.specs.List.{filter, flat_map, list_any};
 ghost use Rattle.std.specs.List.Sorted.{IsNonDecreasing};
-ghost use Rattle.cfa_conflict.specs.Targets.{target_of, rows_of, seen_rows, is_sought, places_of, sought, AreSorted, HasRows, begins_with, is_target};
+ghost use Rattle.cfa_conflict.specs.Targets.{target_of, rows_of, seen_rows, is_sought, places_of, sought, AreSorted, HasRows, begins_with, is_target, acts_at, is_like, HaveLikes};
 
 use crate::pairs::acts_of;
+use crate::same::are_same_acts;
 use cfa_acts::Act;
 use cfa_base::NoMemory;
 use cfa_resolve::Instance;
@@ -62,6 +63,33 @@ fn is_sought(key: &str, beneath: bool, target: &str) -> bool
     }
 }
 
+fn acts_at(instances: &[Instance], place: usize) -> &[Act]
+    ensures { result.now ≡ acts_at instances.now place }
+{
+    match instances.get(place) {
+        Some(instance) => acts_of(&instance.work),
+        None => &[],
+    }
+}
+
+// Whether one of the last rows, those of the target, has an instance with the same acts as the one at this place.
+fn has_like(instances: &[Instance], rows: &[(&str, usize)], target: &str, place: usize) -> bool
+    ensures { result ≡ true
+        → list_any (is_like instances.now target.now place) (seen_rows rows.now) ≡ true }
+{
+    let acts = acts_at(instances, place);
+    for i in (0..rows.len()).rev() {
+        let row = rows[i];
+        if target != row.0 {
+            return false;
+        }
+        if are_same_acts(acts_at(instances, row.1), acts) {
+            return true;
+        }
+    }
+    false
+}
+
 /// The targets of the acts of instances in byte order, each with the place of its instance.
 #[derive(Drop)]
 pub(crate) struct TargetIndex<'a> {
@@ -77,6 +105,26 @@ impl<'a> TargetIndex<'a> {
         let mut rows = Vec::new(alloc);
         for (place, instance) in instances.iter().enumerate() {
             add_rows(place, acts_of(&instance.work), &mut rows)?;
+        }
+        rows.sort()?;
+        Ok(TargetIndex { rows })
+    }
+
+    /// Of the rows of instances with the same acts on one target the first alone.
+    pub(crate) fn distinct(
+        &self,
+        alloc: Global,
+        instances: &[Instance],
+    ) -> Result<TargetIndex<'a>, NoMemory>
+        ensures { IfOk result (λ likes.
+            HaveLikes instances.now self.now.rows.items likes.rows.items) }
+    {
+        let mut rows = Vec::new(alloc);
+        let all = self.rows.as_slice();
+        for (target, place) in all {
+            if !has_like(instances, rows.as_slice(), target, *place) {
+                rows.push((*target, *place))?;
+            }
         }
         rows.sort()?;
         Ok(TargetIndex { rows })

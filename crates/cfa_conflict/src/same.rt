@@ -1,0 +1,112 @@
+// Which acts are the same.
+ghost use Rattle.std.specs.Prelude.{◌≡◌};
+ghost use Rattle.std.specs.Cmp.Lexicographic.{pointwise};
+ghost use Rattle.std.specs.Str.{bytes_eq};
+ghost use Rattle.cfa_conflict.specs.Same.{is_same_mode, is_same};
+
+use cfa_acts::Act;
+use cfa_base::{Name, Names};
+use cfa_outside::Path;
+
+fn is_same_name(name: &Name, other: &Name) -> bool
+    ensures { result ≡ bytes_eq name.now other.now }
+{
+    name.as_str() == other.as_str()
+}
+
+fn is_same_path(path: &Path, other: &Path) -> bool
+    ensures { result ≡ bytes_eq path.now other.now }
+{
+    path.text().as_str() == other.text().as_str()
+}
+
+fn is_same_mode(mode: Option<u16>, other: Option<u16>) -> bool
+    ensures { result ≡ is_same_mode mode other }
+{
+    match (mode, other) {
+        (Some(mode), Some(other)) => mode == other,
+        (None, None) => true,
+        _ => false,
+    }
+}
+
+fn are_same_names(names: &Names, others: &Names) -> bool
+    ensures { result ≡ pointwise bytes_eq names.now others.now }
+{
+    let (names, others) = (names.as_slice(), others.as_slice());
+    if names.len() != others.len() {
+        return false;
+    }
+    for (i, name) in names.iter().enumerate() {
+        if !is_same_name(name, &others[i]) {
+            return false;
+        }
+    }
+    true
+}
+
+fn is_same(act: &Act, other: &Act) -> bool
+    ensures { result ≡ is_same act.now other.now }
+{
+    match act {
+        Act::Create(path) => match other {
+            Act::Create(at) => is_same_path(path, at),
+            _ => false,
+        },
+        Act::MakeDir(path) => match other {
+            Act::MakeDir(at) => is_same_path(path, at),
+            _ => false,
+        },
+        Act::Content(path, bytes) => match other {
+            Act::Content(at, others) => {
+                is_same_path(path, at) && bytes.as_slice() == others.as_slice()
+            }
+            _ => false,
+        },
+        Act::Copy(source, path) => match other {
+            Act::Copy(from, at) => is_same_path(source, from) && is_same_path(path, at),
+            _ => false,
+        },
+        Act::Perms(path, mode, owners, groups) => match other {
+            Act::Perms(at, m, os, gs) => {
+                is_same_path(path, at)
+                    && is_same_mode(*mode, *m)
+                    && are_same_names(owners, os)
+                    && are_same_names(groups, gs)
+            }
+            _ => false,
+        },
+        Act::Start(name) => match other {
+            Act::Start(at) => is_same_name(name, at),
+            _ => false,
+        },
+        Act::Stop(name) => match other {
+            Act::Stop(at) => is_same_name(name, at),
+            _ => false,
+        },
+        Act::Enable(name) => match other {
+            Act::Enable(at) => is_same_name(name, at),
+            _ => false,
+        },
+        Act::Disable(name) => match other {
+            Act::Disable(at) => is_same_name(name, at),
+            _ => false,
+        },
+        Act::Delete(_, _) | Act::Edit(_, _) | Act::Restart(_) | Act::Bust(_) => false,
+    }
+}
+
+/// Whether the acts are the same in the same order. Deletions, edits and restarts count as different.
+pub(crate) fn are_same_acts(acts: &[Act], others: &[Act]) -> bool
+    ensures { result ≡ pointwise is_same acts.now others.now }
+{
+    if acts.len() != others.len() {
+        return false;
+    }
+    for (i, act) in acts.iter().enumerate() {
+        if !is_same(act, &others[i]) {
+            return false;
+        }
+    }
+    true
+}
