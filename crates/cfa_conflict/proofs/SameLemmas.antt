@@ -1,5 +1,5 @@
 -- Acts that count as the same are equal.
-use Rattle.std.proofs.Common.{◌≡◌, ℕ, List, [], ◌∷◌, Bool, true, false, ◌&&◌, eqb, Option, Some, None, refl, ap}
+use Rattle.std.proofs.Common.{◌≡◌, ℕ, List, [], ◌∷◌, Bool, true, false, ◌&&◌, Option, Some, None, refl, ap}
 use Rattle.std.proofs.lemmas.Bool.{false≢true, and_parts, eqb-true}
 use Rattle.std.proofs.lemmas.Slice.Eq.{bytes_eq-Decides, slice_eq-Decides}
 use Rattle.std.specs.Cmp.Lexicographic.{pointwise}
@@ -7,7 +7,7 @@ use Rattle.std.specs.Str.{bytes_eq}
 use Rattle.cfa_base.specs.Index.{Text}
 use Rattle.cfa_acts.specs.declared.acts.Act.{Act}
 use Rattle.cfa_acts.specs.declared.acts.Act.TheVariants.{Create, MakeDir, Delete, Content, Copy, Edit, Perms, Start, Stop, Enable, Disable, Restart, Bust}
-use Rattle.cfa_conflict.specs.Same.{is_same_mode, is_same}
+use Rattle.cfa_conflict.specs.Same.{is_same_mode, is_same_flag, is_same}
 
 no_case : {P : Type 0} → false ≡ true → P
 no_case is = absurd (false≢true is)
@@ -23,6 +23,19 @@ mode_is (Some a) (Some b) is = ap Some (eqb-true a b is)
 mode_is (Some a) None is = no_case is
 mode_is None (Some b) is = no_case is
 mode_is None None is = refl
+
+flag_is : (a b : Bool) → is_same_flag a b ≡ true → a ≡ b
+flag_is true true is = refl
+flag_is true false is = no_case is
+flag_is false true is = no_case is
+flag_is false false is = refl
+
+delete_is : (path other : Text) (a b : Bool) → (bytes_eq path other && is_same_flag a b) ≡ true → Delete path a ≡ Delete other b
+delete_is path other a b is =
+    let parts = and_parts (bytes_eq path other) (is_same_flag a b) is in
+    let at = text_is path other parts.0 in
+    let same = flag_is a b parts.1 in
+    cc
 
 content_is : (path other bytes content : Text) → (bytes_eq path other && bytes_eq bytes content) ≡ true → Content path bytes ≡ Content other content
 content_is path other bytes content is =
@@ -57,7 +70,8 @@ same_is (Create path) (Create other) is = ap Create (text_is path other is)
 same_is (Create path) _ is = no_case is
 same_is (MakeDir path) (MakeDir other) is = ap MakeDir (text_is path other is)
 same_is (MakeDir path) _ is = no_case is
-same_is (Delete path _) _ is = no_case is
+same_is (Delete path with_directories) (Delete other with_too) is = delete_is path other with_directories with_too is
+same_is (Delete path with_directories) _ is = no_case is
 same_is (Content path bytes) (Content other content) is = content_is path other bytes content is
 same_is (Content path bytes) _ is = no_case is
 same_is (Copy source path) (Copy from other) is = copy_is source path from other is

@@ -156,10 +156,10 @@ fn first_conflict(alloc: Global, kept: &Walk, open: &Walk) -> Result<Option<Conf
 }
 
 /// The verdict by the walk where all is kept and the open walk. It costs as much as both walks list, with a logarithm, where the
-/// acts of instances are on different paths and services, or are the same. Of the instances with an act on a path or service of a
-/// live instance, on the source of a copy, or at or beneath a path that it deletes, those with different acts are looked at; and
-/// all of them only where an act among these may disturb it. So many instances with different acts on one path, or with deletions or
-/// edits there, cost as many pairs. A deletion looks through all targets that begin with the text of its path.
+/// acts of instances are on different paths and services, or are the same. Of the instances with an act on a path or service of
+/// a live instance, on the source of a copy, or at or beneath a path that it deletes, those with different acts are looked at;
+/// and all of them only where an act among these may disturb it. So many instances with different acts on one path, or with edits
+/// there, cost as many pairs. A deletion looks through all targets that begin with the text of its path.
 pub fn judge(alloc: Global, kept: &Walk, open: &Walk) -> Result<Verdict, NoMemory>
     ensures { IfOk result (λ verdict. verdict ≡ verdict_of kept.now «open».now) }
 {

@@ -2,7 +2,7 @@
 ghost use Rattle.std.specs.Prelude.{◌≡◌};
 ghost use Rattle.std.specs.Cmp.Lexicographic.{pointwise};
 ghost use Rattle.std.specs.Str.{bytes_eq};
-ghost use Rattle.cfa_conflict.specs.Same.{is_same_mode, is_same};
+ghost use Rattle.cfa_conflict.specs.Same.{is_same_mode, is_same_flag, is_same};
 
 use cfa_acts::Act;
 use cfa_base::{Name, Names};
@@ -30,6 +30,12 @@ fn is_same_mode(mode: Option<u16>, other: Option<u16>) -> bool
     }
 }
 
+fn is_same_flag(flag: bool, other: bool) -> bool
+    ensures { result ≡ is_same_flag flag other }
+{
+    if flag { other } else { !other }
+}
+
 fn are_same_names(names: &Names, others: &Names) -> bool
     ensures { result ≡ pointwise bytes_eq names.now others.now }
 {
@@ -55,6 +61,12 @@ fn is_same(act: &Act, other: &Act) -> bool
         },
         Act::MakeDir(path) => match other {
             Act::MakeDir(at) => is_same_path(path, at),
+            _ => false,
+        },
+        Act::Delete(path, with_directories) => match other {
+            Act::Delete(at, with_too) => {
+                is_same_path(path, at) && is_same_flag(*with_directories, *with_too)
+            }
             _ => false,
         },
         Act::Content(path, bytes) => match other {
@@ -92,11 +104,11 @@ fn is_same(act: &Act, other: &Act) -> bool
             Act::Disable(at) => is_same_name(name, at),
             _ => false,
         },
-        Act::Delete(_, _) | Act::Edit(_, _) | Act::Restart(_) | Act::Bust(_) => false,
+        Act::Edit(_, _) | Act::Restart(_) | Act::Bust(_) => false,
     }
 }
 
-/// Whether the acts are the same in the same order. Deletions, edits and restarts count as different.
+/// Whether the acts are the same in the same order. Edits and restarts count as different.
 pub(crate) fn are_same_acts(acts: &[Act], others: &[Act]) -> bool
     ensures { result ≡ pointwise is_same acts.now others.now }
 {

@@ -1,4 +1,4 @@
-use Rattle.std.proofs.Common.{◌≡◌, List, [], get_or, sym, ap, ◌∙◌}
+use Rattle.std.proofs.Common.{List, [], get_or, sym, ap, ◌∙◌}
 use Rattle.std.specs.List.{list_any}
 use Rattle.cfa_conflict.specs.Targets.{seen_rows, is_like}
 use Rattle.cfa_conflict.proofs.RowLemmas.{Seen}
