@@ -35,7 +35,7 @@ pub data Event : Type 0 where
   Set : (path name : List ℕ) (datum : Datum) → Event
   -- a class is raised, with a source or none
   Raised : (place : Where) (class : List ℕ) (status : Status) (source : Option PromiseId) → Event
-  -- a promise is reached, with the status of its guard, and counts so many visits; some promises set what others read
+  -- a promise is reached, with the status of its guard, and counts so many visits; whether it sets a variable
   Reached : (home : Home) (promise : Numbered) (guard : Status) (sets : Bool) (visits : ℕ) → Event
   -- an instance is visited
   Listed : (instance : Instance) (status : Status) → Event

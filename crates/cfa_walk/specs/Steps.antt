@@ -52,9 +52,6 @@ classes_level is_common p guard s home t h =
 -- ---- levels of a common bundle, where nothing is told
 
 module _ (depth : ℕ) where
-  abbrev pub reach_common_level : Numbered → QuietLevel
-  reach_common_level p s home t h = reach s t (calls_of s t depth) everywhere home Yes p h
-
   abbrev pub common_type_level : List Numbered → PromiseType → QuietLevel
   common_type_level ps type s home t h = promises_from s t (calls_of s t depth) everywhere home Yes (of_type type ps) h
 
@@ -104,7 +101,7 @@ IsAt path instance = (instance.path ≡ path) × IsCounted instance.source
 abbrev pub AreCounted : List Numbered → Type 0
 AreCounted ps = All (λ (p : Numbered). IsCounted p.id) ps
 
--- the visits of a promise were counted, and these are its instances
+-- what a promise resolves to, where it is reached
 abbrev pub resolution_at : Setting → Home → Numbered → History → Resolved
 resolution_at s home p h =
     resolution (reached_at s.policy p.id (scopes_in s h home) (global_status s h) home.path (p.type, p.promise))
@@ -112,6 +109,7 @@ resolution_at s home p h =
 abbrev pub reached_event : Home → Numbered → (guard : Status) → Resolved → History → History
 reached_event home p guard resolved h = Reached home p guard false resolved.visits ∷ h
 
+-- the visits of a promise were counted, and these are its instances
 module _ (policy : PolicyTree) (p : Numbered) (guard : Status) where
   abbrev pub Counts : (st st' : State) → (a a' : Activation) → Result (List Instance) Stop → Type 0
   Counts st st' a a' (Ok instances) =

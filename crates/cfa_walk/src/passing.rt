@@ -119,7 +119,7 @@ fn call<S, O, T: Teller<S, O>, P: Patterns>(
     }
 }
 
-// Visits an instance, unless it was.
+// Visits an instance, unless its guard, its activation or an earlier visit leaves No.
 #[cycle(passes)]
 #[tactic(none)]
 fn visit<S, O, T: Teller<S, O>, P: Patterns>(
@@ -377,6 +377,7 @@ pub(crate) fn go_through<S, O, T: Teller<S, O>, P: Patterns>(
     ensures path { OnOk result (activation.new.path ≡ activation.old.path) }
 {
     pass(scene, promises, state, activation, teller, site, out, pats)?;
+    // The second pass.
     pass(scene, promises, state, activation, teller, site, out, pats)?;
     pass(scene, promises, state, activation, teller, site, out, pats)
 }

@@ -65,8 +65,8 @@ pub(crate) fn wait_on(
     }
 }
 
-/// What a guard waits for in an activation.
-pub(crate) fn wait_of_guard(
+// What a guard waits for in an activation.
+fn wait_of_guard(
     alloc: Global,
     guard: &Option<Guard>,
     state: &State,

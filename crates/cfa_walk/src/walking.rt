@@ -136,6 +136,7 @@ fn through_commons<P: Patterns>(
     let bundles = checked.common_bundles(alloc)?;
     let bundles = bundles.as_slice();
     through_each(alloc, bundles, state, pats)?;
+    // The second time.
     through_each(alloc, bundles, state, pats)?;
     through_each(alloc, bundles, state, pats)
 }

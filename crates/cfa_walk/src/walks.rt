@@ -1,4 +1,4 @@
-// What a walk of a policy came to: the instances that it lists, its visits, and what may come or not without being settled.
+// What a walk of a policy came to: the instances that it lists, its visits, and its unsettled promises.
 ghost use Rattle.std.specs.Prelude.{◌≡◌};
 
 use cfa_base::{Name, NoMemory, PromiseId};
@@ -14,7 +14,7 @@ pub struct Blame {
     pub source: PromiseId,
     /// The promise whose guard waits for the class, or an instance of which comes or not.
     pub promise: PromiseId,
-    /// The first class of the guard, in text order, that may be set or not.
+    /// The first class that may be set or not of that guard, or of the guard of the call that it waits for.
     pub class: Name,
 }
 
@@ -25,7 +25,7 @@ pub struct Visit {
     pub instance: u32,
     /// Whether the visit comes in every run, or in some.
     pub status: Status,
-    /// Why it may come or not. Given where it is the first of its instance alone.
+    /// What it waits for. Given where it may come or not and is the first of its instance.
     pub blame: Option<Blame>,
 }
 
