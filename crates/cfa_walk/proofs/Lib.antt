@@ -9,6 +9,8 @@ pub mod WaitLemmas
 pub mod IndexLemmas
 pub mod ListingLemmas
 pub mod LogLemmas
+pub mod PlaceLemmas
+pub mod RowLemmas
 pub mod LocalLemmas
 pub mod SpareLemmas
 pub mod LastLemmas

@@ -1,22 +1,17 @@
 -- What is kept of a walk, one after the other.
 use Rattle.std.proofs.Common.{◌≡◌, ℕ, ◌+◌, ◌<◌, List, [], ◌∷◌, ◌++◌, length, take, get_or, Option, Some, None, refl, sym, ap, ◌∙◌, append_assoc}
-use Rattle.std.specs.Prelude.{map, option_map, unwrap_or}
+use Rattle.std.specs.Prelude.{option_map}
 use Rattle.std.specs.List.{filter_map, cons_option}
 use Rattle.std.proofs.lemmas.List.{take_more}
 use Rattle.std.proofs.lemmas.List.Elements.{filter_map-append}
-use Rattle.cfa_base.specs.Index.{pair_place_of}
 use Rattle.cfa_outcomes.specs.Environments.{source_of}
 use Rattle.cfa_scripts.specs.declared.blaming.Unsettled.{Unsettled}
-use Rattle.cfa_resolve.specs.declared.instances.Instance.{Instance}
-use Rattle.cfa_walk.specs.declared.logs.Listing.{Listing}
 use Rattle.cfa_walk.specs.declared.states.State.{State}
 use Rattle.cfa_walk.specs.declared.waits.Wait.{Wait}
 use Rattle.cfa_walk.specs.declared.walks.Blame.{Blame}
-use Rattle.cfa_walk.specs.declared.walks.Visit.{Visit}
-use Rattle.cfa_walk.specs.Logs.{Rows, logged_blames, name_of}
+use Rattle.cfa_walk.specs.Logs.{Rows, logged_blames}
 use Rattle.cfa_walk.specs.Waits.{wait_on}
-use Rattle.cfa_walk.specs.Walks.{blame_for, blame_edit, visit_of}
-use Rattle.cfa_walk.proofs.IndexLemmas.{place_is}
+use Rattle.cfa_walk.specs.Walks.{blame_for, blame_edit}
 use Rattle.cfa_walk.proofs.WaitLemmas.{logged_none}
 
 -- ---- promises of an edit bundle
@@ -56,18 +51,3 @@ module _ (st st' : State) (us : List Unsettled) (i : ℕ) (u : Unsettled) (withi
   none_more st'' none is =
       edits_more st'' [] (ap (λ (w : Option Wait). cons_option (option_map (blame_for u.promise) w) []) (sym none))
       (is ∙ ap (λ (x : Option Rows). record st' { log = x }) (sym (logged_none st'.log)))
-
--- ---- places
-
--- a visit has the place of its instance
-pub visit_is : (names : List (List ℕ × List ℕ)) (listing : Listing) (path text : List ℕ) (found : Option ℕ) (place instance : ℕ) (instances : List Instance) →
-    path ≡ listing.path → text ≡ listing.text → found ≡ pair_place_of names (path, text) → place ≡ unwrap_or found 0 → instance ≡ place → names ≡ map name_of instances →
-    ◌≡◌ {A = Visit} (record { instance = instance; status = listing.status; blame = listing.blame }) (visit_of instances listing)
-visit_is names listing path text found place instance instances is_path is_text is_found is_place is are =
-    ap (λ (n : ℕ). record { instance = n; status = listing.status; blame = listing.blame })
-    (is ∙ (is_place
-    ∙ ap (λ (o : Option ℕ). unwrap_or o 0)
-    (is_found
-    ∙ (ap (λ (x : List (List ℕ × List ℕ)). pair_place_of x (path, text)) are
-    ∙ (ap (λ (p : List ℕ). pair_place_of (map name_of instances) (p, text)) is_path
-    ∙ (ap (λ (t : List ℕ). pair_place_of (map name_of instances) (listing.path, t)) is_text ∙ place_is listing.path listing.text instances))))))

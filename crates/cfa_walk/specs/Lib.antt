@@ -15,6 +15,8 @@ pub mod Facts
 pub mod Bundles
 pub mod Waits
 pub mod Logs
+pub mod Places
+pub mod LogRows
 pub mod Ending
 pub mod Tellings
 pub mod Listed

@@ -12,6 +12,7 @@ mod listing;
 mod logs;
 mod numbered;
 mod passing;
+mod register;
 mod shared_names;
 mod states;
 mod tellers;

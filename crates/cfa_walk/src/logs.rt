@@ -1,18 +1,19 @@
 // What is kept of a walk while it is made.
-ghost use Rattle.std.specs.Prelude.{◌≡◌, ◌∷◌, [], List, IfOk, OnOk, map, option_copied};
-ghost use Rattle.cfa_resolve.specs.declared.instances.Instance.{Instance as AnyInstance};
-ghost use Rattle.cfa_walk.specs.Logs.{with_visit, with_blames, name_of, walk_of};
-ghost use Rattle.cfa_walk.specs.Walks.{blame_for, blame_by, listing_by, visit_of};
+ghost use Rattle.std.specs.Prelude.{◌≡◌, ◌∷◌, [], IfOk, OnOk, OnErr, map, option_copied};
+ghost use Rattle.cfa_walk.specs.LogRows.{IsOf, place_at, visit_at};
+ghost use Rattle.cfa_walk.specs.Logs.{with_visit, with_blames, walk_of};
+ghost use Rattle.cfa_walk.specs.Walks.{blame_for, blame_by, with_first};
 
+use crate::register::Register;
 use crate::waits::Wait;
 use crate::walks::{Blame, Blames, Visit, Visits, Walk};
-use cfa_base::{Name, NoMemory, PairIndex, PromiseId};
+use cfa_base::{Name, NoMemory, PromiseId};
 use cfa_classes::Status;
 use cfa_resolve::{Instance, Instances, copy_id};
 use std::alloc::Global;
 use std::marker::Model;
 
-/// A visit, with the path and the key text of its instance.
+/// A visit, with the path and the key text of its instance, as contracts see it.
 #[derive(Drop)]
 pub struct Listing {
     pub path: Name,
@@ -21,20 +22,40 @@ pub struct Listing {
     pub blame: Option<Blame>,
 }
 
+// The instance of a visit: its place, or its path and key text where it isn't listed.
+#[derive(Drop)]
+pub(crate) enum RowOf {
+    Placed(u32),
+    Named(Name, Name),
+}
+
+// A visit as it is kept. It has no key text of its own where its instance is listed: a key text holds the whole content of a file.
+#[derive(Drop)]
+pub(crate) struct Row {
+    pub of: RowOf,
+    pub status: Status,
+    pub blame: Option<Blame>,
+}
+
 /// The instances that were visited, each once, the visits, and what is unsettled, so far. Contracts see three lists.
 #[derive(Drop)]
 pub(crate) struct Log {
-    instances: Vec<Instance>,
-    listings: Vec<Listing>,
+    instances: Register,
+    rows: Vec<Row>,
     unsettled: Vec<Blame>,
 }
 
 impl Model for Log {
+    ghost use Rattle.std.specs.Prelude.{All, map};
+    ghost use Rattle.cfa_walk.specs.LogRows.{IsPlaced, listing_at};
     ghost use Rattle.cfa_walk.specs.Logs.{Rows};
 
     ghost Value = { Rows };
 
-    ghost view = { λ l. (l.instances.items, l.listings.items, l.unsettled.items) };
+    ghost view = { λ l.
+        (l.instances, map (listing_at l.instances) l.rows.items, l.unsettled.items) };
+
+    ghost invariant = { λ l. All (IsPlaced l.instances) l.rows.items };
 }
 
 /// A wait of a promise.
@@ -68,22 +89,30 @@ fn blame_by(
     }
 }
 
-fn listing_by(
+// Adds an instance that is visited for the first time.
+fn add_first(
     alloc: Global,
+    instances: &mut Register,
     instance: &Instance,
-    status: Status,
     is_first: bool,
-    waits: Option<&Wait>,
-) -> Result<Listing, NoMemory>
-    ensures { IfOk result (λ listing. listing
-        ≡ listing_by instance.now status is_first (option_copied waits.entry)) }
+) -> Result<(), NoMemory>
+    ensures ok { OnOk result (instances.new ≡ with_first is_first instance.now instances.old) }
+    ensures err { OnErr result (instances.new ≡ instances.old) }
 {
-    Ok(Listing {
-        path: instance.path.copy(alloc)?,
-        text: instance.text.copy(alloc)?,
-        status,
-        blame: blame_by(alloc, status, is_first, &instance.source, waits)?,
-    })
+    if is_first {
+        instances.add(alloc, instance)?;
+    }
+    Ok(())
+}
+
+fn row_of(alloc: Global, instances: &Register, instance: &Instance) -> Result<RowOf, NoMemory>
+    ensures { IfOk result (λ of. IsOf instances.now of instance.now) }
+{
+    let (path, text) = (&instance.path, &instance.text);
+    match instances.find(path, text) {
+        Some(place) => Ok(RowOf::Placed(place)),
+        None => Ok(RowOf::Named(path.copy(alloc)?, text.copy(alloc)?)),
+    }
 }
 
 impl Log {
@@ -92,8 +121,8 @@ impl Log {
         ensures { result ≡ ([], [], []) }
     {
         Log {
-            instances: Vec::new(alloc),
-            listings: Vec::new(alloc),
+            instances: Register::new(alloc),
+            rows: Vec::new(alloc),
             unsettled: Vec::new(alloc),
         }
     }
@@ -110,11 +139,10 @@ impl Log {
         ensures { OnOk result (self.new ≡ with_visit instance.now status is_first
             (option_copied waits.entry) self.old) }
     {
-        let listing = listing_by(alloc, instance, status, is_first, waits)?;
-        if is_first {
-            self.instances.push(instance.copy(alloc)?)?;
-        }
-        self.listings.push(listing)?;
+        let blame = blame_by(alloc, status, is_first, &instance.source, waits)?;
+        add_first(alloc, &mut self.instances, instance, is_first)?;
+        let of = row_of(alloc, &self.instances, instance)?;
+        self.rows.push(Row { of, status, blame })?;
         Ok(())
     }
 
@@ -129,46 +157,31 @@ impl Log {
 
 // ---- the walk
 
-// The paths and key texts of instances.
-fn names_of<'a>(alloc: Global, instances: &'a [Instance]) -> Result<PairIndex<'a>, NoMemory>
-    ensures { IfOk result (λ names. names ≡ map name_of instances.entry.now) }
+fn place_at(instances: &Register, of: &RowOf) -> u32
+    ensures { result ≡ place_at instances.now of.now }
 {
-    let mut names = PairIndex::new(alloc);
-    for instance in instances {
-        names.add(instance.path.as_str(), instance.text.as_str())?;
-    }
-    Ok(names)
-}
-
-// A place that is no `u32` is out of the reach of any memory.
-fn visit_of(names: &PairIndex<'_>, listing: Listing) -> Result<Visit, NoMemory>
-    ensures { IfOk result (λ visit. (instances : List AnyInstance)
-        → names.now ≡ map name_of instances → visit ≡ visit_of instances listing) }
-{
-    let place = names
-        .find(listing.path.as_str(), listing.text.as_str())
-        .unwrap_or(0);
-    match u32::try_from(place) {
-        Ok(instance) => Ok(Visit {
-            instance,
-            status: listing.status,
-            blame: listing.blame,
-        }),
-        Err(_) => Err(NoMemory),
+    match of {
+        RowOf::Placed(place) => *place,
+        RowOf::Named(path, text) => instances.find(path, text).unwrap_or(0),
     }
 }
 
-fn visits_of(
-    alloc: Global,
-    instances: &[Instance],
-    listings: Vec<Listing>,
-) -> Result<Visits, NoMemory>
-    ensures { IfOk result (λ visits. visits ≡ map (visit_of instances.now) listings.items) }
+fn visit_at(instances: &Register, row: Row) -> Visit
+    ensures { result ≡ visit_at instances.now row }
 {
-    let names = names_of(alloc, instances)?;
+    Visit {
+        instance: place_at(instances, &row.of),
+        status: row.status,
+        blame: row.blame,
+    }
+}
+
+fn visits_at(alloc: Global, instances: &Register, rows: Vec<Row>) -> Result<Visits, NoMemory>
+    ensures { IfOk result (λ visits. visits ≡ map (visit_at instances.now) rows.items) }
+{
     let mut visits = Vec::new(alloc);
-    for listing in listings {
-        visits.push(visit_of(&names, listing)?)?;
+    for row in rows {
+        visits.push(visit_at(instances, row))?;
     }
     Ok(Visits::from_vec(visits))
 }
@@ -177,12 +190,12 @@ fn visits_of(
 pub(crate) fn walk_of(alloc: Global, log: Log) -> Result<Walk, NoMemory>
     ensures { IfOk result (λ walk. walk ≡ walk_of log) }
 {
-    let listings = log.listings;
+    let rows = log.rows;
     let instances = log.instances;
     let unsettled = log.unsettled;
-    let visits = visits_of(alloc, instances.as_slice(), listings)?;
+    let visits = visits_at(alloc, &instances, rows)?;
     Ok(Walk {
-        instances: Instances::from_vec(instances),
+        instances: Instances::from_vec(instances.into_vec()),
         visits,
         unsettled: Blames::from_vec(unsettled),
     })

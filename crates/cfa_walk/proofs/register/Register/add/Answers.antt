@@ -1,0 +1,10 @@
+use Rattle.std.proofs.Common.{rules, ◌≡◌, ◌++◌, ◌∷◌, [], length}
+use Rattle.cfa_walk.specs.Places.{NotesPlace}
+use Rattle.cfa_walk.proofs.PlaceLemmas.{has_more}
+use Rattle.cfa_walk.proofs.register.Register.add.Goals as goal
+
+pub invariant_of-self-2 : goal.invariant_of-self-2
+invariant_of-self-2 c =
+    let items : c.push.new.self.items ≡ c.self.inside.instances.items ++ c.args.instance.now ∷ [] = search rules in
+    let notes : NotesPlace c.self.inside.places c.note_if_new.new.places c.args.instance.now (length c.self.inside.instances.items) = search rules in
+    rw items (has_more c.self.inside.places c.note_if_new.new.places c.self.inside.instances.items c.args.instance.now c.self.invariant notes)
