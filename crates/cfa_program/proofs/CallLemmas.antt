@@ -1,5 +1,5 @@
 -- What a whole call leaves.
-use Rattle.std.proofs.Common.{◌≡◌, ◌≢◌, ◌<◌, ◌≤◌, ◌⊎◌, inl, inr, ℕ, Bool, List, Some, None, Option, Result, Ok, Err, IfSome, refl, sym, ap, subst, ◌∙◌, arith, append-nil}
+use Rattle.std.proofs.Common.{◌≡◌, ◌≢◌, ◌<◌, ◌≤◌, ◌⊎◌, inl, inr, ℕ, Bool, true, List, Some, None, Option, Result, Ok, Err, IfSome, refl, sym, ap, subst, ◌∙◌, arith, append-nil}
 use Rattle.cfa_base.specs.declared.limits.TheConstants.{LAST_MOMENT}
 use Rattle.cfa_base.specs.Shown.{Shown, followed, Follows, Untouched}
 use Rattle.cfa_words.specs.declared.words.Request.{Request}
@@ -15,6 +15,7 @@ use Rattle.cfa_output.specs.declared.ends.Stop.TheVariants.{Outside, Memory, Vis
 use Rattle.cfa_output.specs.declared.ends.Failure.{Failure}
 use Rattle.cfa_output.specs.declared.ends.Failure.TheVariants.{Refused, Stopped}
 use Rattle.cfa_output.specs.Lines.{words_line, moment_line, memory_line, visits_line, pattern_line, stop_line}
+use Rattle.cfa_sources.specs.Sources.{Texts}
 use Rattle.cfa_walk.specs.Views.{Setting}
 use Rattle.cfa_conflict.specs.Analyses.{AnalysisBuilds, analysis_of}
 use Rattle.cfa_agent.specs.Actuations.{Mark}
@@ -26,12 +27,12 @@ use Rattle.cfa_program.specs.declared.work.Work.{Work}
 use Rattle.cfa_program.specs.declared.work.Work.TheVariants.{Run, Judge, Show}
 use Rattle.cfa_program.specs.Calls as calls
 use Rattle.cfa_program.specs.declared.work.PolicyRun.{PolicyRun}
-use Rattle.cfa_program.specs.Calls.{IsAnalysedIn, runs, judges, Does, RefusesRequest, TakesRequest, TakenIsNotRefused, NeedsTooMany, AnalysesTooMany, ran}
+use Rattle.cfa_program.specs.Calls.{IsAnalysedIn, runs, judges, Does, RefusesRequest, TakesRequest, AsksTask, AsksUnaccepted, IsUnaccepted, TakenIsNotRefused, NeedsTooMany, AnalysesTooMany, ran}
 use Rattle.cfa_program.specs.Done.{IsDone, IsPut, Stands, Puts, HasFault, refused_with, status_of}
-use Rattle.cfa_program.specs.Ends.{IsEnd, IsStop, IsNotDone, IsRun, IsAnalysed, IsObeying, AsksRun, AsksNoRun, AsksAnalysis, AsksToObey, AsksRefused, RefusesCall, of_words, of_moment, of_request, PutsRefusal, IsUnread, ReadsInTurn, PutsLast, StopsReading, StopsAtSite, AnalysisBuilt, RunBuilt, RefusesText, StopsAtPattern, of_policy, of_analysis, of_run, StopsAtVisits, by_analysis, by_run}
-use Rattle.cfa_program.specs.Stages.{RunPerformed, RunsPolicy, Obeys, setting_in, task_of, IsAsked, OnlyRefused, Prepared, PolicyRan, not_made, made, Performed, PutsEnd, PutsStop, status_of_stop, Called, not_prepared, ended, stopped_at_work}
+use Rattle.cfa_program.specs.Ends.{IsEnd, IsStop, IsNotDone, IsRun, IsAnalysed, IsObeying, AsksRun, AsksNoRun, AsksAnalysis, AsksToObey, AsksRefused, RefusesCall, of_words, of_moment, of_request, PutsRefusal, IsUnread, ReadsInTurn, PutsLast, StopsReading, StopsAtSite, AnalysisBuilt, RunBuilt, RefusesBefore, RefusesInRun, RefusesText, before_work, in_run, StopsAtPattern, stops_before, stops_in_run, StopsAtVisits, by_analysis, by_run}
+use Rattle.cfa_program.specs.Stages.{RunPerformed, RunsPolicy, Obeys, setting_in, task_of, IsAsked, OnlyRefused, Prepared, OneSetting, MayRun, PolicyRan, not_made, made, Performed, PutsEnd, PutsStop, status_of_stop, Called, not_prepared, ended, stopped_at_work}
 use Rattle.cfa_program.proofs.Told.{some_weaker, each_some, some_injective, untouched_both, both_weaker, both, adds_none, along, fault_along, fault_before}
-use Rattle.cfa_program.proofs.WorkLemmas.{no_conflict, judged_by, judges_told, judged_done, judged_put, does_made, does_judged, cut_off_by, obeys_strict, text_done, text_put, IsNoSink, IsOfSite, work_stop, never_shown, untouched_at_stop, runs_by_site, patterns_by_stop, patterns_at_end, untouched_without_run, failed_runs, obeys_conflict}
+use Rattle.cfa_program.proofs.WorkLemmas.{no_conflict, judged_by, judges_told, judged_done, judged_put, does_made, does_judged, made_accepted, cut_off_by, obeys_strict, text_done, text_put, IsNoSink, IsOfSite, work_stop, never_shown, untouched_at_stop, runs_by_site, patterns_by_stop, patterns_at_end, untouched_without_run, failed_runs, obeys_conflict}
 
 -- ---- statuses
 
@@ -108,6 +109,16 @@ no_run words moment told work a idle is_run = idle (a.request, a.asked_is, a.is_
 
 asks_run : (words : List (List ℕ)) (moment : ℕ) (told : Option Library) (work : Work) → IsAsked words moment told work → RunsPolicy work → AsksRun words
 asks_run words moment told work a is_run = (a.request, a.asked_is, a.is_work.runs is_run)
+
+asked_task : (words : List (List ℕ)) (moment : ℕ) (told : Option Library) (work : Work) (a : IsAsked words moment told work) (lib : Library) → TakesRequest lib.texts moment a.request (task_of work) → AsksTask words moment lib.texts (task_of work)
+asked_task words moment told work a lib taken = record { request = a.request; asked_is = a.asked_is; takes = taken }
+
+-- what is asked for is run strictly, or it isn't
+one_strictness : (texts : Texts) (moment : ℕ) (request : Request) (s t : Setting) (l k m n : Bool) → TakesRequest texts moment request (runs s l m) → TakesRequest texts moment request (runs t k n) → m ≡ n
+one_strictness texts moment (request.Run policy options) s t l k m n r q = r.strict_is ∙ sym q.strict_is
+one_strictness texts moment (request.Show policy) s t l k m n r q = absurd r
+one_strictness texts moment (request.Check policy classes) s t l k m n r q = absurd r
+one_strictness texts moment (request.Audit journal) s t l k m n r q = absurd r
 
 run_analysed : (request : Request) → IsRun request → IsAnalysed request
 run_analysed (request.Run policy options) is = tt
@@ -297,6 +308,29 @@ module _ (words : List (List ℕ)) (moment : ℕ) (inputs inputs' : Shown Librar
   conflict_put (ended {work = work} by p performed is) three = some_weaker inputs.told _ _ (λ lib told taken.
       work_puts words moment lib p.work.request p.work.asked_is p.work.in_time site site' out out' pats pats' work by status is performed taken (λ _. sym is ∙ three)) p.work.is_work.taken
 
+  -- ---- a strict run of a policy that isn't accepted
+
+  -- no run was made
+  unaccepted_not_made : OneSetting → (order : PolicyRun) (a : IsAsked words moment inputs.told (Run order)) → MayRun order.strict (analysis_of (setting_in order.policy)) →
+      (lib : Library) → TakesRequest lib.texts moment a.request (task_of (Run order)) → AsksUnaccepted words moment lib.texts → ⊥
+  unaccepted_not_made one order a may lib taken u =
+      let here : TakesRequest lib.texts moment u.asks.request (task_of (Run order)) = subst (λ (q : Request). TakesRequest lib.texts moment q (task_of (Run order))) (one_request a.asked_is u.asks.asked_is) taken in
+      let strict : order.strict ≡ true = one_strictness lib.texts moment u.asks.request (setting_in order.policy) u.setting order.locks u.has_locks order.strict true here u.asks.takes in
+      let same : setting_in order.policy ≡ u.setting = one lib.texts moment u.asks.request (setting_in order.policy) u.setting order.locks u.has_locks order.strict true here u.asks.takes in
+      made_accepted order.strict (analysis_of (setting_in order.policy)) strict may (subst (λ (s : Setting). IsUnaccepted (analysis_of s)) (sym same) u.unaccepted)
+
+  untouched_unaccepted : OneSetting → (work : Work) (mid : Shown (List ℕ)) (result : Result End Stop) → IsAsked words moment inputs.told work → Performed work moment site site' out mid pats pats' result →
+      (lib : Library) → inputs.told ≡ Some lib → AsksUnaccepted words moment lib.texts → Untouched site site'
+  untouched_unaccepted one (Run order) mid result a (made may q) lib told u = absurd (unaccepted_not_made one order a may lib (taken_at inputs.told lib moment a.request (Run order) told a.is_work.taken) u)
+  untouched_unaccepted one (Run order) mid result a (not_made obeyed q) lib told u = q.site_is
+  untouched_unaccepted one (Judge policy) mid result a q lib told u = q.site_is
+  untouched_unaccepted one (Show text) mid result a q lib told u = q.site_is
+
+  pub unaccepted : OneSetting → CalledHere → IfSome inputs.told (λ lib. AsksUnaccepted words moment lib.texts → Untouched site site')
+  unaccepted one (not_prepared p un puts) = each_some inputs.told _ (λ lib told u. un)
+  unaccepted one (ended {work = work} by p performed is) = each_some inputs.told _ (λ lib told u. untouched_unaccepted one work out' (Ok by) p.work performed lib told u)
+  unaccepted one (stopped_at_work {work = work} stop mid p performed puts) = each_some inputs.told _ (λ lib told u. untouched_unaccepted one work mid (Err stop) p.work performed lib told u)
+
   -- ---- by an object of the outside
 
   abbrev StopsOutside : Type 0
@@ -397,6 +431,9 @@ module _ (words : List (List ℕ)) (moment : ℕ) (inputs inputs' : Shown Librar
       StopsAtPattern words moment inputs.told site site' out out' pats pats' ⊎
       StopsAtVisits words moment inputs.told site site' out out' pats pats'
 
+  refused_reading : (text : List ℕ) → Prepared words moment inputs inputs' pats pats' (Err (Stopped (Pattern text))) → Untouched site site' → RefusesBefore words moment inputs.told site site' pats pats'
+  refused_reading text p un = record { text = text; builds = inl p.patterns_are.0; refused = p.patterns_are.1; untouched = un }
+
   limit_of_reading : (stop : Stop) → Prepared words moment inputs inputs' pats pats' (Err (Stopped stop)) → Untouched site site' → PutsStop (stop_line stop) (status_of_stop stop) out out' status → status ≡ 6 → StopsAtLimit
   limit_of_reading (Outside Inputs) p un (inl (is, put)) six = absurd (omega (arith, is, six))
   limit_of_reading (Outside Inputs) p un (inr (is, short)) six = absurd (omega (arith, is, six))
@@ -405,51 +442,46 @@ module _ (words : List (List ℕ)) (moment : ℕ) (inputs inputs' : Shown Librar
   limit_of_reading Memory p un (inl (is, put)) six = absurd (omega (arith, is, six))
   limit_of_reading Memory p un (inr (is, short)) six = absurd (omega (arith, is, six))
   limit_of_reading Visits p un puts six = absurd p.inputs_are
-  limit_of_reading (Pattern text) p un (inl (is, put)) six = inl (of_policy p.patterns_are.0 p.patterns_are.1 un put)
+  limit_of_reading (Pattern text) p un (inl (is, put)) six = inl (stops_before (refused_reading text p un) put)
   limit_of_reading (Pattern text) p un (inr (is, short)) six = absurd (omega (arith, is, six))
 
   abbrev StopsHere : Work → Stop → Shown (List ℕ) → Type 0
   StopsHere work stop mid = Performed work moment site site' out mid pats pats' (Err stop)
 
-  limit_of_visits : (work : Work) (mid : Shown (List ℕ)) → Prepared words moment inputs inputs' pats pats (Ok work) → StopsHere work Visits mid → Follows (adds_bytes visits_line) mid out' →
+  limit_of_visits : OneSetting → (work : Work) (mid : Shown (List ℕ)) → Prepared words moment inputs inputs' pats pats (Ok work) → StopsHere work Visits mid → Follows (adds_bytes visits_line) mid out' →
       StopsAtVisits words moment inputs.told site site' out out' pats pats'
-  limit_of_visits (Run order) mid p (made may q) put = by_run (asks_run words moment inputs.told (Run order) p.work tt)
+  limit_of_visits one (Run order) mid p (made may q) put = by_run (asks_run words moment inputs.told (Run order) p.work tt)
+      (some_weaker inputs.told _ _ (λ lib told taken. (asks_run words moment inputs.told (Run order) p.work tt, unaccepted_not_made one order p.work may lib taken)) p.work.is_work.taken)
       (some_weaker inputs.told _ _ (λ lib told taken. both_weaker _ _ site site' (λ before after cut. record {
-        request = p.work.request;
         setting = setting_in order.policy;
         has_locks = order.locks;
         is_strict = order.strict;
-        asked_is = p.work.asked_is;
+        asks = asked_task words moment inputs.told (Run order) p.work lib taken;
         in_time = p.work.in_time;
-        takes = taken;
         cut_off = cut_off_by order.strict (setting_in order.policy) (started moment order.locks before after) (analysis_of (setting_in order.policy)) may cut;
       }) (q.too_large refl)) p.work.is_work.taken)
       q.patterns_are (mid, put)
-  limit_of_visits (Run order) mid p (not_made obeyed q) put = by_analysis (asks_to_obey words moment inputs.told (Run order) p.work (obeyed.too_large refl))
+  limit_of_visits one (Run order) mid p (not_made obeyed q) put = by_analysis (asks_to_obey words moment inputs.told (Run order) p.work (obeyed.too_large refl))
       (some_weaker inputs.told _ _ (λ lib told taken. record {
-        request = p.work.request;
         task = task_of (Run order);
         setting = setting_in order.policy;
-        asked_is = p.work.asked_is;
+        asks = asked_task words moment inputs.told (Run order) p.work lib taken;
         in_time = p.work.in_time;
-        takes = taken;
         obeys = obeys_strict order.strict (setting_in order.policy) order.locks (obeyed.too_large refl);
         too_large = q.judged.too_large refl;
       }) p.work.is_work.taken)
       q.site_is q.judged.patterns_are (along visits_line out mid out' q.judged.stopped put)
-  limit_of_visits (Judge policy) mid p q put = by_analysis (asks_to_obey words moment inputs.told (Judge policy) p.work tt)
+  limit_of_visits one (Judge policy) mid p q put = by_analysis (asks_to_obey words moment inputs.told (Judge policy) p.work tt)
       (some_weaker inputs.told _ _ (λ lib told taken. record {
-        request = p.work.request;
         task = task_of (Judge policy);
         setting = setting_in policy;
-        asked_is = p.work.asked_is;
+        asks = asked_task words moment inputs.told (Judge policy) p.work lib taken;
         in_time = p.work.in_time;
-        takes = taken;
         obeys = refl;
         too_large = q.judged.too_large refl;
       }) p.work.is_work.taken)
       q.site_is q.judged.patterns_are (along visits_line out mid out' q.judged.stopped put)
-  limit_of_visits (Show text) mid p q put = absurd (never_shown moment site site' out mid pats pats' text Visits q tt)
+  limit_of_visits one (Show text) mid p q put = absurd (never_shown moment site site' out mid pats pats' text Visits q tt)
 
   analysed_at_pattern : (work : Work) (text : List ℕ) (mid : Shown (List ℕ)) → IsAsked words moment inputs.told work → StopsHere work (Pattern text) mid → AsksAnalysis words
   analysed_at_pattern (Run order) text mid a q = (a.request, a.asked_is, run_analysed a.request (a.is_work.runs tt))
@@ -462,11 +494,9 @@ module _ (words : List (List ℕ)) (moment : ℕ) (inputs inputs' : Shown Librar
   built_by_analysis work text mid a q setting analysed built = (
     analysed_at_pattern work text mid a q,
     some_weaker inputs.told _ _ (λ lib told taken. record {
-      request = a.request;
       task = task_of work;
       setting = setting;
-      asked_is = a.asked_is;
-      takes = taken;
+      asks = asked_task words moment inputs.told work a lib taken;
       analysed = analysed;
       built = built;
     }) a.is_work.taken,
@@ -478,64 +508,78 @@ module _ (words : List (List ℕ)) (moment : ℕ) (inputs inputs' : Shown Librar
   built_by_run order text mid a q = (
     asks_run words moment inputs.told (Run order) a tt,
     some_weaker inputs.told _ _ (λ lib told taken. both_weaker _ _ site site' (λ before after built. record {
-      request = a.request;
       setting = setting_in order.policy;
       has_locks = order.locks;
       is_strict = order.strict;
-      asked_is = a.asked_is;
-      takes = taken;
+      asks = asked_task words moment inputs.told (Run order) a lib taken;
       built = built;
     }) q.built) a.is_work.taken,
   )
 
-  limit_of_pattern : (work : Work) (text : List ℕ) (mid : Shown (List ℕ)) → Prepared words moment inputs inputs' pats pats (Ok work) → StopsHere work (Pattern text) mid → Follows (adds_bytes pattern_line) mid out' →
-      StopsAtPattern words moment inputs.told site site' out out' pats pats'
-  limit_of_pattern (Run order) text mid p (made may q) put = of_run (built_by_run order text mid p.work q) q.patterns_are (mid, put)
-  limit_of_pattern (Run order) text mid p (not_made obeyed q) put = of_analysis
-      (built_by_analysis (Run order) text mid p.work (not_made obeyed q) (setting_in order.policy) refl q.judged.built)
-      q.judged.patterns_are q.site_is (along pattern_line out mid out' q.judged.stopped put)
-  limit_of_pattern (Judge policy) text mid p q put = of_analysis
-      (built_by_analysis (Judge policy) text mid p.work q (setting_in policy) refl q.judged.built)
-      q.judged.patterns_are q.site_is (along pattern_line out mid out' q.judged.stopped put)
-  limit_of_pattern (Show shown) text mid p q put = absurd (never_shown moment site site' out mid pats pats' shown (Pattern text) q tt)
+  -- before a run, with nothing put, or in it
+  abbrev RefusedAtWork : Shown (List ℕ) → Type 0
+  RefusedAtWork mid =
+      (RefusesBefore words moment inputs.told site site' pats pats' × Untouched out mid) ⊎ RefusesInRun words moment inputs.told site site' pats pats'
 
-  limit_of_work : (work : Work) (stop : Stop) (mid : Shown (List ℕ)) → Prepared words moment inputs inputs' pats pats (Ok work) → StopsHere work stop mid → PutsStop (stop_line stop) (status_of_stop stop) mid out' status → status ≡ 6 → StopsAtLimit
-  limit_of_work work (Outside Inputs) mid p performed (inl (is, put)) six = absurd (omega (arith, is, six))
-  limit_of_work work (Outside Inputs) mid p performed (inr (is, short)) six = absurd (omega (arith, is, six))
-  limit_of_work work (Outside Site) mid p performed (inl (is, put)) six = absurd (omega (arith, is, six))
-  limit_of_work work (Outside Site) mid p performed (inr (is, short)) six = absurd (omega (arith, is, six))
-  limit_of_work work (Outside Sink) mid p performed (is, un) six = absurd (omega (arith, is, six))
-  limit_of_work work Memory mid p performed (inl (is, put)) six = absurd (omega (arith, is, six))
-  limit_of_work work Memory mid p performed (inr (is, short)) six = absurd (omega (arith, is, six))
-  limit_of_work work Visits mid p performed (inl (is, put)) six = inr (limit_of_visits work mid p performed put)
-  limit_of_work work Visits mid p performed (inr (is, short)) six = absurd (omega (arith, is, six))
-  limit_of_work work (Pattern text) mid p performed (inl (is, put)) six = inl (limit_of_pattern work text mid p performed put)
-  limit_of_work work (Pattern text) mid p performed (inr (is, short)) six = absurd (omega (arith, is, six))
+  refused_working : (work : Work) (text : List ℕ) (mid : Shown (List ℕ)) → Prepared words moment inputs inputs' pats pats (Ok work) → StopsHere work (Pattern text) mid → RefusedAtWork mid
+  refused_working (Run order) text mid p (made may q) = inr (record { text = text; builds = built_by_run order text mid p.work q; refused = q.patterns_are })
+  refused_working (Run order) text mid p (not_made obeyed q) = inl (
+    record {
+      text = text;
+      builds = inr (built_by_analysis (Run order) text mid p.work (not_made obeyed q) (setting_in order.policy) refl q.judged.built);
+      refused = q.judged.patterns_are;
+      untouched = q.site_is;
+    },
+    q.judged.stopped,
+  )
+  refused_working (Judge policy) text mid p q = inl (
+    record {
+      text = text;
+      builds = inr (built_by_analysis (Judge policy) text mid p.work q (setting_in policy) refl q.judged.built);
+      refused = q.judged.patterns_are;
+      untouched = q.site_is;
+    },
+    q.judged.stopped,
+  )
+  refused_working (Show shown) text mid p q = absurd (never_shown moment site site' out mid pats pats' shown (Pattern text) q tt)
 
-  pub pattern_or_visits : CalledHere → status ≡ 6 → StopsAtLimit
-  pattern_or_visits (not_prepared {failure = Refused line} p un (inl (is, put))) six = absurd (omega (arith, is, six))
-  pattern_or_visits (not_prepared {failure = Refused line} p un (inr (is, short))) six = absurd (omega (arith, is, six))
-  pattern_or_visits (not_prepared {failure = Stopped stop} p un puts) six = limit_of_reading stop p un puts six
-  pattern_or_visits (ended by p performed is) six = absurd (no_end status (inr (inr six)) (is_end by status is))
-  pattern_or_visits (stopped_at_work {work = work} stop mid p performed puts) six = limit_of_work work stop mid p performed puts six
+  limit_of_pattern : (mid : Shown (List ℕ)) → RefusedAtWork mid → Follows (adds_bytes pattern_line) mid out' → StopsAtPattern words moment inputs.told site site' out out' pats pats'
+  limit_of_pattern mid (inl (refused, un)) put = stops_before refused (along pattern_line out mid out' un put)
+  limit_of_pattern mid (inr refused) put = stops_in_run refused (mid, put)
+
+  limit_of_work : OneSetting → (work : Work) (stop : Stop) (mid : Shown (List ℕ)) → Prepared words moment inputs inputs' pats pats (Ok work) → StopsHere work stop mid → PutsStop (stop_line stop) (status_of_stop stop) mid out' status → status ≡ 6 → StopsAtLimit
+  limit_of_work one work (Outside Inputs) mid p performed (inl (is, put)) six = absurd (omega (arith, is, six))
+  limit_of_work one work (Outside Inputs) mid p performed (inr (is, short)) six = absurd (omega (arith, is, six))
+  limit_of_work one work (Outside Site) mid p performed (inl (is, put)) six = absurd (omega (arith, is, six))
+  limit_of_work one work (Outside Site) mid p performed (inr (is, short)) six = absurd (omega (arith, is, six))
+  limit_of_work one work (Outside Sink) mid p performed (is, un) six = absurd (omega (arith, is, six))
+  limit_of_work one work Memory mid p performed (inl (is, put)) six = absurd (omega (arith, is, six))
+  limit_of_work one work Memory mid p performed (inr (is, short)) six = absurd (omega (arith, is, six))
+  limit_of_work one work Visits mid p performed (inl (is, put)) six = inr (limit_of_visits one work mid p performed put)
+  limit_of_work one work Visits mid p performed (inr (is, short)) six = absurd (omega (arith, is, six))
+  limit_of_work one work (Pattern text) mid p performed (inl (is, put)) six = inl (limit_of_pattern mid (refused_working work text mid p performed) put)
+  limit_of_work one work (Pattern text) mid p performed (inr (is, short)) six = absurd (omega (arith, is, six))
+
+  pub pattern_or_visits : OneSetting → CalledHere → status ≡ 6 → StopsAtLimit
+  pattern_or_visits one (not_prepared {failure = Refused line} p un (inl (is, put))) six = absurd (omega (arith, is, six))
+  pattern_or_visits one (not_prepared {failure = Refused line} p un (inr (is, short))) six = absurd (omega (arith, is, six))
+  pattern_or_visits one (not_prepared {failure = Stopped stop} p un puts) six = limit_of_reading stop p un puts six
+  pattern_or_visits one (ended by p performed is) six = absurd (no_end status (inr (inr six)) (is_end by status is))
+  pattern_or_visits one (stopped_at_work {work = work} stop mid p performed puts) six = limit_of_work one work stop mid p performed puts six
 
   abbrev KeepsPatterns : Type 0
   KeepsPatterns = Untouched pats pats' ⊎ ((status ≡ 4) × HasFault out out' × RefusesText words moment inputs.told site site' pats pats')
 
-  kept_reading : (stop : Stop) → Prepared words moment inputs inputs' pats pats' (Err (Stopped stop)) → PutsStop (stop_line stop) (status_of_stop stop) out out' status → status ≢ 6 → KeepsPatterns
-  kept_reading (Outside object) p puts idle = inl p.patterns_are
-  kept_reading Memory p puts idle = inl p.patterns_are
-  kept_reading Visits p puts idle = inl p.patterns_are
-  kept_reading (Pattern text) p (inl (is, put)) idle = absurd (idle is)
-  kept_reading (Pattern text) p (inr (is, short)) idle =
-      inr (is, short.failed.rose, record { text = text; builds = inl p.patterns_are.0; refused = p.patterns_are.1 })
+  kept_reading : (stop : Stop) → Prepared words moment inputs inputs' pats pats' (Err (Stopped stop)) → Untouched site site' → PutsStop (stop_line stop) (status_of_stop stop) out out' status → status ≢ 6 → KeepsPatterns
+  kept_reading (Outside object) p un puts idle = inl p.patterns_are
+  kept_reading Memory p un puts idle = inl p.patterns_are
+  kept_reading Visits p un puts idle = inl p.patterns_are
+  kept_reading (Pattern text) p un (inl (is, put)) idle = absurd (idle is)
+  kept_reading (Pattern text) p un (inr (is, short)) idle = inr (is, short.failed.rose, before_work (refused_reading text p un))
 
-  built_working : (work : Work) (text : List ℕ) (mid : Shown (List ℕ)) → Prepared words moment inputs inputs' pats pats (Ok work) → StopsHere work (Pattern text) mid →
-      AnalysisBuilt words moment inputs.told text ⊎ RunBuilt words moment inputs.told site site' text
-  built_working (Run order) text mid p (made may q) = inr (built_by_run order text mid p.work q)
-  built_working (Run order) text mid p (not_made obeyed q) = inl (built_by_analysis (Run order) text mid p.work (not_made obeyed q) (setting_in order.policy) refl q.judged.built)
-  built_working (Judge policy) text mid p q = inl (built_by_analysis (Judge policy) text mid p.work q (setting_in policy) refl q.judged.built)
-  built_working (Show shown) text mid p q = absurd (never_shown moment site site' out mid pats pats' shown (Pattern text) q tt)
+  refuses_text : (mid : Shown (List ℕ)) → RefusedAtWork mid → RefusesText words moment inputs.told site site' pats pats'
+  refuses_text mid (inl (refused, un)) = before_work refused
+  refuses_text mid (inr refused) = in_run refused
 
   kept_working : (work : Work) (stop : Stop) (mid : Shown (List ℕ)) → Prepared words moment inputs inputs' pats pats (Ok work) → Performed work moment site site' out mid pats pats' (Err stop) → PutsStop (stop_line stop) (status_of_stop stop) mid out' status → status ≢ 6 → KeepsPatterns
   kept_working work (Outside object) mid p performed puts idle = inl (patterns_by_stop moment site site' out mid pats pats' work (Outside object) performed)
@@ -545,15 +589,11 @@ module _ (words : List (List ℕ)) (moment : ℕ) (inputs inputs' : Shown Librar
   kept_working work (Pattern text) mid p performed (inr (is, short)) idle = inr (
     is,
     fault_along out mid out' (work_stop moment site site' out mid pats pats' work (Pattern text) performed) short.failed.rose,
-    record {
-      text = text;
-      builds = inr (built_working work text mid p performed);
-      refused = patterns_by_stop moment site site' out mid pats pats' work (Pattern text) performed;
-    },
+    refuses_text mid (refused_working work text mid p performed),
   )
 
   pub patterns_kept : CalledHere → status ≢ 6 → KeepsPatterns
   patterns_kept (not_prepared {failure = Refused line} p un puts) idle = inl p.patterns_are
-  patterns_kept (not_prepared {failure = Stopped stop} p un puts) idle = kept_reading stop p puts idle
+  patterns_kept (not_prepared {failure = Stopped stop} p un puts) idle = kept_reading stop p un puts idle
   patterns_kept (ended {work = work} by p performed is) idle = inl (patterns_at_end moment site site' out out' pats pats' work by performed)
   patterns_kept (stopped_at_work {work = work} stop mid p performed puts) idle = kept_working work stop mid p performed puts idle

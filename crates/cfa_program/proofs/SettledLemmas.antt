@@ -23,7 +23,7 @@ use Rattle.cfa_program.specs.declared.ends.End.{End}
 use Rattle.cfa_program.specs.declared.work.Work.TheVariants.{Run, Judge, Show}
 use Rattle.cfa_program.specs.Calls.{runs, judges, shows, TakesRequest, RefusesRequest, TakenIsNotRefused, RunsIn, ran, settled_by}
 use Rattle.cfa_program.specs.Done.{IsDone, HasFault, status_of}
-use Rattle.cfa_program.specs.Ends.{IsEnd, IsStop, AsksRun, AsksTaken, RefusesCall, of_words, of_moment, of_request, StopsReading, StopsAtSite, StopsAtPattern, of_policy, of_analysis, of_run, StopsAtVisits, by_analysis, by_run, EndsWith, IsSettledBy, IsUnhindered, IsDoneOrMemory}
+use Rattle.cfa_program.specs.Ends.{IsEnd, IsStop, AsksTaken, RefusesCall, of_words, of_moment, of_request, StopsReading, StopsAtSite, StopsAtPattern, stops_before, stops_in_run, StopsAtVisits, by_analysis, by_run, EndsWith, IsSettledBy, IsUnhindered, IsDoneOrMemory}
 use Rattle.cfa_program.specs.Stages.{setting_in, task_of, OneSetting, TellsVerdict, IsInConflict, RunPerformed, PolicyRan, not_made, made, Called, not_prepared, ended, stopped_at_work}
 use Rattle.cfa_program.proofs.CallLemmas as calls
 use Rattle.cfa_program.proofs.CallLemmas.{one_request, no_end, stop_is, taken_at}
@@ -56,13 +56,13 @@ module _ (words : List (List ℕ)) (moment : ℕ) (inputs inputs' : Shown Librar
   -- a call that was refused ran nothing, and ended with another line
   refused_not_run : TakenIsNotRefused → (line bytes : List ℕ) (lib : Library) (setting : Setting) → RefusesCall words moment inputs.told line → Follows (adds_bytes line) out out' →
       out'.told ≡ Some bytes → EndsWith (settled_line Yes) bytes → inputs.told ≡ Some lib → RunsIn words moment lib.texts setting → ⊥
-  refused_not_run never _ bytes lib setting (of_words none) put told ends lib_told r = none_or_some none r.asked_is
+  refused_not_run never _ bytes lib setting (of_words none) put told ends lib_told r = none_or_some none r.asks.asked_is
   refused_not_run never _ bytes lib setting (of_moment asks late) put told ends lib_told r =
       let before = put_behind _ bytes out out' put told in
       moment_ends_otherwise bytes ends before.0 before.1
   refused_not_run never _ bytes lib setting (of_request {request = q} {line = line} asks in_time refuses) put told ends lib_told r =
-      never lib.texts moment r.request (runs setting r.has_locks r.is_strict) line r.takes
-      (subst (λ (x : Request). RefusesRequest lib.texts x line) (one_request asks r.asked_is) (at_library inputs.told lib (λ l. RefusesRequest l.texts q line) lib_told refuses))
+      never lib.texts moment r.asks.request (runs setting r.has_locks r.is_strict) line r.asks.takes
+      (subst (λ (x : Request). RefusesRequest lib.texts x line) (one_request asks r.asks.asked_is) (at_library inputs.told lib (λ l. RefusesRequest l.texts q line) lib_told refuses))
 
   -- a run that was made
   made_settles : (setting : Setting) (locks : Bool) (end : End) (bytes : List ℕ) → RunPerformed setting moment locks site site' out out' pats pats' (Ok end) →
@@ -87,35 +87,35 @@ module _ (words : List (List ℕ)) (moment : ℕ) (inputs inputs' : Shown Librar
   run_settles meet setting locks strict end bytes (made may p) told ends = made_settles setting locks end bytes p told ends
   run_settles meet setting locks strict end bytes (not_made obeyed p) told ends = absurd (conflict_untold meet setting (analysis_of setting) end bytes refl obeyed.conflict.1 p.judged.told told ends)
 
-  pub settled : TakenIsNotRefused → OneSetting → ConflictsMeet → CalledHere → AsksRun words → IsEnd status → IfSome out'.told (λ bytes. EndsWith (settled_line Yes) bytes →
+  pub settled : TakenIsNotRefused → OneSetting → ConflictsMeet → CalledHere → IsEnd status → IfSome out'.told (λ bytes. EndsWith (settled_line Yes) bytes →
       IfSome inputs.told (λ lib. IfBothTold (λ before after. IsSettledBy words moment lib.texts after.world) site site'))
-  settled never one meet (not_prepared {failure = Refused line} p un (inl (is, put))) asks end = each_some out'.told _ (λ bytes told ends. each_some inputs.told _ (λ lib lib_told.
+  settled never one meet (not_prepared {failure = Refused line} p un (inl (is, put))) end = each_some out'.told _ (λ bytes told ends. each_some inputs.told _ (λ lib lib_told.
       each_both _ site site' (λ before after setting r. absurd (refused_not_run never line bytes lib setting p.refused put told ends lib_told r))))
-  settled never one meet (not_prepared {failure = Refused line} p un (inr (is, short))) asks end = absurd (no_end status (inl is) end)
-  settled never one meet (not_prepared {failure = Stopped stop} p un puts) asks end = absurd (no_end status (stop_is stop out out' status puts) end)
-  settled never one meet (stopped_at_work stop mid p performed puts) asks end = absurd (no_end status (stop_is stop mid out' status puts) end)
-  settled never one meet (ended {work = Run order} by p performed is) asks end = each_some out'.told _ (λ bytes told ends. some_weaker inputs.told _ _ (λ lib lib_told taken.
+  settled never one meet (not_prepared {failure = Refused line} p un (inr (is, short))) end = absurd (no_end status (inl is) end)
+  settled never one meet (not_prepared {failure = Stopped stop} p un puts) end = absurd (no_end status (stop_is stop out out' status puts) end)
+  settled never one meet (stopped_at_work stop mid p performed puts) end = absurd (no_end status (stop_is stop mid out' status puts) end)
+  settled never one meet (ended {work = Run order} by p performed is) end = each_some out'.told _ (λ bytes told ends. some_weaker inputs.told _ _ (λ lib lib_told taken.
       both_weaker _ _ site site' (λ before after settles setting r. subst (λ (x : Setting). Settles x after.world)
-      (one lib.texts moment r.request (setting_in order.policy) setting order.locks r.has_locks order.strict r.is_strict
-      (subst (λ (q : Request). TakesRequest lib.texts moment q (task_of (Run order))) (one_request p.work.asked_is r.asked_is) taken) r.takes)
+      (one lib.texts moment r.asks.request (setting_in order.policy) setting order.locks r.has_locks order.strict r.is_strict
+      (subst (λ (q : Request). TakesRequest lib.texts moment q (task_of (Run order))) (one_request p.work.asked_is r.asks.asked_is) taken) r.asks.takes)
       settles)
       (run_settles meet (setting_in order.policy) order.locks order.strict by bytes performed told ends)) p.work.is_work.taken)
-  settled never one meet (ended {work = Judge policy} by p performed is) asks end = each_some out'.told _ (λ bytes told ends. some_weaker inputs.told _ _ (λ lib lib_told taken.
-      each_both _ site site' (λ before after setting r. absurd (run_not_judged lib.texts moment r.request setting (setting_in policy) r.has_locks r.is_strict r.takes
-      (subst (λ (q : Request). TakesRequest lib.texts moment q (task_of (Judge policy))) (one_request p.work.asked_is r.asked_is) taken)))) p.work.is_work.taken)
-  settled never one meet (ended {work = Show text} by p performed is) asks end = each_some out'.told _ (λ bytes told ends. some_weaker inputs.told _ _ (λ lib lib_told taken.
-      each_both _ site site' (λ before after setting r. absurd (run_not_shown lib.texts moment r.request setting text r.has_locks r.is_strict r.takes
-      (subst (λ (q : Request). TakesRequest lib.texts moment q (task_of (Show text))) (one_request p.work.asked_is r.asked_is) taken)))) p.work.is_work.taken)
+  settled never one meet (ended {work = Judge policy} by p performed is) end = each_some out'.told _ (λ bytes told ends. some_weaker inputs.told _ _ (λ lib lib_told taken.
+      each_both _ site site' (λ before after setting r. absurd (run_not_judged lib.texts moment r.asks.request setting (setting_in policy) r.has_locks r.is_strict r.asks.takes
+      (subst (λ (q : Request). TakesRequest lib.texts moment q (task_of (Judge policy))) (one_request p.work.asked_is r.asks.asked_is) taken)))) p.work.is_work.taken)
+  settled never one meet (ended {work = Show text} by p performed is) end = each_some out'.told _ (λ bytes told ends. some_weaker inputs.told _ _ (λ lib lib_told taken.
+      each_both _ site site' (λ before after setting r. absurd (run_not_shown lib.texts moment r.asks.request setting text r.has_locks r.is_strict r.asks.takes
+      (subst (λ (q : Request). TakesRequest lib.texts moment q (task_of (Show text))) (one_request p.work.asked_is r.asks.asked_is) taken)))) p.work.is_work.taken)
 
   -- ---- completeness
 
-  module _ (never : TakenIsNotRefused) (lib : Library) (lib_told : inputs.told ≡ Some lib) (asks : AsksTaken words moment lib.texts)
+  module _ (never : TakenIsNotRefused) (one : OneSetting) (lib : Library) (lib_told : inputs.told ≡ Some lib) (asks : AsksTaken words moment lib.texts)
       (free : IsUnhindered words moment lib.texts inputs inputs' site site' out out' pats pats') where
     not_refused : (line : List ℕ) → RefusesCall words moment inputs.told line → ⊥
-    not_refused _ (of_words none) = none_or_some none asks.1.1
+    not_refused _ (of_words none) = none_or_some none asks.1.1.asked_is
     not_refused _ (of_moment some late) = omega (arith, late, asks.0)
-    not_refused _ (of_request {request = q} {line = line} some in_time refuses) = never lib.texts moment asks.1.0 asks.1.2.0 line asks.1.2.1
-        (subst (λ (x : Request). RefusesRequest lib.texts x line) (one_request some asks.1.1) (at_library inputs.told lib (λ l. RefusesRequest l.texts q line) lib_told refuses))
+    not_refused _ (of_request {request = q} {line = line} some in_time refuses) = never lib.texts moment asks.1.1.request asks.1.0 line asks.1.1.takes
+        (subst (λ (x : Request). RefusesRequest lib.texts x line) (one_request some asks.1.1.asked_is) (at_library inputs.told lib (λ l. RefusesRequest l.texts q line) lib_told refuses))
 
     not_outside : HasFault out out' ⊎ (StopsReading words inputs inputs' site site' out out' ⊎ StopsAtSite words site site' out') → ⊥
     not_outside (inl fault) = free.sink_stands fault
@@ -123,13 +123,12 @@ module _ (words : List (List ℕ)) (moment : ℕ) (inputs inputs' : Shown Librar
     not_outside (inr (inr at_site)) = free.site_stands at_site.rose
 
     no_pattern : StopsAtPattern words moment inputs.told site site' out out' pats pats' → ⊥
-    no_pattern (of_policy built failed un put) = free.builder_stands failed.rose
-    no_pattern (of_analysis asked failed un put) = free.builder_stands failed.rose
-    no_pattern (of_run asked failed put) = free.builder_stands failed.rose
+    no_pattern (stops_before before put) = free.builder_stands before.refused.rose
+    no_pattern (stops_in_run inside put) = free.builder_stands inside.refused.rose
 
     not_too_many : StopsAtVisits words moment inputs.told site site' out out' pats pats' → ⊥
     not_too_many (by_analysis obeys many un kept put) = free.analysis_ends (at_library inputs.told lib _ lib_told many)
-    not_too_many (by_run asked many kept put) = free.run_ends asked (at_library inputs.told lib _ lib_told many)
+    not_too_many (by_run runs_it is_made many kept put) = free.run_ends (at_library inputs.told lib _ lib_told is_made) (at_library inputs.told lib _ lib_told many)
 
     done_or_memory : CalledHere → IsEnd status ⊎ IsStop status → IsDoneOrMemory status
     done_or_memory called (inl (inl none)) = inl none
@@ -140,12 +139,12 @@ module _ (words : List (List ℕ)) (moment : ℕ) (inputs inputs' : Shown Librar
     done_or_memory called (inl (inr (inr (inr three)))) = inr (inr (inl three))
     done_or_memory called (inr (inl four)) = absurd (not_outside (calls.outside words moment inputs inputs' site site' out out' pats pats' status called four))
     done_or_memory called (inr (inr (inl five))) = inr (inr (inr five))
-    done_or_memory called (inr (inr (inr six))) = absurd (no_limit (calls.pattern_or_visits words moment inputs inputs' site site' out out' pats pats' status called six)) where
+    done_or_memory called (inr (inr (inr six))) = absurd (no_limit (calls.pattern_or_visits words moment inputs inputs' site site' out out' pats pats' status one called six)) where
       no_limit : StopsAtPattern words moment inputs.told site site' out out' pats pats' ⊎ StopsAtVisits words moment inputs.told site site' out out' pats pats' → ⊥
       no_limit (inl pattern) = no_pattern pattern
       no_limit (inr visits) = not_too_many visits
 
-  pub complete : TakenIsNotRefused → CalledHere → IfSome inputs.told (λ lib. AsksTaken words moment lib.texts →
+  pub complete : TakenIsNotRefused → OneSetting → CalledHere → IfSome inputs.told (λ lib. AsksTaken words moment lib.texts →
       IsUnhindered words moment lib.texts inputs inputs' site site' out out' pats pats' → IsDoneOrMemory status)
-  complete never called = each_some inputs.told _ (λ lib told asks free.
-      done_or_memory never lib told asks free called (calls.range words moment inputs inputs' site site' out out' pats pats' status called))
+  complete never one called = each_some inputs.told _ (λ lib told asks free.
+      done_or_memory never one lib told asks free called (calls.range words moment inputs inputs' site site' out out' pats pats' status called))

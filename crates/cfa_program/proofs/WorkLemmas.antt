@@ -20,7 +20,7 @@ use Rattle.cfa_program.specs.declared.ends.End.{End}
 use Rattle.cfa_program.specs.declared.ends.End.TheVariants.{Ended, PromiseFailed, InConflict}
 use Rattle.cfa_program.specs.declared.work.Work.{Work}
 use Rattle.cfa_program.specs.declared.work.Work.TheVariants.{Run, Judge, Show}
-use Rattle.cfa_program.specs.Calls.{runs, judged, shown, verdict_line, start_of, RunDoes, StrictRunDoes, Judges, DoesTask, IsCutOffBy, ObeysAnalysis}
+use Rattle.cfa_program.specs.Calls.{runs, judged, shown, verdict_line, start_of, RunDoes, StrictRunDoes, Judges, DoesTask, IsUnaccepted, IsCutOffBy, ObeysAnalysis}
 use Rattle.cfa_program.specs.Done.{Done, IsDone, IsPut, status_of}
 use Rattle.cfa_program.specs.Stages.{RunsPolicy, Obeys, TellsVerdict, StopsTelling, IsEndOfRun, MayRun, IsInConflict, not_made, made, Performed, TextPut, OnlyPut}
 use Rattle.cfa_program.proofs.Told.{adds_none}
@@ -78,6 +78,13 @@ pub does_judged : (strict : Bool) (setting : Setting) (locks : Bool) (moment : �
     DoesTask (runs setting locks strict) moment world marks (judged_by (analysis_of setting))
 does_judged true setting locks moment world marks is conflict = strict_judged setting (start_of moment locks world marks) (analysis_of setting) conflict
 does_judged false setting locks moment world marks is conflict = absurd (false≢true is)
+
+-- a strict run is made where the policy is accepted alone
+pub made_accepted : (strict : Bool) (verdict : Option Verdict) → strict ≡ true → MayRun strict verdict → IsUnaccepted verdict → ⊥
+made_accepted true None is may not = may
+made_accepted true (Some (Accepted live)) is may not = not
+made_accepted true (Some (InConflictBy c)) is may not = may
+made_accepted false verdict is may not = false≢true is
 
 pub cut_off_by : (strict : Bool) (setting : Setting) (s : Start) (verdict : Option Verdict) → MayRun strict verdict → IsCutOff (run_of setting s) → IsCutOffBy strict setting s verdict
 cut_off_by false setting s verdict may cut = cut

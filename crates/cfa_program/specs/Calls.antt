@@ -6,7 +6,7 @@
 -- it leaves is settled: it isn't known to be where locks count, where a promise failed, where the verdict is a conflict, and where the
 -- analysis needs too many visits, the first of these being told. A strict run obeys the analysis: of a conflict it tells the verdict
 -- alone.
-use Rattle.std.specs.Prelude.{ℕ, ◌≡◌, ◌<◌, ◌≤◌, Bool, true, false, nat_lt, if◌then◌else◌, List, [], ◌∷◌, ◌++◌, Option, Some, None, codes}
+use Rattle.std.specs.Prelude.{ℕ, ◌≡◌, ◌<◌, ◌≤◌, Bool, true, false, nat_lt, if◌then◌else◌, List, [], ◌∷◌, ◌++◌, Option, Some, None, ⊤, codes}
 use Rattle.cfa_base.specs.declared.limits.TheConstants.{LAST_MOMENT}
 use Rattle.cfa_words.specs.declared.words.Options.{Options}
 use Rattle.cfa_words.specs.declared.words.Request.{Request}
@@ -88,6 +88,12 @@ TakesRequest texts moment (Check policy classes) (shows text) = ⊥
 TakesRequest texts moment (Audit journal) (runs setting has_locks is_strict) = ⊥
 TakesRequest texts moment (Audit journal) (judges setting) = ⊥
 TakesRequest texts moment (Audit journal) (shows text) = AuditsAs texts journal text
+
+-- the words ask for this task
+pub record AsksTask (words : List (List ℕ)) (moment : ℕ) (texts : Texts) (task : Task) : Type 0 where
+  pub request : Request
+  pub asked_is : asked words ≡ Some request
+  pub takes : TakesRequest texts moment request task
 
 -- what is taken isn't refused
 abbrev pub TakenIsNotRefused : Type 0
@@ -179,6 +185,21 @@ DoesOneThing =
     (words : List (List ℕ)) (moment : ℕ) (texts : Texts) (world : World) (marks : List Mark) (a b : Done) →
     Does words moment texts world marks a → Does words moment texts world marks b → a ≡ b
 
+-- ---- strict runs that aren't made
+
+-- the policy isn't accepted: it is in conflict, or its analysis needs too many visits
+abbrev pub IsUnaccepted : Option Verdict → Type 0
+IsUnaccepted None = ⊤
+IsUnaccepted (Some (Accepted live)) = ⊥
+IsUnaccepted (Some (InConflictBy c)) = ⊤
+
+-- the words ask for a strict run of such a policy
+pub record AsksUnaccepted (words : List (List ℕ)) (moment : ℕ) (texts : Texts) : Type 0 where
+  pub setting : Setting
+  pub has_locks : Bool
+  pub asks : AsksTask words moment texts (runs setting has_locks true)
+  pub unaccepted : IsUnaccepted (analysis_of setting)
+
 -- ---- too many visits
 
 -- a strict run that is cut off was analysed first, and accepted
@@ -191,13 +212,11 @@ IsCutOffBy true setting s (Some (InConflictBy c)) = ⊥
 -- the words ask for a run that needs more visits than it may make
 pub record NeedsTooMany (words : List (List ℕ)) (moment : ℕ) (texts : Texts) (world : World)
     (marks : List Mark) : Type 0 where
-  pub request : Request
   pub setting : Setting
   pub has_locks : Bool
   pub is_strict : Bool
-  pub asked_is : asked words ≡ Some request
+  pub asks : AsksTask words moment texts (runs setting has_locks is_strict)
   pub in_time : moment ≤ LAST_MOMENT
-  pub takes : TakesRequest texts moment request (runs setting has_locks is_strict)
   pub cut_off : IsCutOffBy is_strict setting (start_of moment has_locks world marks) (analysis_of setting)
 
 -- the task is done as its analysis says
@@ -209,12 +228,10 @@ ObeysAnalysis (shows text) judged_in = ⊥
 
 -- the words ask for a check or a strict run whose analysis needs more visits than it may make
 pub record AnalysesTooMany (words : List (List ℕ)) (moment : ℕ) (texts : Texts) : Type 0 where
-  pub request : Request
   pub task : Task
   pub setting : Setting
-  pub asked_is : asked words ≡ Some request
+  pub asks : AsksTask words moment texts task
   pub in_time : moment ≤ LAST_MOMENT
-  pub takes : TakesRequest texts moment request task
   pub obeys : ObeysAnalysis task setting
   pub too_large : analysis_of setting ≡ None
 
@@ -228,31 +245,25 @@ IsAnalysedIn (shows text) analysed_in = ⊥
 
 -- the text is one that the analysis of what the words ask for builds
 pub record AnalysisBuildsText (words : List (List ℕ)) (moment : ℕ) (texts : Texts) (text : List ℕ) : Type 0 where
-  pub request : Request
   pub task : Task
   pub setting : Setting
-  pub asked_is : asked words ≡ Some request
-  pub takes : TakesRequest texts moment request task
+  pub asks : AsksTask words moment texts task
   pub analysed : IsAnalysedIn task setting
   pub built : AnalysisBuilds setting text
 
 -- the text is one that the run that the words ask for builds
 pub record RunBuildsText (words : List (List ℕ)) (moment : ℕ) (texts : Texts) (world : World)
     (marks : List Mark) (text : List ℕ) : Type 0 where
-  pub request : Request
   pub setting : Setting
   pub has_locks : Bool
   pub is_strict : Bool
-  pub asked_is : asked words ≡ Some request
-  pub takes : TakesRequest texts moment request (runs setting has_locks is_strict)
+  pub asks : AsksTask words moment texts (runs setting has_locks is_strict)
   pub built : BuiltOn setting (run_of setting (start_of moment has_locks world marks)) text
 
 -- ---- settled
 
 -- the words ask for a run of a valid policy in this setting
 pub record RunsIn (words : List (List ℕ)) (moment : ℕ) (texts : Texts) (setting : Setting) : Type 0 where
-  pub request : Request
   pub has_locks : Bool
   pub is_strict : Bool
-  pub asked_is : asked words ≡ Some request
-  pub takes : TakesRequest texts moment request (runs setting has_locks is_strict)
+  pub asks : AsksTask words moment texts (runs setting has_locks is_strict)

@@ -19,7 +19,7 @@ use Rattle.cfa_agent.specs.Marks.{marks_of}
 use Rattle.cfa_agent.specs.Ran.{added, IfBothTold}
 use Rattle.cfa_walk.specs.Views.{Setting}
 use Rattle.cfa_convergence.specs.Settled.{Settles}
-use Rattle.cfa_program.specs.Calls.{Task, RefusesRequest, TakesRequest, NeedsTooMany, AnalysesTooMany, AnalysisBuildsText, RunBuildsText, RunsIn}
+use Rattle.cfa_program.specs.Calls.{Task, RefusesRequest, AsksTask, AsksUnaccepted, NeedsTooMany, AnalysesTooMany, AnalysisBuildsText, RunBuildsText, RunsIn}
 
 -- ---- statuses
 
@@ -75,11 +75,15 @@ AsksToObey words = Asks IsObeying words
 
 -- the words ask for something of which the policy or the journal is taken, by these texts, in time
 abbrev pub AsksTaken : (words : List (List ℕ)) → (moment : ℕ) → Texts → Type 0
-AsksTaken words moment texts = (moment ≤ LAST_MOMENT) × Asks (λ request. (task : Task) × TakesRequest texts moment request task) words
+AsksTaken words moment texts = (moment ≤ LAST_MOMENT) × ((task : Task) × AsksTask words moment texts task)
 
 -- the words ask for something of which the policy or the journal is refused, by these texts
 abbrev pub AsksRefused : (words : List (List ℕ)) → Texts → Type 0
 AsksRefused words texts = Asks (λ request. (line : List ℕ) × RefusesRequest texts request line) words
+
+-- the words ask for a run that is made, as far as the analysis goes: not for a strict run of a policy that isn't accepted
+abbrev pub AsksMadeRun : (words : List (List ℕ)) → (moment : ℕ) → Texts → Type 0
+AsksMadeRun words moment texts = AsksRun words × (AsksUnaccepted words moment texts → ⊥)
 
 -- the status is that of a refusal or of a pattern that is too big
 abbrev pub IsNotDone : (status : ℕ) → Type 0
@@ -168,37 +172,46 @@ RunBuilt words moment told site site' text =
     AsksRun words × IfSome told (λ library. IfBothTold (λ before after.
     RunBuildsText words moment library.texts before.world (marks_of (added before after)) text) site site')
 
--- a text was refused for its size in this call: one of the patterns of the policy that is checked or run, or one that the
--- analysis or the run builds
-pub record RefusesText (words : List (List ℕ)) (moment : ℕ) (told : Option Library) (site site' : Shown Told)
+-- a text was refused for its size before anything was done on the site: one of the patterns of the policy that is checked or run, or one
+-- that its analysis builds
+pub record RefusesBefore (words : List (List ℕ)) (moment : ℕ) (told : Option Library) (site site' : Shown Told)
     (pats pats' : Shown (List (List ℕ))) : Type 0 where
   pub text : List ℕ
-  pub builds : AsksBuilt words told text
-      ⊎ (AnalysisBuilt words moment told text ⊎ RunBuilt words moment told site site' text)
+  pub builds : AsksBuilt words told text ⊎ AnalysisBuilt words moment told text
+  pub refused : HasFailed (refuses text) pats pats'
+  pub untouched : Untouched site site'
+
+-- a text that a run builds was refused for its size
+pub record RefusesInRun (words : List (List ℕ)) (moment : ℕ) (told : Option Library) (site site' : Shown Told)
+    (pats pats' : Shown (List (List ℕ))) : Type 0 where
+  pub text : List ℕ
+  pub builds : RunBuilt words moment told site site' text
   pub refused : HasFailed (refuses text) pats pats'
 
--- a call was stopped by a pattern that is too big: one of its policy, or one that the analysis builds, so that the stop's line is all that
--- was done; or one that a run builds
+-- a text was refused for its size in this call
+pub data RefusesText (words : List (List ℕ)) (moment : ℕ) (told : Option Library) (site site' : Shown Told)
+    (pats pats' : Shown (List (List ℕ))) : Type 0 where
+  before_work : RefusesBefore words moment told site site' pats pats' → RefusesText words moment told site site' pats pats'
+  in_run : RefusesInRun words moment told site site' pats pats' → RefusesText words moment told site site' pats pats'
+
+-- a call was stopped by a text that was refused for its size: before the work, so that the stop's line is all that was done, or in a run
 pub data StopsAtPattern (words : List (List ℕ)) (moment : ℕ) (told : Option Library) (site site' : Shown Told)
     (out out' : Shown (List ℕ)) (pats pats' : Shown (List (List ℕ))) : Type 0 where
-  of_policy : {text : List ℕ} → AsksBuilt words told text → HasFailed (refuses text) pats pats' →
-      Untouched site site' → Follows (adds_bytes pattern_line) out out' →
+  stops_before : RefusesBefore words moment told site site' pats pats' → Follows (adds_bytes pattern_line) out out' →
       StopsAtPattern words moment told site site' out out' pats pats'
-  of_analysis : {text : List ℕ} → AnalysisBuilt words moment told text → HasFailed (refuses text) pats pats' →
-      Untouched site site' → Follows (adds_bytes pattern_line) out out' →
+  stops_in_run : RefusesInRun words moment told site site' pats pats' → PutsLast pattern_line out' →
       StopsAtPattern words moment told site site' out out' pats pats'
-  of_run : {text : List ℕ} → RunBuilt words moment told site site' text → HasFailed (refuses text) pats pats' →
-      PutsLast pattern_line out' → StopsAtPattern words moment told site site' out out' pats pats'
 
--- a call was stopped by too many visits, of the analysis that it obeys, so that the stop's line is all that was done; or of its run, by the
--- run's definition under the marks of the entries so far
+-- a call was stopped by too many visits, of the analysis that it obeys, so that the stop's line is all that was done; or of its run, which
+-- was made, by the run's definition under the marks of the entries so far
 pub data StopsAtVisits (words : List (List ℕ)) (moment : ℕ) (told : Option Library)
     (site site' : Shown Told) (out out' : Shown (List ℕ))
     (pats pats' : Shown (List (List ℕ))) : Type 0 where
   by_analysis : AsksToObey words → IfSome told (λ library. AnalysesTooMany words moment library.texts) →
       Untouched site site' → Untouched pats pats' → Follows (adds_bytes visits_line) out out' →
       StopsAtVisits words moment told site site' out out' pats pats'
-  by_run : AsksRun words → IfSome told (λ library. IfBothTold (λ before after.
+  by_run : AsksRun words → IfSome told (λ library. AsksMadeRun words moment library.texts) →
+      IfSome told (λ library. IfBothTold (λ before after.
       NeedsTooMany words moment library.texts before.world (marks_of (added before after))) site site') →
       Untouched pats pats' → PutsLast visits_line out' →
       StopsAtVisits words moment told site site' out out' pats pats'
@@ -216,8 +229,8 @@ IsSettledBy words moment texts world =
 
 -- ---- completeness
 
--- nothing outside failed, no pattern was refused for its size, and neither the analysis that is obeyed nor the run, by what the site
--- tells, needs too many visits
+-- nothing outside failed, no pattern was refused for its size, and neither the analysis that is obeyed nor the run that is made, by what
+-- the site tells, needs too many visits
 pub record IsUnhindered (words : List (List ℕ)) (moment : ℕ) (texts : Texts) (inputs inputs' : Shown Library)
     (site site' : Shown Told) (out out' : Shown (List ℕ))
     (pats pats' : Shown (List (List ℕ))) : Type 0 where
@@ -226,7 +239,7 @@ pub record IsUnhindered (words : List (List ℕ)) (moment : ℕ) (texts : Texts)
   pub sink_stands : Rose out.faults out'.faults → ⊥
   pub builder_stands : Rose pats.faults pats'.faults → ⊥
   pub analysis_ends : AnalysesTooMany words moment texts → ⊥
-  pub run_ends : AsksRun words → IfBothTold (λ before after.
+  pub run_ends : AsksMadeRun words moment texts → IfBothTold (λ before after.
       NeedsTooMany words moment texts before.world (marks_of (added before after))) site site' → ⊥
 
 -- the work was done, or memory ended

@@ -9,7 +9,7 @@ ghost use Rattle.cfa_words.specs.Words.{asked};
 ghost use Rattle.cfa_agent.specs.Actuations.{Mark};
 ghost use Rattle.cfa_agent.specs.Marks.{marks_of};
 ghost use Rattle.cfa_agent.specs.Ran.{added, IfBothTold};
-ghost use Rattle.cfa_program.specs.Calls.{Does};
+ghost use Rattle.cfa_program.specs.Calls.{AsksUnaccepted, Does};
 ghost use Rattle.cfa_program.specs.Done.{Stands, Puts, HasFault};
 ghost use Rattle.cfa_program.specs.Ends.{IsEnd, IsStop, IsNotDone, AsksRun, AsksNoRun, AsksToObey, AsksTaken, AsksRefused, EndsWith, IsSettledBy, IsUnhindered, IsDoneOrMemory, PutsRefusal, IsUnread, PutsLast, StopsReading, StopsAtSite, ReadsInTurn, RefusesText, StopsAtPattern, StopsAtVisits};
 ghost use Rattle.cfa_program.specs.Stages.{Called};
@@ -115,9 +115,14 @@ pub fn agent_main<I: Inputs, S: Site, O: Sink, P: Patterns>(
         → Puts (Does words.now moment library.texts world marks)
         (O.shown out.old) (O.shown out.new) result) }
 
-    // Where the last line of a run is `settled: yes`, a rerun on the world that it left, with the same classes and at whatever moment,
-    // changes nothing.
-    ensures settled { AsksRun words.now → IsEnd result → IfSome (O.shown out.new).told (λ bytes.
+    // A strict run of a policy that isn't accepted leaves the site as it was, however it ends.
+    ensures unaccepted { IfSome (I.shown inputs.old).told (λ library.
+        AsksUnaccepted words.now moment library.texts →
+        Untouched (S.shown site.old) (S.shown site.new)) }
+
+    // Where the last line of a run is `settled: yes`, a rerun without locks and without a failed call, on the world that it left,
+    // with the same classes and at whatever moment, changes nothing.
+    ensures settled { IsEnd result → IfSome (O.shown out.new).told (λ bytes.
         EndsWith (settled_line settled_ends.End.Yes) bytes →
         IfSome (I.shown inputs.old).told (λ library. IfBothTold (λ before after.
         IsSettledBy words.now moment library.texts after.world)
@@ -156,7 +161,8 @@ pub fn agent_main<I: Inputs, S: Site, O: Sink, P: Patterns>(
         (S.shown site.old) (S.shown site.new) (O.shown out.old) (O.shown out.new)
         (P.shown pats.old) (P.shown pats.new) }
 
-    // Otherwise no pattern was refused, unless the line that tells the stop couldn't be put.
+    // Otherwise no pattern was refused, unless the line that tells the stop couldn't be put: of one that was refused before a run
+    // nothing was done on the site.
     ensures patterns_kept { result ≢ 6 → Untouched (P.shown pats.old) (P.shown pats.new)
         ⊎ ((result ≡ 4) × HasFault (O.shown out.old) (O.shown out.new)
         × RefusesText words.now moment (I.shown inputs.old).told

@@ -38,11 +38,14 @@ returns-clause-conflict g c = calls.conflict c.args.words.now c.args.moment (g.I
 pub returns-clause-conflict_put : goal.returns-clause-conflict_put
 returns-clause-conflict_put g c = calls.conflict_put c.args.words.now c.args.moment (g.I.Inputs.shown c.args.inputs.now) (g.I.Inputs.shown c.call.new.inputs) (g.S.Site.shown c.args.site.now) (g.S.Site.shown c.call.new.site) (g.O.Sink.shown c.args.out.now) (g.O.Sink.shown c.call.new.out) (g.P.Patterns.shown c.args.pats.now) (g.P.Patterns.shown c.call.new.pats) c.call.result c.call.ensures
 
+pub returns-clause-unaccepted : goal.returns-clause-unaccepted
+returns-clause-unaccepted g c = calls.unaccepted c.args.words.now c.args.moment (g.I.Inputs.shown c.args.inputs.now) (g.I.Inputs.shown c.call.new.inputs) (g.S.Site.shown c.args.site.now) (g.S.Site.shown c.call.new.site) (g.O.Sink.shown c.args.out.now) (g.O.Sink.shown c.call.new.out) (g.P.Patterns.shown c.args.pats.now) (g.P.Patterns.shown c.call.new.pats) c.call.result c.a_policy_is_run_in_one_setting.ensures c.call.ensures
+
 pub returns-clause-settled : goal.returns-clause-settled
 returns-clause-settled g c = settled.settled c.args.words.now c.args.moment (g.I.Inputs.shown c.args.inputs.now) (g.I.Inputs.shown c.call.new.inputs) (g.S.Site.shown c.args.site.now) (g.S.Site.shown c.call.new.site) (g.O.Sink.shown c.args.out.now) (g.O.Sink.shown c.call.new.out) (g.P.Patterns.shown c.args.pats.now) (g.P.Patterns.shown c.call.new.pats) c.call.result c.taken_requests_are_not_refused.ensures c.a_policy_is_run_in_one_setting.ensures c.conflicts_meet_in_resources.ensures c.call.ensures
 
 pub returns-clause-complete : goal.returns-clause-complete
-returns-clause-complete g c = settled.complete c.args.words.now c.args.moment (g.I.Inputs.shown c.args.inputs.now) (g.I.Inputs.shown c.call.new.inputs) (g.S.Site.shown c.args.site.now) (g.S.Site.shown c.call.new.site) (g.O.Sink.shown c.args.out.now) (g.O.Sink.shown c.call.new.out) (g.P.Patterns.shown c.args.pats.now) (g.P.Patterns.shown c.call.new.pats) c.call.result c.taken_requests_are_not_refused.ensures c.call.ensures
+returns-clause-complete g c = settled.complete c.args.words.now c.args.moment (g.I.Inputs.shown c.args.inputs.now) (g.I.Inputs.shown c.call.new.inputs) (g.S.Site.shown c.args.site.now) (g.S.Site.shown c.call.new.site) (g.O.Sink.shown c.args.out.now) (g.O.Sink.shown c.call.new.out) (g.P.Patterns.shown c.args.pats.now) (g.P.Patterns.shown c.call.new.pats) c.call.result c.taken_requests_are_not_refused.ensures c.a_policy_is_run_in_one_setting.ensures c.call.ensures
 
 pub returns-clause-outside : goal.returns-clause-outside
 returns-clause-outside g c = calls.outside c.args.words.now c.args.moment (g.I.Inputs.shown c.args.inputs.now) (g.I.Inputs.shown c.call.new.inputs) (g.S.Site.shown c.args.site.now) (g.S.Site.shown c.call.new.site) (g.O.Sink.shown c.args.out.now) (g.O.Sink.shown c.call.new.out) (g.P.Patterns.shown c.args.pats.now) (g.P.Patterns.shown c.call.new.pats) c.call.result c.call.ensures
@@ -57,7 +60,7 @@ pub returns-clause-memory_told : goal.returns-clause-memory_told
 returns-clause-memory_told g c = calls.memory_told c.args.words.now c.args.moment (g.I.Inputs.shown c.args.inputs.now) (g.I.Inputs.shown c.call.new.inputs) (g.S.Site.shown c.args.site.now) (g.S.Site.shown c.call.new.site) (g.O.Sink.shown c.args.out.now) (g.O.Sink.shown c.call.new.out) (g.P.Patterns.shown c.args.pats.now) (g.P.Patterns.shown c.call.new.pats) c.call.result c.call.ensures
 
 pub returns-clause-pattern_or_visits : goal.returns-clause-pattern_or_visits
-returns-clause-pattern_or_visits g c = calls.pattern_or_visits c.args.words.now c.args.moment (g.I.Inputs.shown c.args.inputs.now) (g.I.Inputs.shown c.call.new.inputs) (g.S.Site.shown c.args.site.now) (g.S.Site.shown c.call.new.site) (g.O.Sink.shown c.args.out.now) (g.O.Sink.shown c.call.new.out) (g.P.Patterns.shown c.args.pats.now) (g.P.Patterns.shown c.call.new.pats) c.call.result c.call.ensures
+returns-clause-pattern_or_visits g c = calls.pattern_or_visits c.args.words.now c.args.moment (g.I.Inputs.shown c.args.inputs.now) (g.I.Inputs.shown c.call.new.inputs) (g.S.Site.shown c.args.site.now) (g.S.Site.shown c.call.new.site) (g.O.Sink.shown c.args.out.now) (g.O.Sink.shown c.call.new.out) (g.P.Patterns.shown c.args.pats.now) (g.P.Patterns.shown c.call.new.pats) c.call.result c.a_policy_is_run_in_one_setting.ensures c.call.ensures
 
 pub returns-clause-patterns_kept : goal.returns-clause-patterns_kept
 returns-clause-patterns_kept g c = calls.patterns_kept c.args.words.now c.args.moment (g.I.Inputs.shown c.args.inputs.now) (g.I.Inputs.shown c.call.new.inputs) (g.S.Site.shown c.args.site.now) (g.S.Site.shown c.call.new.site) (g.O.Sink.shown c.args.out.now) (g.O.Sink.shown c.call.new.out) (g.P.Patterns.shown c.args.pats.now) (g.P.Patterns.shown c.call.new.pats) c.call.result c.call.ensures
