@@ -3,7 +3,6 @@ use Rattle.std.proofs.Common.{◌≡◌, ◌⊎◌, inl, inr, ℕ, Bool, List, S
 use Rattle.cfa_base.specs.Shown.{Shown, Follows}
 use Rattle.cfa_words.specs.declared.words.Request.{Request}
 use Rattle.cfa_words.specs.declared.words.Request.TheVariants as request
-use Rattle.cfa_words.specs.Words.{asked}
 use Rattle.cfa_outside.specs.Inputs.{Library}
 use Rattle.cfa_outside.specs.Sinks.{adds_bytes}
 use Rattle.cfa_outside.specs.Sites.{Told}
