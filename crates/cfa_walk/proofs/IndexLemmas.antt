@@ -1,10 +1,13 @@
--- What is found in an index of names is in the list.
-use Rattle.std.proofs.Common.{◌≡◌, ℕ, ◌+◌, Bool, true, false, ◌||◌, cond, List, [], ◌∷◌, Option, Some, is_some, refl, sym, ap, ◌∙◌}
+-- What is found in an index of names, or of instances, is in the list.
+use Rattle.std.proofs.Common.{◌≡◌, ℕ, ◌+◌, Bool, true, false, ◌||◌, ◌&&◌, cond, List, [], ◌∷◌, map, Option, Some, is_some, position, refl, sym, ap, ◌∙◌}
 use Rattle.std.specs.List.{list_any, position_from}
 use Rattle.std.specs.Str.{bytes_eq}
 use Rattle.std.proofs.lemmas.Cmp.{nat_list_eq_equiv}
 use Rattle.std.proofs.lemmas.Iterator.Adapters.{position_from-zero}
-use Rattle.cfa_base.specs.Index.{place_of}
+use Rattle.cfa_base.specs.Index.{place_of, same_pair, pair_place_of}
+use Rattle.cfa_resolve.specs.declared.instances.Instance.{Instance}
+use Rattle.cfa_walk.specs.History.{is_named}
+use Rattle.cfa_walk.specs.Logs.{name_of}
 use Rattle.cfa_walk.specs.Passes.{is_among}
 
 found_from : {X : Type 0} (test : X → Bool) (xs : List X) (i : ℕ) → is_some (position_from test i xs) ≡ list_any test xs
@@ -26,6 +29,23 @@ pub class_among : (classes : List (List ℕ)) (class : List ℕ) → is_some (pl
 class_among classes class =
     ap is_some (position_from-zero (λ other. bytes_eq class other) classes)
     ∙ (found_from (λ other. bytes_eq class other) classes 0 ∙ turned classes class)
+
+same_instance : (path text : List ℕ) (instance : Instance) → same_pair (path, text) (name_of instance) ≡ is_named path text instance
+same_instance path text instance =
+    ap (λ (b : Bool). b && bytes_eq text instance.text) (same_bytes path instance.path)
+    ∙ ap (λ (b : Bool). bytes_eq instance.path path && b) (same_bytes text instance.text)
+
+place_from : (path text : List ℕ) (instances : List Instance) (i : ℕ) →
+    position_from (same_pair (path, text)) i (map name_of instances) ≡ position_from (is_named path text) i instances
+place_from path text [] i = refl
+place_from path text (x ∷ xs) i =
+    ap (λ (b : Bool). cond b (Some i) (position_from (same_pair (path, text)) (i + 1) (map name_of xs))) (same_instance path text x)
+    ∙ ap (λ (o : Option ℕ). cond (is_named path text x) (Some i) o) (place_from path text xs (i + 1))
+
+pub place_is : (path text : List ℕ) (instances : List Instance) → pair_place_of (map name_of instances) (path, text) ≡ position (is_named path text) instances
+place_is path text instances =
+    position_from-zero (same_pair (path, text)) (map name_of instances)
+    ∙ (place_from path text instances 0 ∙ sym (position_from-zero (is_named path text) instances))
 
 module _ (classes list : List (List ℕ)) (class text : List ℕ) (found : Option ℕ) (are : list ≡ classes) (same : text ≡ class) (is : found ≡ place_of list text) where
   -- whether a class is found is whether it is in the list

@@ -1,5 +1,5 @@
--- Where instances stand, in a list and in the table of their places.
-use Rattle.std.proofs.Common.{◌≡◌, ℕ, suc, ◌+◌, ◌<◌, Bool, true, false, cond, ◌&&◌, List, [], ◌∷◌, ◌++◌, length, map, get_or, Option, Some, None, is_some, refl, sym, ap, subst, ◌∙◌, arith}
+-- Where instances stand in a list, and in the table of places.
+use Rattle.std.proofs.Common.{◌≡◌, ◌⊎◌, ℕ, zero, suc, Bool, true, false, cond, ◌&&◌, List, [], ◌∷◌, ◌++◌, length, Option, Some, None, inl, inr, refl, sym, ap, subst, ◌∙◌}
 use Rattle.std.proofs.lemmas.Map.Steps.{set_value_same}
 use Rattle.std.proofs.lemmas.Map.Text.{btree_map_updates_text}
 use Rattle.std.specs.BTreeMap as tree
@@ -8,18 +8,16 @@ use Rattle.std.specs.Ordering.{nat_cmp}
 use Rattle.std.specs.Prelude.{String, IsSome, option_and_then, unwrap_or}
 use Rattle.std.specs.String.{string_bytes, string_cmp}
 use Rattle.std.specs.FinMap as finite
-use Rattle.std.specs.List.{position, position_from}
 use Rattle.std.specs.Option.{option_or}
 use Rattle.std.specs.Str.{bytes_eq}
 use Rattle.std.proofs.lemmas.Bool.{false≢true}
-use Rattle.std.proofs.lemmas.Iterator.Adapters.{position_from-zero}
 use Rattle.std.proofs.lemmas.Slice.Eq.{bytes_eq-Decides}
 use Rattle.cfa_base.specs.TextMaps.{TextMap, text_cmp, text_map}
 use Rattle.cfa_base.specs.lemmas.TextMaps.{get-put, get-text_map, text_map-put, same_texts}
 use Rattle.cfa_resolve.specs.declared.instances.Instance.{Instance}
 use Rattle.cfa_walk.specs.History.{is_named}
 use Rattle.cfa_walk.specs.Logs.{name_of}
-use Rattle.cfa_walk.specs.Places.{Places, placed, with_place, NotesPlace, HasPlaces}
+use Rattle.cfa_walk.specs.Places.{Places, placed, with_place, seen_at, NotesPlace, HasPlaces}
 
 option_or-none : {A : Type 0} → (o : Option A) → option_or o None ≡ o
 option_or-none None = refl
@@ -37,42 +35,15 @@ named path text x is =
 
 -- ---- a list
 
-position_from-push : {X : Type 0} (p : X → Bool) → (xs : List X) (y : X) (i j : ℕ) → j ≡ i + length xs
-    → position_from p i (xs ++ y ∷ []) ≡ option_or (position_from p i xs) (cond (p y) (Some j) None)
-position_from-push p [] y i j e = ap (λ k. cond (p y) (Some k) None) (omega arith)
-position_from-push p (x ∷ xs) y i j e =
-    let more = position_from-push p xs y (i + 1) j (omega arith) in
-    elim (p x) as (λ b. cond b (Some i) (position_from p (i + 1) (xs ++ y ∷ [])) ≡ option_or (cond b (Some i) (position_from p (i + 1) xs)) (cond (p y) (Some j) None))
-    [ true ↦ refl | false ↦ more ]
+-- what stands at a place stays there
+pub seen_push : (xs : List Instance) (x : Instance) (place : ℕ) (name : List ℕ × List ℕ) → seen_at xs place ≡ Some name → seen_at (xs ++ x ∷ []) place ≡ Some name
+seen_push [] x place name e = cc
+seen_push (y ∷ ys) x zero name e = e
+seen_push (y ∷ ys) x (suc place) name e = seen_push ys x place name e
 
-pub position-push : {X : Type 0} (p : X → Bool) (xs : List X) (y : X) → position p (xs ++ y ∷ []) ≡ option_or (position p xs) (cond (p y) (Some (length xs)) None)
-position-push p xs y =
-    position_from-zero p (xs ++ y ∷ []) ∙ position_from-push p xs y 0 (length xs) (omega arith)
-    ∙ ap (λ o. option_or o (cond (p y) (Some (length xs)) None)) (sym (position_from-zero p xs))
-
--- the instance at a place that was found
-abbrev pub StandsAt : List Instance → (path text : List ℕ) → (i place : ℕ) → Type 0
-StandsAt xs path text i place = (k : ℕ) × (place ≡ i + k) × (k < length xs) × (get_or (map name_of xs) k ([], []) ≡ (path, text))
-
-found_from : (path text : List ℕ) (xs : List Instance) (i place : ℕ) → position_from (is_named path text) i xs ≡ Some place → StandsAt xs path text i place
-found_from path text [] i place e = cc
-found_from path text (x ∷ xs) i place e =
-    elim (is_named path text x) as (λ b. is_named path text x ≡ b → cond b (Some i) (position_from (is_named path text) (i + 1) xs) ≡ Some place → StandsAt (x ∷ xs) path text i place) [
-      | true ↦ λ is here.
-          let names = named path text x is in
-          let one : place ≡ i = ap (λ (o : Option ℕ). unwrap_or o 0) (sym here) in
-          (0, omega (arith, one), omega arith, λ j. (names.0 j, names.1 j))
-      | false ↦ λ _ later.
-          let r = found_from path text xs (i + 1) place later in
-          (suc r.0, omega (arith, r.1), omega (arith, r.2), r.3)
-    ] refl e
-
-pub found_place : (path text : List ℕ) (xs : List Instance) (place : ℕ) → position (is_named path text) xs ≡ Some place →
-    (place < length xs) × (get_or (map name_of xs) place ([], []) ≡ (path, text))
-found_place path text xs place e =
-    let r = found_from path text xs 0 place (sym (position_from-zero (is_named path text) xs) ∙ e) in
-    let same : place ≡ r.0 = omega (arith, r.1) in
-    (omega (arith, r.1, r.2), ap (λ n. get_or (map name_of xs) n ([], [])) same ∙ r.3)
+pub seen_new : (xs : List Instance) (x : Instance) → seen_at (xs ++ x ∷ []) (length xs) ≡ Some (name_of x)
+seen_new [] x = refl
+seen_new (y ∷ ys) x = seen_new ys x
 
 -- ---- the table
 
@@ -94,52 +65,41 @@ placed-with_place m path text place p t =
       | false ↦ λ _. refl
     ] refl
 
-none_is : (o : Option ℕ) → is_some o ≡ false → o ≡ None
-none_is None e = refl
-none_is (Some x) e = cc
+no_place : {A : Type 0} (place : ℕ) → ◌≡◌ {A = Option ℕ} None (Some place) → A
+no_place place e = cc
 
 module _ (m : Places) (x : Instance) (place : ℕ) where
-  noted_by : (none : placed m x.path x.text ≡ None) (p t : List ℕ) (b : Bool) → is_named p t x ≡ b →
-      cond b (Some place) (placed m p t) ≡ option_or (placed m p t) (cond b (Some place) None)
-  noted_by none p t true is =
-      let names = named p t x is in
-      ap (λ o. option_or o (Some place)) (sym (ap (λ q. placed m q t) (sym names.0) ∙ ap (placed m x.path) (sym names.1) ∙ none))
-  noted_by none p t false is = sym (option_or-none (placed m p t))
+  noted_by : (path text : List ℕ) (known : ℕ) (b : Bool) → is_named path text x ≡ b → cond b (Some place) (placed m path text) ≡ Some known
+      → (placed m path text ≡ Some known) ⊎ ((name_of x ≡ (path, text)) × (known ≡ place))
+  noted_by path text known true is e =
+      let names = named path text x is in
+      inr ((λ j. (names.0 j, names.1 j)), ap (λ (o : Option ℕ). unwrap_or o 0) (sym e))
+  noted_by path text known false is e = inl e
 
-  -- an instance that had no place has this one
-  pub notes_place : (n : Places) (path text : List ℕ) (number : ℕ) → path ≡ x.path → text ≡ x.text → number ≡ place → is_some (placed m x.path x.text) ≡ false → n ≡ with_place m path text number →
-      NotesPlace m n x place
-  notes_place n path text number by_path by_text by_place none is p t =
-      ap (λ k. placed k p t) (is ∙ ap (λ q. with_place m q text number) by_path ∙ ap (λ q. with_place m x.path q number) by_text ∙ ap (with_place m x.path x.text) by_place)
-      ∙ placed-with_place m x.path x.text place p t ∙ noted_by (none_is (placed m x.path x.text) none) p t (is_named p t x) refl
+  -- an instance that is noted has this place
+  pub notes_place : (n : Places) (path text : List ℕ) (number : ℕ) → path ≡ x.path → text ≡ x.text → number ≡ place → n ≡ with_place m path text number → NotesPlace m n x place
+  notes_place n path text number by_path by_text by_place is p t known there =
+      noted_by p t known (is_named p t x) refl
+      (sym (ap (λ k. placed k p t) (is ∙ ap (λ q. with_place m q text number) by_path ∙ ap (λ q. with_place m x.path q number) by_text ∙ ap (with_place m x.path x.text) by_place)
+      ∙ placed-with_place m x.path x.text place p t) ∙ there)
 
-  kept_by : (known : ℕ) → placed m x.path x.text ≡ Some known → (p t : List ℕ) (b : Bool) → is_named p t x ≡ b →
-      placed m p t ≡ option_or (placed m p t) (cond b (Some place) None)
-  kept_by known some p t true is =
-      let names = named p t x is in
-      let there : placed m p t ≡ Some known = ap (λ q. placed m q t) (sym names.0) ∙ ap (placed m x.path) (sym names.1) ∙ some in
-      there ∙ ap (λ o. option_or o (Some place)) (sym there)
-  kept_by known some p t false is = sym (option_or-none (placed m p t))
-
-  -- one that had a place keeps it
-  pub keeps_place : (n : Places) → is_some (placed m x.path x.text) ≡ true → n ≡ m → NotesPlace m n x place
-  keeps_place n some is p t =
-      ap (λ k. placed k p t) is
-      ∙ elim (placed m x.path x.text) as (λ o. placed m x.path x.text ≡ o → is_some o ≡ true → placed m p t ≡ option_or (placed m p t) (cond (is_named p t x) (Some place) None)) [
-        | None ↦ λ _ there. absurd (false≢true there)
-        | Some known ↦ λ e _. kept_by known e p t (is_named p t x) refl
-      ] refl some
+  -- one that isn't noted changes nothing
+  pub keeps_place : (n : Places) → n ≡ m → NotesPlace m n x place
+  keeps_place n is p t known there = inl (sym (ap (λ k. placed k p t) is) ∙ there)
 
 -- the table of a list with one more instance
+more_by : (m : Places) (xs : List Instance) (x : Instance) (p t : List ℕ) (place : ℕ) → HasPlaces m xs
+    → (placed m p t ≡ Some place) ⊎ ((name_of x ≡ (p, t)) × (place ≡ length xs)) → seen_at (xs ++ x ∷ []) place ≡ Some (p, t)
+more_by m xs x p t place has (inl old) = seen_push xs x place (p, t) (has p t place old)
+more_by m xs x p t place has (inr new) = ap (seen_at (xs ++ x ∷ [])) new.1 ∙ seen_new xs x ∙ ap (λ (n : List ℕ × List ℕ). Some n) new.0
+
 pub has_more : (m n : Places) (xs : List Instance) (x : Instance) → HasPlaces m xs → NotesPlace m n x (length xs) → HasPlaces n (xs ++ x ∷ [])
-has_more m n xs x has notes p t =
-    notes p t ∙ ap (λ o. option_or o (cond (is_named p t x) (Some (length xs)) None)) (has p t)
-    ∙ sym (position-push (is_named p t) xs x)
+has_more m n xs x has notes p t place there = more_by m xs x p t place has (notes p t place there)
 
 -- the table of no instances
 pub has_none : (m : Places) → m ≡ finite.empty → HasPlaces m []
-has_none m is p t =
-    ap (λ n. placed n p t) is ∙ ap (option_and_then (λ (texts : TextMap ℕ). finite.get texts t)) (finite.get-empty text_cmp p)
+has_none m is p t place there =
+    no_place place (sym (ap (λ n. placed n p t) is ∙ ap (option_and_then (λ (texts : TextMap ℕ). finite.get texts t)) (finite.get-empty text_cmp p)) ∙ there)
 
 -- ---- what is written through a look-up by bytes
 

@@ -1,8 +1,7 @@
 -- The rows of a log, where one more instance is listed, and the visits that they come to.
-use Rattle.std.proofs.Common.{◌≡◌, ℕ, ◌<◌, Bool, true, false, cond, List, [], ◌∷◌, ◌++◌, length, map, get_or, Option, Some, None, unwrap_or, refl, sym, ap, subst, ◌∙◌, arith}
-use Rattle.std.specs.List.{position, All}
-use Rattle.std.specs.Option.{option_or}
-use Rattle.std.proofs.lemmas.List.{map-append, length-map, length-append, get_or_append_left}
+use Rattle.std.proofs.Common.{◌≡◌, ℕ, Bool, true, false, List, [], ◌∷◌, ◌++◌, map, Option, Some, None, unwrap_or, refl, sym, ap, subst, ◌∙◌}
+use Rattle.std.specs.List.{All}
+use Rattle.std.proofs.lemmas.List.{map-append}
 use Rattle.std.proofs.lemmas.List.Elements.{All-head, All-tail, All-weaker, All-push}
 use Rattle.cfa_classes.specs.declared.levels.Status.{Status}
 use Rattle.cfa_resolve.specs.declared.instances.Instance.{Instance}
@@ -14,11 +13,12 @@ use Rattle.cfa_walk.specs.declared.waits.Wait.{Wait}
 use Rattle.cfa_walk.specs.declared.walks.Blame.{Blame}
 use Rattle.cfa_walk.specs.declared.walks.Visit.{Visit}
 use Rattle.cfa_walk.specs.declared.walks.Walk.{Walk}
-use Rattle.cfa_walk.specs.History.{is_named}
-use Rattle.cfa_walk.specs.LogRows.{name_at, listing_at, IsFound, IsPlaced, IsOf, place_at, visit_at}
+use Rattle.std.specs.Prelude.{IsSome}
+use Rattle.cfa_walk.specs.LogRows.{name_at, listing_at, IsFound, IsPlaced, IsOf, visit_at}
+use Rattle.cfa_walk.specs.Places.{seen_at}
 use Rattle.cfa_walk.specs.Logs.{Rows, name_of, with_visit, walk_of}
 use Rattle.cfa_walk.specs.Walks.{with_first, blame_by, visit_of}
-use Rattle.cfa_walk.proofs.PlaceLemmas.{found_place, position-push}
+use Rattle.cfa_walk.proofs.PlaceLemmas.{seen_push}
 
 -- ---- one more instance
 
@@ -26,20 +26,14 @@ use Rattle.cfa_walk.proofs.PlaceLemmas.{found_place, position-push}
 abbrev Stays : (xs ys : List Instance) → RowOf → Type 0
 Stays xs ys of = (name_at ys of ≡ name_at xs of) × IsFound ys of
 
+stays_by : (xs : List Instance) (x : Instance) (place : ℕ) (o : Option (List ℕ × List ℕ)) → seen_at xs place ≡ o → IsSome o → Stays xs (xs ++ x ∷ []) (Placed place)
+stays_by xs x place None e found = cc
+stays_by xs x place (Some name) e found =
+    let same = seen_push xs x place name e in
+    (ap (λ (o : Option (List ℕ × List ℕ)). unwrap_or o ([], [])) (same ∙ sym e), subst IsSome (sym same) found)
+
 more_stays : (xs : List Instance) (x : Instance) (of : RowOf) → IsFound xs of → Stays xs (xs ++ x ∷ []) of
-more_stays xs x (Placed place) found =
-    let n = name_at xs (Placed place) in
-    let same : name_at (xs ++ x ∷ []) (Placed place) ≡ n =
-    ap (λ names. get_or names place ([], [])) (map-append name_of xs (x ∷ []))
-    ∙ get_or_append_left (map name_of xs) (name_of x ∷ []) ([], []) place (subst (λ k. place < k) (sym (length-map xs name_of)) found.0) in (
-      same,
-      (
-        subst (λ k. place < k) (sym (length-append xs (x ∷ []))) (omega (arith, found.0)),
-        ap (λ (m : List ℕ × List ℕ). position (is_named m.0 m.1) (xs ++ x ∷ [])) same
-            ∙ position-push (is_named n.0 n.1) xs x
-            ∙ ap (λ o. option_or o (cond (is_named n.0 n.1 x) (Some (length xs)) None)) found.1,
-      ),
-    )
+more_stays xs x (Placed place) found = stays_by xs x place (seen_at xs place) refl found
 more_stays xs x (Named path text) found = (refl, tt)
 
 first_stays : (first : Bool) (xs : List Instance) (x : Instance) (of : RowOf) → IsFound xs of → Stays xs (with_first first x xs) of
@@ -83,38 +77,24 @@ module _ (first : Bool) (xs ys : List Instance) (x : Instance) (is : ys ≡ with
 
 -- ---- the instance of a visit
 
--- the place that was found of an instance
-pub is_of_found : (xs : List Instance) (x : Instance) (path text : List ℕ) (found : Option ℕ) (place : ℕ) → path ≡ x.path → text ≡ x.text →
-    found ≡ position (is_named path text) xs → found ≡ Some place → IsOf xs (Placed place) x
-is_of_found xs x path text found place by_path by_text is some =
-    let at : position (is_named x.path x.text) xs ≡ Some place =
-    sym (is ∙ (ap (λ p. position (is_named p text) xs) by_path ∙ ap (λ t. position (is_named x.path t) xs) by_text)) ∙ some in
-    let stands = found_place x.path x.text xs place at in
-    (stands.1, (stands.0, ap (λ (m : List ℕ × List ℕ). position (is_named m.0 m.1) xs) stands.1 ∙ at))
+-- it stands at a place
+pub is_of_seen : (xs : List Instance) (x : Instance) (place : ℕ) → seen_at xs place ≡ Some (name_of x) → IsOf xs (Placed place) x
+is_of_seen xs x place is = (ap (λ (o : Option (List ℕ × List ℕ)). unwrap_or o ([], [])) is, subst IsSome (sym is) refl)
 
 pub is_of_named : (xs : List Instance) (x : Instance) (path text : List ℕ) → path ≡ x.path → text ≡ x.text → IsOf xs (Named path text) x
 is_of_named xs x path text by_path by_text = (λ i. (by_path i, by_text i), tt)
 
-place_is : (xs : List Instance) (row : Row) → IsPlaced xs row → visit_at xs row ≡ visit_of xs (listing_at xs row)
-place_is xs row found =
-    ap (λ (n : ℕ). let visit : Visit = record { instance = n; status = row.status; blame = row.blame } in visit) (at row.of found) where
-      at : (of : RowOf) → IsFound xs of → place_at xs of ≡ unwrap_or (position (is_named (name_at xs of).0 (name_at xs of).1) xs) 0
-      at (Placed place) is = ap (λ (o : Option ℕ). unwrap_or o 0) (sym is.1)
-      at (Named path text) is = refl
-
 -- each row comes to the visit of its listing
-pub visits_are : (xs : List Instance) (rows : List Row) → All (IsPlaced xs) rows → map (visit_at xs) rows ≡ map (visit_of xs) (map (listing_at xs) rows)
-visits_are xs [] placed = refl
-visits_are xs (row ∷ rows) placed =
-    ap (λ (v : Visit). v ∷ map (visit_at xs) rows) (place_is xs row (All-head (IsPlaced xs) row rows placed))
-    ∙ ap (λ (vs : List Visit). visit_of xs (listing_at xs row) ∷ vs) (visits_are xs rows (All-tail (IsPlaced xs) row rows placed))
+visits_are : (xs : List Instance) (rows : List Row) → map (visit_at xs) rows ≡ map (visit_of xs) (map (listing_at xs) rows)
+visits_are xs [] = refl
+visits_are xs (row ∷ rows) = ap (λ (vs : List Visit). visit_at xs row ∷ vs) (visits_are xs rows)
 
 -- the walk of a log that is kept so
-pub walk_is : (xs : List Instance) (rows : List Row) (unsettled : List Blame) (log : Rows) (instances : List Instance) (visits : List Visit) (blames : List Blame) → All (IsPlaced xs) rows →
+pub walk_is : (xs : List Instance) (rows : List Row) (unsettled : List Blame) (log : Rows) (instances : List Instance) (visits : List Visit) (blames : List Blame) →
     ◌≡◌ {A = Rows} (xs, map (listing_at xs) rows, unsettled) log → instances ≡ xs → visits ≡ map (visit_at xs) rows → blames ≡ unsettled →
     ◌≡◌ {A = Walk} (record { instances = instances; visits = visits; unsettled = blames }) (walk_of log)
-walk_is xs rows unsettled log instances visits blames placed view by_instances by_visits by_blames =
-    let all : visits ≡ map (visit_of xs) (map (listing_at xs) rows) = by_visits ∙ visits_are xs rows placed in
+walk_is xs rows unsettled log instances visits blames view by_instances by_visits by_blames =
+    let all : visits ≡ map (visit_of xs) (map (listing_at xs) rows) = by_visits ∙ visits_are xs rows in
     let kept : Rows = (xs, map (listing_at xs) rows, unsettled) in
     let parts : ◌≡◌ {A = Walk} (record { instances = instances; visits = visits; unsettled = blames }) (walk_of kept) =
     λ i. record { instances = by_instances i; visits = all i; unsettled = by_blames i } in

@@ -1,13 +1,13 @@
 // What is kept of a walk while it is made.
 ghost use Rattle.std.specs.Prelude.{◌≡◌, ◌∷◌, [], IfOk, OnOk, OnErr, map, option_copied};
-ghost use Rattle.cfa_walk.specs.LogRows.{IsOf, place_at, visit_at};
-ghost use Rattle.cfa_walk.specs.Logs.{with_visit, with_blames, walk_of};
-ghost use Rattle.cfa_walk.specs.Walks.{blame_for, blame_by, with_first};
+ghost use Rattle.cfa_walk.specs.LogRows.{IsOf, name_at, visit_at};
+ghost use Rattle.cfa_walk.specs.Logs.{with_visit, with_blames, name_of, walk_of};
+ghost use Rattle.cfa_walk.specs.Walks.{blame_for, blame_by, place_among, with_first};
 
-use crate::register::Register;
+use crate::register::{Register, short};
 use crate::waits::Wait;
 use crate::walks::{Blame, Blames, Visit, Visits, Walk};
-use cfa_base::{Name, NoMemory, PromiseId};
+use cfa_base::{Name, NoMemory, PairIndex, PromiseId};
 use cfa_classes::Status;
 use cfa_resolve::{Instance, Instances, copy_id};
 use std::alloc::Global;
@@ -22,14 +22,15 @@ pub struct Listing {
     pub blame: Option<Blame>,
 }
 
-// The instance of a visit: its place, or its path and key text where it isn't listed.
+// The instance of a visit: its place, or its path and key text where no place is known of it.
 #[derive(Drop)]
 pub(crate) enum RowOf {
     Placed(u32),
     Named(Name, Name),
 }
 
-// A visit as it is kept. It has no key text of its own where its instance is listed: a key text holds the whole content of a file.
+// A visit as it is kept. It has no key text of its own where its instance is listed: a key text holds the whole content of a file. In a
+// run each visit but the first of an instance comes where those before it may come or not, and so has the place that was noted.
 #[derive(Drop)]
 pub(crate) struct Row {
     pub of: RowOf,
@@ -89,22 +90,6 @@ fn blame_by(
     }
 }
 
-// Adds an instance that is visited for the first time.
-fn add_first(
-    alloc: Global,
-    instances: &mut Register,
-    instance: &Instance,
-    is_first: bool,
-) -> Result<(), NoMemory>
-    ensures ok { OnOk result (instances.new ≡ with_first is_first instance.now instances.old) }
-    ensures err { OnErr result (instances.new ≡ instances.old) }
-{
-    if is_first {
-        instances.add(alloc, instance)?;
-    }
-    Ok(())
-}
-
 fn row_of(alloc: Global, instances: &Register, instance: &Instance) -> Result<RowOf, NoMemory>
     ensures { IfOk result (λ of. IsOf instances.now of instance.now) }
 {
@@ -113,6 +98,24 @@ fn row_of(alloc: Global, instances: &Register, instance: &Instance) -> Result<Ro
         Some(place) => Ok(RowOf::Placed(place)),
         None => Ok(RowOf::Named(path.copy(alloc)?, text.copy(alloc)?)),
     }
+}
+
+// Adds an instance that is visited for the first time, and answers what a visit of it is kept by.
+fn note_visit(
+    alloc: Global,
+    instances: &mut Register,
+    instance: &Instance,
+    status: Status,
+    is_first: bool,
+) -> Result<RowOf, NoMemory>
+    ensures ok { OnOk result (instances.new ≡ with_first is_first instance.now instances.old) }
+    ensures of { IfOk result (λ of. IsOf instances.new of instance.now) }
+    ensures err { OnErr result (instances.new ≡ instances.old) }
+{
+    if is_first {
+        return Ok(RowOf::Placed(instances.add(alloc, instance, status)?));
+    }
+    row_of(alloc, instances, instance)
 }
 
 impl Log {
@@ -140,8 +143,7 @@ impl Log {
             (option_copied waits.entry) self.old) }
     {
         let blame = blame_by(alloc, status, is_first, &instance.source, waits)?;
-        add_first(alloc, &mut self.instances, instance, is_first)?;
-        let of = row_of(alloc, &self.instances, instance)?;
+        let of = note_visit(alloc, &mut self.instances, instance, status, is_first)?;
         self.rows.push(Row { of, status, blame })?;
         Ok(())
     }
@@ -157,31 +159,60 @@ impl Log {
 
 // ---- the walk
 
-fn place_at(instances: &Register, of: &RowOf) -> u32
-    ensures { result ≡ place_at instances.now of.now }
+// The paths and key texts of instances.
+fn names_of<'a>(alloc: Global, instances: &'a [Instance]) -> Result<PairIndex<'a>, NoMemory>
+    ensures { IfOk result (λ names. names ≡ map name_of instances.entry.now) }
+{
+    let mut names = PairIndex::new(alloc);
+    for instance in instances {
+        names.add(instance.path.as_str(), instance.text.as_str())?;
+    }
+    Ok(names)
+}
+
+// The path and the key text of a visit.
+fn name_at<'a>(instances: &'a [Instance], of: &'a RowOf) -> (&'a str, &'a str)
+    ensures path { result.0.now ≡ (name_at instances.entry.now of.entry.now).0 }
+    ensures text { result.1.now ≡ (name_at instances.entry.now of.entry.now).1 }
 {
     match of {
-        RowOf::Placed(place) => *place,
-        RowOf::Named(path, text) => instances.find(path, text).unwrap_or(0),
+        RowOf::Placed(place) => match instances.get(*place as usize) {
+            Some(instance) => (instance.path.as_str(), instance.text.as_str()),
+            None => ("", ""),
+        },
+        RowOf::Named(path, text) => (path.as_str(), text.as_str()),
     }
 }
 
-fn visit_at(instances: &Register, row: Row) -> Visit
-    ensures { result ≡ visit_at instances.now row }
+// The first place of the names of a visit, or 0.
+fn place_of(names: &PairIndex<'_>, instances: &[Instance], of: &RowOf) -> usize
+    requires { names.now ≡ map name_of instances.now }
+    ensures { result ≡ place_among instances.now (name_at instances.now of.now).0
+        (name_at instances.now of.now).1 }
 {
-    Visit {
-        instance: place_at(instances, &row.of),
+    let (path, text) = name_at(instances, of);
+    names.find(path, text).unwrap_or(0)
+}
+
+fn visit_at(names: &PairIndex<'_>, instances: &[Instance], row: Row) -> Result<Visit, NoMemory>
+    requires { names.now ≡ map name_of instances.now }
+    ensures { IfOk result (λ visit. visit ≡ visit_at instances.now row) }
+{
+    let instance = short(place_of(names, instances, &row.of))?;
+    Ok(Visit {
+        instance,
         status: row.status,
         blame: row.blame,
-    }
+    })
 }
 
-fn visits_at(alloc: Global, instances: &Register, rows: Vec<Row>) -> Result<Visits, NoMemory>
+fn visits_at(alloc: Global, instances: &[Instance], rows: Vec<Row>) -> Result<Visits, NoMemory>
     ensures { IfOk result (λ visits. visits ≡ map (visit_at instances.now) rows.items) }
 {
+    let names = names_of(alloc, instances)?;
     let mut visits = Vec::new(alloc);
     for row in rows {
-        visits.push(visit_at(instances, row))?;
+        visits.push(visit_at(&names, instances, row)?)?;
     }
     Ok(Visits::from_vec(visits))
 }
@@ -193,7 +224,7 @@ pub(crate) fn walk_of(alloc: Global, log: Log) -> Result<Walk, NoMemory>
     let rows = log.rows;
     let instances = log.instances;
     let unsettled = log.unsettled;
-    let visits = visits_at(alloc, &instances, rows)?;
+    let visits = visits_at(alloc, instances.as_slice(), rows)?;
     Ok(Walk {
         instances: Instances::from_vec(instances.into_vec()),
         visits,

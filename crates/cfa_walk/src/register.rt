@@ -1,11 +1,11 @@
-// The instances that were listed, and where each stands.
-ghost use Rattle.std.specs.Prelude.{◌≡◌, [], ◌∷◌, ◌++◌, OnOk, OnErr};
+// The instances that were listed, and where those stand that may be visited again.
+ghost use Rattle.std.specs.Prelude.{◌≡◌, [], ◌∷◌, ◌++◌, Some, IfOk, IfSome, OnOk, OnErr};
 ghost use Rattle.std.specs.FinMap as finite;
-ghost use Rattle.std.specs.List.{position};
-ghost use Rattle.cfa_walk.specs.History.{is_named};
-ghost use Rattle.cfa_walk.specs.Places.{placed, with_place, NotesPlace};
+ghost use Rattle.cfa_walk.specs.Logs.{name_of};
+ghost use Rattle.cfa_walk.specs.Places.{placed, with_place, seen_at, NotesPlace};
 
 use cfa_base::{Name, NoMemory, TextMap};
+use cfa_classes::Status;
 use cfa_resolve::Instance;
 use std::alloc::Global;
 use std::collections::BTreeMap;
@@ -63,27 +63,37 @@ impl Places {
     }
 }
 
-// Notes the place of an instance that has none. A place that is no `u32` is out of the reach of any memory.
-fn note_if_new(
+// Notes the place of an instance that may be visited again, since this visit comes in some runs alone.
+fn note_if_unsure(
     alloc: Global,
     places: &mut Places,
     instance: &Instance,
-    place: usize,
+    status: Status,
+    place: u32,
 ) -> Result<(), NoMemory>
     ensures ok { OnOk result (NotesPlace places.old places.new instance.now place) }
     ensures err { OnErr result (places.new ≡ places.old) }
 {
-    let (path, text) = (&instance.path, &instance.text);
-    if places.find(path, text).is_some() {
-        return Ok(());
+    match status {
+        Status::Maybe => {
+            let (path, text) = (instance.path.copy(alloc)?, instance.text.copy(alloc)?);
+            places.note(alloc, path, text, place)
+        }
+        Status::No | Status::Yes => Ok(()),
     }
+}
+
+/// A place that is no `u32` is out of the reach of any memory.
+pub(crate) fn short(place: usize) -> Result<u32, NoMemory>
+    ensures { IfOk result (λ short. short ≡ place) }
+{
     match u32::try_from(place) {
-        Ok(place) => places.note(alloc, path.copy(alloc)?, text.copy(alloc)?, place),
+        Ok(place) => Ok(place),
         Err(_) => Err(NoMemory),
     }
 }
 
-/// Instances, each found by its path and key text. Contracts see the list.
+/// Instances. Those that may be visited again are found by their paths and key texts. Contracts see the list.
 #[derive(Drop)]
 pub(crate) struct Register {
     instances: Vec<Instance>,
@@ -113,24 +123,38 @@ impl Register {
         }
     }
 
-    /// The first place of an instance, without taking memory.
+    /// A place of an instance, if one was noted, without taking memory.
     pub fn find(&self, path: &Name, text: &Name) -> Option<u32>
-        ensures { result ≡ position (is_named path.now text.now) self.now }
+        ensures { IfSome result (λ place. seen_at self.now place ≡ Some (path.now, text.now)) }
     {
         self.places.find(path, text)
     }
 
-    /// Adds an instance at the end. After want of memory the list is as it was.
-    pub fn add(&mut self, alloc: Global, instance: &Instance) -> Result<(), NoMemory>
+    /// Adds an instance at the end, which was visited with this status first, and answers its place. After want of memory the list
+    /// is as it was.
+    pub fn add(
+        &mut self,
+        alloc: Global,
+        instance: &Instance,
+        status: Status,
+    ) -> Result<u32, NoMemory>
         ensures ok { OnOk result (self.new ≡ self.old ++ instance.now ∷ []) }
+        ensures place { IfOk result (λ place. seen_at self.new place ≡ Some (name_of instance.now)) }
         ensures err { OnErr result (self.new ≡ self.old) }
     {
+        let place = short(self.instances.len())?;
         let copy = instance.copy(alloc)?;
-        let place = self.instances.len();
         self.instances.reserve(1)?;
-        note_if_new(alloc, &mut self.places, instance, place)?;
+        note_if_unsure(alloc, &mut self.places, instance, status, place)?;
         self.instances.push(copy).unwrap();
-        Ok(())
+        Ok(place)
+    }
+
+    /// The instances, without taking memory.
+    pub fn as_slice(&self) -> &[Instance]
+        ensures { result.now ≡ self.now }
+    {
+        self.instances.as_slice()
     }
 
     /// The instances, without taking memory.
