@@ -18,7 +18,7 @@ use Rattle.cfa_agent.specs.declared.running.Tally.{Tally}
 use Rattle.cfa_agent.specs.Actuations.{mark_of}
 use Rattle.cfa_agent.specs.Ending.{StopsPut}
 use Rattle.cfa_agent.specs.Marks.{marks_of}
-use Rattle.cfa_agent.specs.Ran.{started, counts_of, IsWhole, IsCutOff, RunsAs, IfBothTold, StopsRun, Refuses, RunBuilds, text_too_big}
+use Rattle.cfa_agent.specs.Ran.{started, counts_of, IsWhole, RunsAs, IfBothTold, StopsRun, Refuses, RunBuilds, text_too_big}
 use Rattle.cfa_agent.specs.Runs.{Counts, real, run_of, log_of, lines_of, tally_of, history_of, last_line, log_in, tally_in}
 use Rattle.cfa_agent.specs.Standing.{Given, Standing, IsBehind, Agrees, teller_of, IsFirst, since, text_in}
 use Rattle.cfa_agent.specs.WholeLogs.{IsWholeLog}
@@ -89,18 +89,14 @@ run_ran setting moment locks first r site site' out out1 out' begins ran put =
 
 -- ---- a run that was stopped
 
-cut_off : (course : Course) → IsTooLarge course → IsCutOff course
-cut_off (goes h) large = large
-cut_off (too_large h) large = large
-
-large_of : (setting : Setting) (moment : ℕ) (locks : Bool) (before after : Told) → IsTooLarge (run setting (real (started moment locks before after))) → IsCutOff (run_of setting (started moment locks before after))
+large_of : (setting : Setting) (moment : ℕ) (locks : Bool) (before after : Told) → IsTooLarge (run setting (real (started moment locks before after))) → IsTooLarge (run_of setting (started moment locks before after))
 unfolding run_of
-large_of setting moment locks before after large = cut_off (run setting (real (started moment locks before after))) large
+large_of setting moment locks before after large = large
 
 -- by too many visits
 pub run_large : (setting : Setting) (moment : ℕ) (locks : Bool) (first r : Running) (site site' : Shown Told) (out out' : Shown (List ℕ)) (stop : Stop) → IsFirst moment locks first → stop ≡ Visits →
     HasRun teller_of Agrees IsBehind setting (first, (site, out)) (r, (site', out')) (Err stop) →
-    IfBothTold (λ before after. IsCutOff (run_of setting (started moment locks before after))) site site'
+    IfBothTold (λ before after. IsTooLarge (run_of setting (started moment locks before after))) site site'
 run_large setting moment locks first r site site' out out' stop begins is_visits ran =
     let P : Stop → Type 0 = λ stop. HasRun teller_of Agrees IsBehind setting (first, (site, out)) (r, (site', out')) (Err stop) in
     let ran' : P Visits = subst P is_visits ran in
@@ -129,12 +125,7 @@ run_built setting moment locks first r site site' out out' (Pattern text) begins
 
 -- in the walk
 pub walk_stops : (site site' : Shown Told) (out out' : Shown (List ℕ)) (stop : Stop) → Stops (site.faults, out.faults) (site'.faults, out'.faults) stop → StopsRun site site' out out' stop
-walk_stops site site' out out' (Outside Inputs) h = h
-walk_stops site site' out out' (Outside Site) h = h
-walk_stops site site' out out' (Outside Sink) h = h
-walk_stops site site' out out' Memory h = h
-walk_stops site site' out out' Visits h = h
-walk_stops site site' out out' (Pattern text) h = h
+walk_stops site site' out out' stop h = h
 
 pub walk_refuses : (stop : Stop) (pats pats' : Shown (List (List ℕ))) → PatternsAre (Err stop) pats pats' → Refuses (text_too_big (Err stop)) pats pats'
 walk_refuses (Outside object) pats pats' h = h

@@ -5,19 +5,20 @@
 -- A run is stopped where a lock or the journal fails, where a line can't be put, where memory ends, where more visits are needed
 -- than a run may make, and where a pattern is refused for its size.
 use Rattle.std.specs.Prelude.{ℕ, ◌≡◌, Bool, List, ◌++◌, drop, length, flat_map, Option, Some, None, Result, Ok, Err, IfSome, ⊤}
-use Rattle.cfa_base.specs.Causes.{Rose}
 use Rattle.cfa_base.specs.Shown.{Shown, Follows, HasFailed}
 use Rattle.cfa_base.specs.Patterns.{refuses}
 use Rattle.cfa_outside.specs.declared.sites.Entry.{Entry}
+use Rattle.cfa_outside.specs.declared.worlds.World.{World}
 use Rattle.cfa_outside.specs.Sites.{Told, adds}
 use Rattle.cfa_outside.specs.Sinks.{adds_bytes}
-use Rattle.cfa_output.specs.declared.ends.Object.TheVariants.{Inputs, Site, Sink}
 use Rattle.cfa_output.specs.declared.ends.Stop.{Stop}
 use Rattle.cfa_output.specs.declared.ends.Stop.TheVariants.{Outside, Memory, Visits, Pattern}
 use Rattle.cfa_walk.specs.Builds.{BuiltOn}
+use Rattle.cfa_walk.specs.Levels.{Stops}
 use Rattle.cfa_walk.specs.Views.{Setting}
 use Rattle.cfa_walk.specs.Passes.{Course, goes, too_large}
 use Rattle.cfa_agent.specs.declared.running.Tally.{Tally}
+use Rattle.cfa_agent.specs.Actuations.{Mark}
 use Rattle.cfa_agent.specs.Marks.{marks_of}
 use Rattle.cfa_agent.specs.Runs.{Start, Counts, run_of, log_of, lines_of, tally_of, last_line}
 
@@ -27,22 +28,17 @@ use Rattle.cfa_agent.specs.Runs.{Start, Counts, run_of, log_of, lines_of, tally_
 abbrev pub added : (before after : Told) → List Entry
 added before after = drop (length before.log) after.log
 
+abbrev pub start_of : (moment : ℕ) → (has_locks : Bool) → World → List Mark → Start
+start_of moment has_locks world marks =
+    record { world = world; moment = moment; has_locks = has_locks; marks = marks }
+
 -- what a run begins with, by what the site told before and after it
 abbrev pub started : (moment : ℕ) → (has_locks : Bool) → (before after : Told) → Start
-started moment has_locks before after = record {
-  world = before.world;
-  moment = moment;
-  has_locks = has_locks;
-  marks = marks_of (added before after);
-}
+started moment has_locks before after = start_of moment has_locks before.world (marks_of (added before after))
 
 abbrev pub IsWhole : Course → Type 0
 IsWhole (goes h) = ⊤
 IsWhole (too_large h) = ⊥
-
-abbrev pub IsCutOff : Course → Type 0
-IsCutOff (goes h) = ⊥
-IsCutOff (too_large h) = ⊤
 
 abbrev pub counts_of : Tally → Counts
 counts_of tally = record { kept = tally.kept; repaired = tally.repaired; failed = tally.failed; skipped = tally.skipped }
@@ -74,12 +70,7 @@ text_too_big (Err (Pattern text)) = Some text
 
 -- the cause of a stop by an object of the outside: its count of faults rose. But for a failed put the count of the sink stands
 abbrev pub StopsRun : (site site' : Shown Told) → (out out' : Shown (List ℕ)) → Stop → Type 0
-StopsRun site site' out out' (Outside Inputs) = ⊥
-StopsRun site site' out out' (Outside Site) = Rose site.faults site'.faults × (out'.faults ≡ out.faults)
-StopsRun site site' out out' (Outside Sink) = Rose out.faults out'.faults
-StopsRun site site' out out' Memory = out'.faults ≡ out.faults
-StopsRun site site' out out' Visits = out'.faults ≡ out.faults
-StopsRun site site' out out' (Pattern text) = out'.faults ≡ out.faults
+StopsRun site site' out out' stop = Stops (site.faults, out.faults) (site'.faults, out'.faults) stop
 
 -- the text that stopped the run is one that the run builds, by its definition under the marks of the entries so far
 abbrev pub RunBuilds : Setting → (moment : ℕ) → (has_locks : Bool) → (site site' : Shown Told) → Option (List ℕ) → Type 0

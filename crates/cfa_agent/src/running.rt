@@ -1,9 +1,10 @@
 // A run of a policy on a host.
 ghost use Rattle.std.specs.Prelude.{◌≡◌, ◌≤◌, IfErr, IfOk, IsErrOf, OnOk};
+ghost use Rattle.cfa_walk.specs.Levels.{IsTooLarge};
 ghost use Rattle.cfa_walk.specs.Settings.{setting_of};
 ghost use Rattle.cfa_agent.specs.Runs.{run_of};
 ghost use Rattle.cfa_agent.specs.Standing.{IsFirst};
-ghost use Rattle.cfa_agent.specs.Ran.{started, IsCutOff, RunsAs, RunBuilds, IfBothTold, text_too_big, StopsRun, Refuses};
+ghost use Rattle.cfa_agent.specs.Ran.{started, RunsAs, RunBuilds, IfBothTold, text_too_big, StopsRun, Refuses};
 
 use crate::progress::Running;
 use crate::putting::put_total;
@@ -65,7 +66,7 @@ pub fn run<S: Site, O: Sink, P: Patterns>(
     ensures calm { OnOk result ((O.shown out.new).faults ≡ (O.shown out.old).faults) }
     // A run is stopped by too many visits only where its definition has too many.
     ensures too_large { IsErrOf result Stop.Visits → IfBothTold (λ before after.
-        IsCutOff (run_of (setting_of checked.now context.now) (started moment locks before after)))
+        IsTooLarge (run_of (setting_of checked.now context.now) (started moment locks before after)))
         (S.shown site.old) (S.shown site.new) }
     ensures stopped { IfErr result
         (StopsRun (S.shown site.old) (S.shown site.new) (O.shown out.old) (O.shown out.new)) }

@@ -1,8 +1,9 @@
 // A run of a policy, and what the verdict on it promises.
 ghost use Rattle.std.specs.Prelude.{◌≡◌, ◌≤◌, ℕ, IfErr, IfOk, IsErrOf, OnOk, Some, false};
+ghost use Rattle.cfa_walk.specs.Levels.{IsTooLarge};
 ghost use Rattle.cfa_walk.specs.Settings.{setting_of};
 ghost use Rattle.cfa_agent.specs.Runs.{run_of};
-ghost use Rattle.cfa_agent.specs.Ran.{started, IsCutOff, RunsAs, RunBuilds, IfBothTold, text_too_big, StopsRun, Refuses};
+ghost use Rattle.cfa_agent.specs.Ran.{started, RunsAs, RunBuilds, IfBothTold, text_too_big, StopsRun, Refuses};
 ghost use Rattle.cfa_conflict.specs.Analyses.{analysis_of};
 ghost use Rattle.cfa_conflict.specs.declared.verdicts.Verdict as verdicts;
 ghost use Rattle.cfa_convergence.specs.Settled.{Settles};
@@ -38,7 +39,7 @@ pub fn run<S: Site, O: Sink, P: Patterns>(
         (S.shown site.old) (S.shown site.new)) }
     ensures calm { OnOk result ((O.shown out.new).faults ≡ (O.shown out.old).faults) }
     ensures too_large { IsErrOf result Stop.Visits → IfBothTold (λ before after.
-        IsCutOff (run_of (setting_of checked.now context.now) (started moment locks before after)))
+        IsTooLarge (run_of (setting_of checked.now context.now) (started moment locks before after)))
         (S.shown site.old) (S.shown site.new) }
     ensures stopped { IfErr result
         (StopsRun (S.shown site.old) (S.shown site.new) (O.shown out.old) (O.shown out.new)) }

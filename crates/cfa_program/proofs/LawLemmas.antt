@@ -14,8 +14,9 @@ use Rattle.cfa_conflict.specs.declared.verdicts.Verdict.{Verdict}
 use Rattle.cfa_conflict.specs.declared.verdicts.Verdict.TheVariants.{Accepted, Conflict as InConflictBy}
 use Rattle.cfa_conflict.specs.Analyses.{analysis_of}
 use Rattle.cfa_agent.specs.Actuations.{Mark}
+use Rattle.cfa_agent.specs.Ran.{start_of}
 use Rattle.cfa_agent.specs.Runs.{Start}
-use Rattle.cfa_program.specs.Calls.{TakesPolicy, TakesRun, Task, runs, judges, shows, RefusesRequest, TakesRequest, TakenIsNotRefused, DoesOneThing, words_refused, moment_refused, request_refused, work_done, start_of, StrictRunDoes, Judges, DoesTask}
+use Rattle.cfa_program.specs.Calls.{TakesPolicy, TakesRun, Task, runs, judges, shows, RefusesRequest, TakesRequest, TakenIsNotRefused, DoesOneThing, words_refused, moment_refused, request_refused, work_done, StrictRunDoes, Judges, DoesTask}
 use Rattle.cfa_program.specs.Done.{Done, refused_with}
 use Rattle.cfa_program.specs.Stages.{OneSetting}
 use Rattle.cfa_program.proofs.AuditLemmas.{audit_is_one, journal_line_is_one, journal_never_both}

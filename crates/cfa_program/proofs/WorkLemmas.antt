@@ -9,18 +9,19 @@ use Rattle.cfa_output.specs.declared.ends.Object.TheVariants.{Inputs, Site, Sink
 use Rattle.cfa_output.specs.declared.ends.Stop.{Stop}
 use Rattle.cfa_output.specs.declared.ends.Stop.TheVariants.{Outside, Memory, Visits, Pattern}
 use Rattle.cfa_sources.specs.Readings.{text_too_big}
+use Rattle.cfa_walk.specs.Levels.{IsTooLarge}
 use Rattle.cfa_walk.specs.Views.{Setting}
 use Rattle.cfa_conflict.specs.declared.verdicts.Verdict.{Verdict}
 use Rattle.cfa_conflict.specs.declared.verdicts.Verdict.TheVariants.{Accepted, Conflict as InConflictBy}
 use Rattle.cfa_conflict.specs.Analyses.{analysis_of}
 use Rattle.cfa_agent.specs.Actuations.{Mark}
 use Rattle.cfa_agent.specs.Runs.{Start, run_of}
-use Rattle.cfa_agent.specs.Ran.{IsCutOff, StopsRun, Refuses}
+use Rattle.cfa_agent.specs.Ran.{start_of, StopsRun, Refuses}
 use Rattle.cfa_program.specs.declared.ends.End.{End}
 use Rattle.cfa_program.specs.declared.ends.End.TheVariants.{Ended, PromiseFailed, InConflict}
 use Rattle.cfa_program.specs.declared.work.Work.{Work}
 use Rattle.cfa_program.specs.declared.work.Work.TheVariants.{Run, Judge, Show}
-use Rattle.cfa_program.specs.Calls.{runs, judged, shown, verdict_line, start_of, RunDoes, StrictRunDoes, Judges, DoesTask, IsUnaccepted, IsCutOffBy, ObeysAnalysis}
+use Rattle.cfa_program.specs.Calls.{runs, judged, shown, verdict_line, RunDoes, StrictRunDoes, Judges, DoesTask, IsUnaccepted, IsCutOffBy, ObeysAnalysis}
 use Rattle.cfa_program.specs.Done.{Done, IsDone, IsPut, status_of}
 use Rattle.cfa_program.specs.Stages.{RunsPolicy, Obeys, TellsVerdict, StopsTelling, IsEndOfRun, MayRun, IsInConflict, not_made, made, Performed, TextPut, OnlyPut}
 use Rattle.cfa_program.proofs.Told.{adds_none}
@@ -86,7 +87,7 @@ made_accepted true (Some (Accepted live)) is may not = not
 made_accepted true (Some (InConflictBy c)) is may not = may
 made_accepted false verdict is may not = false≢true is
 
-pub cut_off_by : (strict : Bool) (setting : Setting) (s : Start) (verdict : Option Verdict) → MayRun strict verdict → IsCutOff (run_of setting s) → IsCutOffBy strict setting s verdict
+pub cut_off_by : (strict : Bool) (setting : Setting) (s : Start) (verdict : Option Verdict) → MayRun strict verdict → IsTooLarge (run_of setting s) → IsCutOffBy strict setting s verdict
 cut_off_by false setting s verdict may cut = cut
 cut_off_by true setting s None may cut = absurd may
 cut_off_by true setting s (Some (Accepted live)) may cut = cut

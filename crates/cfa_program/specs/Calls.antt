@@ -21,6 +21,7 @@ use Rattle.cfa_output.specs.declared.items.End.TheVariants.{Yes, Locks, Failed, 
 use Rattle.cfa_output.specs.Lines.{words_line, moment_line, number_line, conflict_line, settled_line}
 use Rattle.cfa_sources.specs.Sources.{Texts, ReadsFile, RefusesFile}
 use Rattle.cfa_sources.specs.Checks.{Refuses, IsValidAs}
+use Rattle.cfa_walk.specs.Levels.{IsTooLarge}
 use Rattle.cfa_walk.specs.Views.{Setting}
 use Rattle.cfa_conflict.specs.declared.verdicts.Verdict.{Verdict}
 use Rattle.cfa_conflict.specs.declared.verdicts.Verdict.TheVariants.{Accepted, Conflict as InConflictBy}
@@ -29,7 +30,7 @@ use Rattle.cfa_conflict.specs.Analyses.{AnalysisBuilds, analysis_of}
 use Rattle.cfa_walk.specs.Builds.{BuiltOn}
 use Rattle.cfa_agent.specs.Actuations.{Mark}
 use Rattle.cfa_agent.specs.Runs.{Start, run_of, log_of, tally_of}
-use Rattle.cfa_agent.specs.Ran.{IsWhole, IsCutOff, text_of}
+use Rattle.cfa_agent.specs.Ran.{start_of, IsWhole, text_of}
 use Rattle.cfa_program.specs.declared.ends.End.{End}
 use Rattle.cfa_program.specs.declared.ends.End.TheVariants.{Ended, PromiseFailed, InConflict}
 use Rattle.cfa_program.specs.Audits.{AuditsAs, RefusesJournal}
@@ -138,10 +139,6 @@ ran setting s verdict =
 abbrev pub shown : (text : List ℕ) → Done
 shown text = ends_with Ended (puts text ∷ [])
 
-abbrev pub start_of : (moment : ℕ) → (has_locks : Bool) → World → List Mark → Start
-start_of moment has_locks world marks =
-    record { world = world; moment = moment; has_locks = has_locks; marks = marks }
-
 -- a run does this where it comes to its end
 abbrev pub RunDoes : Setting → Start → Option Verdict → Done → Type 0
 RunDoes setting s verdict done = IsWhole (run_of setting s) × (done ≡ ran setting s verdict)
@@ -204,9 +201,9 @@ pub record AsksUnaccepted (words : List (List ℕ)) (moment : ℕ) (texts : Text
 
 -- a strict run that is cut off was analysed first, and accepted
 abbrev pub IsCutOffBy : (is_strict : Bool) → Setting → Start → Option Verdict → Type 0
-IsCutOffBy false setting s verdict = IsCutOff (run_of setting s)
+IsCutOffBy false setting s verdict = IsTooLarge (run_of setting s)
 IsCutOffBy true setting s None = ⊥
-IsCutOffBy true setting s (Some (Accepted live)) = IsCutOff (run_of setting s)
+IsCutOffBy true setting s (Some (Accepted live)) = IsTooLarge (run_of setting s)
 IsCutOffBy true setting s (Some (InConflictBy c)) = ⊥
 
 -- the words ask for a run that needs more visits than it may make

@@ -25,12 +25,13 @@ use Rattle.cfa_sources.specs.Sources.{Texts, IsNamed, IsNextFile}
 use Rattle.cfa_sources.specs.Checks.{Refuses as RefusesPolicy, RefusesSize}
 use Rattle.cfa_sources.specs.Readings.{ReadUpTo, stop_of, stopped_by, text_too_big}
 use Rattle.cfa_walk.specs.Settings.{setting_of}
+use Rattle.cfa_walk.specs.Levels.{IsTooLarge}
 use Rattle.cfa_walk.specs.Views.{Setting}
 use Rattle.cfa_conflict.specs.declared.verdicts.Verdict.{Verdict}
 use Rattle.cfa_conflict.specs.declared.verdicts.Verdict.TheVariants.{Accepted, Conflict as InConflictBy}
 use Rattle.cfa_conflict.specs.Analyses.{AnalysisBuilds, analysis_of}
 use Rattle.cfa_agent.specs.Runs.{run_of, tally_of}
-use Rattle.cfa_agent.specs.Ran.{RunBuilds, started, IsWhole, IsCutOff, IfBothTold, StopsRun, Refuses}
+use Rattle.cfa_agent.specs.Ran.{RunBuilds, started, IsWhole, IfBothTold, StopsRun, Refuses}
 use Rattle.cfa_convergence.specs.Settled.{Settles}
 use Rattle.cfa_program.specs.declared.ends.End.{End}
 use Rattle.cfa_program.specs.declared.ends.End.TheVariants.{Ended, PromiseFailed, InConflict}
@@ -234,7 +235,7 @@ pub record RunPerformed (setting : Setting) (moment : ℕ) (has_locks : Bool) (s
   pub settles : OnOk result (IfBothTold (λ before after.
       settled_by has_locks (tally_of setting (started moment has_locks before after)).failed (analysis_of setting) ≡ Yes → Settles setting after.world) site site')
   pub too_large : IsErrOf result Visits → IfBothTold (λ before after.
-      IsCutOff (run_of setting (started moment has_locks before after))) site site'
+      IsTooLarge (run_of setting (started moment has_locks before after))) site site'
   pub stopped : IfErr result (StopsRun site site' out out')
   pub built : RunBuilds setting moment has_locks site site' (text_too_big (stopped_by result))
   pub patterns_are : Refuses (text_too_big (stopped_by result)) pats pats'

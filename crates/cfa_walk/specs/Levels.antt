@@ -1,4 +1,4 @@
--- Of the code alone: what a level of the passes does, by what was kept before and after it.
+-- What a level of the passes does, by what was kept before and after it.
 --
 -- Who tells how instances end is an object with what it stands on. It agrees with a teller of the definition as far as it was
 -- asked, and stands behind a history. What it is asked last decides with what it agrees, so a level speaks of every teller with

@@ -139,7 +139,7 @@ impl Register {
         status: Status,
     ) -> Result<u32, NoMemory>
         ensures ok { OnOk result (self.new ≡ self.old ++ instance.now ∷ []) }
-        ensures place { IfOk result (λ place. seen_at self.new place ≡ Some (name_of instance.now)) }
+        ensures place { IfOk result (λ at. seen_at self.new at ≡ Some (name_of instance.now)) }
         ensures err { OnErr result (self.new ≡ self.old) }
     {
         let place = short(self.instances.len())?;
