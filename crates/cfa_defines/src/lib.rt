@@ -10,8 +10,6 @@ mod items;
 mod maybes;
 mod reads;
 mod saying;
-#[cfg(test)]
-mod tests;
 mod vars_promises;
 
 pub use choosing::{count_choices, setting_choices};

@@ -7,6 +7,10 @@ mod blocks;
 #[cfg(test)]
 mod bodies;
 #[cfg(test)]
+mod body_references;
+#[cfg(test)]
+mod definitions;
+#[cfg(test)]
 mod frames;
 #[cfg(test)]
 mod functions;

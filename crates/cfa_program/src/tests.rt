@@ -2,6 +2,7 @@
 mod act_runs;
 mod audits;
 mod checks;
+mod folders;
 mod host_runs;
 mod inputs;
 mod large_runs;
@@ -113,14 +114,13 @@ fn words_of(alloc: Global, line: &str) -> Result<Vec<Name>, Fail> {
     Ok(words)
 }
 
-// Makes the call on these inputs and this site, and compares.
-fn compare_on(
-    rt: &impl Abort,
+// Makes the call of a case, and answers its status and what it put.
+fn call_of(
     alloc: Global,
     case: &Case,
     inputs: &mut MemoryInputs,
     site: &mut MemorySite,
-) -> Result<(), Fail> {
+) -> Result<(u8, MemorySink), Fail> {
     let words = words_of(alloc, case.words)?;
     let mut out = MemorySink::new(alloc, case.room, vec![in alloc; case.failing_put]?)?;
     let mut pats = RegexPatterns::new(alloc, vec![in alloc; case.refused_build]?);
@@ -133,24 +133,37 @@ fn compare_on(
         &mut out,
         &mut pats,
     );
+    Ok((status, out))
+}
+
+// The lines and the status are those of the case, or of a verdict where the case is about validity alone.
+fn is_answer(case: &Case, lines: &[u8], status: u8) -> bool {
     if case.lines == VALID {
-        assert!(rt;
-            is_verdict(out.bytes(), status),
-            "validity of {}",
-            case.words
-        );
+        is_verdict(lines, status)
     } else {
-        assert!(rt; status == case.status, "status of {}", case.words);
-        assert!(rt;
-            out.bytes() == case.lines.as_bytes(),
-            "lines of {}",
-            case.lines
-        );
+        status == case.status && lines == case.lines.as_bytes()
     }
+}
+
+// Makes the call on these inputs and this site, and compares.
+fn compare_on(
+    rt: &impl Abort,
+    alloc: Global,
+    case: &Case,
+    inputs: &mut MemoryInputs,
+    site: &mut MemorySite,
+) -> Result<(), Fail> {
+    let (status, out) = call_of(alloc, case, inputs, site)?;
+    let put = str::from_utf8(out.bytes()).unwrap_or("no text");
+    assert!(rt;
+        is_answer(case, out.bytes(), status),
+        "{} answers {status} and {put}",
+        case.words
+    );
     assert!(rt;
         site.log().len() == case.entries,
         "entries of {}",
-        case.lines
+        case.words
     );
     Ok(())
 }

@@ -173,27 +173,40 @@ fn long_text(alloc: Global) -> Result<Datum, NoMemory> {
     Ok(Datum::Text(Name::from_string(text)))
 }
 
-fn own_scope(alloc: Global) -> Result<Scope, NoMemory> {
+fn set_lists(alloc: Global, own: &mut Scope) -> Result<(), NoMemory> {
+    for (name, items) in [
+        ("l", ["p", "q"].as_slice()),
+        ("two", &["1", "2"]),
+        ("e", &[]),
+    ] {
+        set(alloc, own, name, list_of(alloc, items)?)?;
+    }
+    for (name, count) in [("many", 64), ("more", 65)] {
+        set(alloc, own, name, long_list(alloc, count)?)?;
+    }
+    Ok(())
+}
+
+pub fn own_scope(alloc: Global) -> Result<Scope, NoMemory> {
     let mut own = Scope::new(alloc);
     let text = Datum::Text(Name::from_text(alloc, "/v")?);
     set(alloc, &mut own, "x", text)?;
-    set(alloc, &mut own, "l", list_of(alloc, &["p", "q"])?)?;
-    set(alloc, &mut own, "two", list_of(alloc, &["1", "2"])?)?;
-    set(alloc, &mut own, "e", list_of(alloc, &[])?)?;
-    set(alloc, &mut own, "many", long_list(alloc, 64)?)?;
-    set(alloc, &mut own, "more", long_list(alloc, 65)?)?;
     set(alloc, &mut own, "long", long_text(alloc)?)?;
+    set_lists(alloc, &mut own)?;
     Ok(own)
+}
+
+// The file `a.cf`.
+fn inputs_of(alloc: Global, source: &str) -> Result<MemoryInputs, Fail> {
+    let mut files = Vec::new(alloc);
+    let bytes = Bytes::from_slice(alloc, source.as_bytes())?;
+    files.push((Name::from_text(alloc, "a.cf")?, bytes))?;
+    Ok(MemoryInputs::new(alloc, files, Vec::new(alloc))?)
 }
 
 pub fn policy_of(alloc: Global, promise: &str) -> Result<Checked, Fail> {
     let source = format!(in alloc; "bundle agent main {{ {promise} }}\n{BODIES}")?;
-    let mut files = Vec::new(alloc);
-    files.push((
-        Name::from_text(alloc, "a.cf")?,
-        Bytes::from_slice(alloc, source.as_str().as_bytes())?,
-    ))?;
-    let mut inputs = MemoryInputs::new(alloc, files, Vec::new(alloc))?;
+    let mut inputs = inputs_of(alloc, source.as_str())?;
     let mut pats = RegexPatterns::new(alloc, Vec::new(alloc));
     let name = Name::from_text(alloc, "a.cf")?;
     match read_policy(alloc, &name, &mut inputs, &mut pats) {
@@ -202,34 +215,57 @@ pub fn policy_of(alloc: Global, promise: &str) -> Result<Checked, Fail> {
     }
 }
 
-// What the first promise of the bundle `main` resolves to, if it has instances.
+pub fn first_of(bundle: Name) -> PromiseId {
+    PromiseId {
+        bundle,
+        number: 1,
+        line: 1,
+    }
+}
+
+// What a promise of the bundle resolves to in the scope, if it has instances.
+fn resolve_in(
+    alloc: Global,
+    checked: &Checked,
+    id: &PromiseId,
+    own: &Scope,
+    left: u64,
+) -> Option<Result<Resolved, ResolveErr>> {
+    if !is_acting(checked, id) {
+        return None;
+    }
+    let statuses = Statuses::new(alloc);
+    let view = View {
+        scopes: Scopes {
+            own,
+            own_name: &id.bundle,
+            shared: &[],
+        },
+        statuses: &statuses,
+        path: &id.bundle,
+    };
+    let mut pats = RegexPatterns::new(alloc, Vec::new(alloc));
+    Some(resolve(alloc, checked, id, &view, left, &mut pats))
+}
+
+fn resolve_of(
+    alloc: Global,
+    checked: &Checked,
+    left: u64,
+) -> Result<Option<Result<Resolved, ResolveErr>>, Fail> {
+    let id = first_of(Name::from_text(alloc, "main")?);
+    let own = own_scope(alloc)?;
+    Ok(resolve_in(alloc, checked, &id, &own, left))
+}
+
+// What the first promise of the bundle `main` resolves to.
 fn resolve_first(
     alloc: Global,
     promise: &str,
     left: u64,
 ) -> Result<Option<Result<Resolved, ResolveErr>>, Fail> {
     let checked = policy_of(alloc, promise)?;
-    let (own, statuses) = (own_scope(alloc)?, Statuses::new(alloc));
-    let name = Name::from_text(alloc, "main")?;
-    let id = PromiseId {
-        bundle: name.copy(alloc)?,
-        number: 1,
-        line: 1,
-    };
-    if !is_acting(&checked, &id) {
-        return Ok(None);
-    }
-    let view = View {
-        scopes: Scopes {
-            own: &own,
-            own_name: &name,
-            shared: &[],
-        },
-        statuses: &statuses,
-        path: &name,
-    };
-    let mut pats = RegexPatterns::new(alloc, Vec::new(alloc));
-    Ok(Some(resolve(alloc, &checked, &id, &view, left, &mut pats)))
+    resolve_of(alloc, &checked, left)
 }
 
 fn have_texts(instances: &[Instance], texts: &[&str]) -> bool {
@@ -284,10 +320,13 @@ fn promises_resolve(rt: HostRuntime) -> Result<(), Fail> {
 #[test]
 fn visits_are_limited(rt: HostRuntime) -> Result<(), Fail> {
     let alloc = rt.alloc();
-    let two = resolve_first(alloc, "reports: \"$(l)\";", 1)?;
-    assert!(rt; matches!(two, Some(Err(ResolveErr::TooLarge))));
-    let none = resolve_first(alloc, "reports: \"$(e)\";", 0)?;
-    assert!(rt; matches!(none, Some(Err(ResolveErr::TooLarge))));
+    for (promise, left) in [("reports: \"$(l)\";", 1), ("reports: \"$(e)\";", 0)] {
+        let found = resolve_first(alloc, promise, left)?;
+        assert!(rt;
+            matches!(found, Some(Err(ResolveErr::TooLarge))),
+            "{promise}"
+        );
+    }
     Ok(())
 }
 
@@ -295,9 +334,9 @@ fn visits_are_limited(rt: HostRuntime) -> Result<(), Fail> {
 #[test]
 fn others_have_no_instances(rt: HostRuntime) -> Result<(), Fail> {
     let alloc = rt.alloc();
-    let vars = resolve_first(alloc, "vars: \"v\" string => \"x\";", 1)?;
-    assert!(rt; vars.is_none());
-    let none = resolve_first(alloc, "", 1)?;
-    assert!(rt; none.is_none());
+    for promise in ["vars: \"v\" string => \"x\";", ""] {
+        let found = resolve_first(alloc, promise, 1)?;
+        assert!(rt; found.is_none(), "{promise}");
+    }
     Ok(())
 }

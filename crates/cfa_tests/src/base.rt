@@ -5,7 +5,7 @@ use std::test::Fail;
 
 // With ample memory each call that may want memory succeeds.
 #[test]
-fn each_call_succeeds(rt: HostRuntime) -> Result<(), Fail> {
+fn names_are_kept(rt: HostRuntime) -> Result<(), Fail> {
     let alloc = rt.alloc();
     let name = Name::from_text(alloc, "größe")?;
     let mut names = Names::new(alloc);
@@ -13,12 +13,23 @@ fn each_call_succeeds(rt: HostRuntime) -> Result<(), Fail> {
     let names = names.copy(alloc)?;
     assert!(rt; names.get(0).is_some_and(|first| first.as_str() == "größe"));
     assert!(rt; names.get(1).is_none());
-    let mut bytes = Bytes::from_slice(alloc, &[0, 255])?.copy(alloc)?;
+    Ok(())
+}
+
+#[test]
+fn bytes_are_kept(rt: HostRuntime) -> Result<(), Fail> {
+    let mut bytes = Bytes::from_slice(rt.alloc(), &[0, 255])?.copy(rt.alloc())?;
     bytes.append(&[7])?;
     assert!(rt; bytes.as_slice() == [0, 255, 7].as_slice());
-    let mut rows = TextMap::new(alloc);
-    rows.insert(String::from_str(alloc, "a/b")?, 1u8)?;
-    assert!(rt; rows.has_front(&String::from_str(alloc, "a/")?));
+    Ok(())
+}
+
+#[test]
+fn maps_are_kept(rt: HostRuntime) -> Result<(), Fail> {
+    let mut rows = TextMap::new(rt.alloc());
+    rows.insert(String::from_str(rt.alloc(), "a/b")?, 1u8)?;
+    let front = String::from_str(rt.alloc(), "a/")?;
+    assert!(rt; rows.has_front(&front));
     rows.remove("a/b");
     assert!(rt; rows.get("a/b").is_none());
     Ok(())
@@ -56,24 +67,34 @@ fn keys_are_64_lower_case_hexadecimal_digits(rt: HostRuntime) {
     }
 }
 
-// With ample memory each name and each pair is added, and the first place of each is found.
+const PLACES: [(&str, Option<usize>); 4] = [
+    ("b", Some(0)),
+    ("a", Some(1)),
+    ("größe", Some(3)),
+    ("", None),
+];
+
+// With ample memory each name is added, and the first place of each is found.
 #[test]
-fn first_places(rt: HostRuntime) -> Result<(), Fail> {
+fn first_places_of_names(rt: HostRuntime) -> Result<(), Fail> {
     let mut names = NameIndex::new(rt.alloc());
-    let mut pairs = PairIndex::new(rt.alloc());
     for name in ["b", "a", "b", "größe"] {
         let _is_new = names.add(name)?;
-        let _is_new = pairs.add("edit", name)?;
+    }
+    for (name, place) in PLACES {
+        assert!(rt; names.find(name) == place, "{name}");
     }
     assert!(rt; names.len() == 4 && !names.add("größe")?);
-    let rows = [
-        ("b", Some(0)),
-        ("a", Some(1)),
-        ("größe", Some(3)),
-        ("", None),
-    ];
-    for (name, place) in rows {
-        assert!(rt; names.find(name) == place, "{name}");
+    Ok(())
+}
+
+#[test]
+fn first_places_of_pairs(rt: HostRuntime) -> Result<(), Fail> {
+    let mut pairs = PairIndex::new(rt.alloc());
+    for name in ["b", "a", "b", "größe"] {
+        let _is_new = pairs.add("edit", name)?;
+    }
+    for (name, place) in PLACES {
         assert!(rt; pairs.find("edit", name) == place, "{name}");
         assert!(rt; pairs.find(name, "edit").is_none(), "{name}");
     }
@@ -171,11 +192,17 @@ fn refusal(alloc: Global, text: &Name) -> Option<PatternErr> {
 }
 
 #[test]
-fn refuses_what_is_too_deep_or_too_big(rt: HostRuntime) -> Result<(), Fail> {
-    let alloc = rt.alloc();
-    let big = Name::from_text(alloc, "(?:(?:a{1000}){1000}){1000}")?;
-    assert_eq!(rt; refusal(alloc, &big), Some(PatternErr::TooBig));
-    assert_eq!(rt; refusal(alloc, &nested(alloc, 300)?), Some(PatternErr::Bad));
-    assert_eq!(rt; refusal(alloc, &nested(alloc, 200)?), None);
+fn refuses_what_is_too_big(rt: HostRuntime) -> Result<(), Fail> {
+    let big = Name::from_text(rt.alloc(), "(?:(?:a{1000}){1000}){1000}")?;
+    assert_eq!(rt; refusal(rt.alloc(), &big), Some(PatternErr::TooBig));
+    Ok(())
+}
+
+#[test]
+fn refuses_what_is_too_deep(rt: HostRuntime) -> Result<(), Fail> {
+    for (depth, want) in [(300, Some(PatternErr::Bad)), (200, None)] {
+        let text = nested(rt.alloc(), depth)?;
+        assert_eq!(rt; refusal(rt.alloc(), &text), want, "{depth}");
+    }
     Ok(())
 }

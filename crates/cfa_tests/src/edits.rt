@@ -8,6 +8,7 @@ use cfa_base::{How, Name, Names, Pattern};
 use cfa_edits::{Edit, EditErr, Edits, Script, Spot};
 use cfa_lines::Deck;
 use std::alloc::Global;
+use std::process::Abort;
 use std::test::Fail;
 
 fn value(alloc: Global) -> Result<Name, Fail>
@@ -197,17 +198,20 @@ fn inserts_at_anchors(rt: HostRuntime) -> Result<(), Fail> {
     Ok(())
 }
 
-// Whether a script has this text.
-fn is_written(script: Result<Script, Fail>, text: &str) -> Result<bool, Fail> {
-    Ok(script?.text().as_str() == text)
+fn check_text(rt: &impl Abort, script: &Script, text: &str) {
+    assert!(rt; script.text().as_str() == text);
 }
 
 #[test]
 fn texts_of_scripts(rt: HostRuntime) -> Result<(), Fail> {
     let alloc = rt.alloc();
-    assert!(rt; is_written(deleting(alloc, "a.*"), "d:a.%2A")?);
-    assert!(rt; is_written(editing(alloc, 2), "f:root%3A.%2A%5Cr%3F:%3A:2:%240")?);
-    assert!(rt; is_written(anchored(alloc, true, "c", false), "i:before-last:c:%240")?);
-    assert!(rt; is_written(replacing(alloc, "a", true), "r:all:a:%240")?);
+    check_text(&rt, &deleting(alloc, "a.*")?, "d:a.%2A");
+    check_text(&rt, &editing(alloc, 2)?, "f:root%3A.%2A%5Cr%3F:%3A:2:%240");
+    check_text(
+        &rt,
+        &anchored(alloc, true, "c", false)?,
+        "i:before-last:c:%240",
+    );
+    check_text(&rt, &replacing(alloc, "a", true)?, "r:all:a:%240");
     Ok(())
 }

@@ -62,21 +62,22 @@ fn long_text(alloc: Global) -> Result<Name, NoMemory> {
     Ok(Name::from_string(text))
 }
 
+fn list_of(alloc: Global, texts: &[&str]) -> Result<Datum, NoMemory> {
+    let mut items = Names::new(alloc);
+    for text in texts {
+        items.push(Name::from_text(alloc, text)?)?;
+    }
+    Ok(Datum::List(items))
+}
+
 // The list l of p and q, the empty lists e and lb, x, and big, which has 65,535 bytes.
 fn own_scope(alloc: Global) -> Result<Scope, NoMemory> {
     let mut own = Scope::new(alloc);
-    let mut items = Names::new(alloc);
-    items.push(Name::from_text(alloc, "p")?)?;
-    items.push(Name::from_text(alloc, "q")?)?;
-    set(alloc, &mut own, "l", Datum::List(items))?;
-    set(alloc, &mut own, "e", Datum::List(Names::new(alloc)))?;
-    set(alloc, &mut own, "lb", Datum::List(Names::new(alloc)))?;
-    set(
-        alloc,
-        &mut own,
-        "x",
-        Datum::Text(Name::from_text(alloc, "v")?),
-    )?;
+    for (word, texts) in [("l", ["p", "q"].as_slice()), ("e", &[]), ("lb", &[])] {
+        set(alloc, &mut own, word, list_of(alloc, texts)?)?;
+    }
+    let text = Name::from_text(alloc, "v")?;
+    set(alloc, &mut own, "x", Datum::Text(text))?;
     set(alloc, &mut own, "big", Datum::Text(long_text(alloc)?))?;
     Ok(own)
 }

@@ -117,27 +117,43 @@ fn acts_in_memory(rt: HostRuntime) -> Result<(), Fail> {
     compare(&rt, rt.alloc(), &mut site, ACTS)
 }
 
+// The next agent in a folder does these acts.
+fn compare_in(
+    rt: &impl Abort,
+    host: &HostRuntime,
+    folder: &str,
+    table: &str,
+) -> Result<RealHost, Fail> {
+    let mut site = host_in(host, folder)?;
+    compare(rt, host.alloc(), &mut site, table)?;
+    Ok(site)
+}
+
+// The files have these texts.
+fn check_texts(rt: &impl Abort, host: &HostRuntime, files: &[(&str, &str)]) {
+    for (file, text) in files {
+        assert!(rt; has_text(host, file, text), "{file}");
+    }
+}
+
+const TABLES: [(&str, &str); 3] = [
+    ("acts/services.tab", "sshd running disabled 1\n"),
+    ("acts/perms.tab", "/a/b/c 0644 root root\n"),
+    ("acts/changes", ""),
+];
+
 // The same acts have the same answers, the next agent finds what was done, and so does the one behind a writing of the
 // tables.
 #[test]
 fn acts_in_a_folder(rt: HostRuntime) -> Result<(), Fail> {
     let services = "sshd running enabled 0\n";
-    let mut site = host_with(&rt, "acts", "acts/services.tab", services)?;
-    compare(&rt, rt.alloc(), &mut site, ACTS)?;
-    drop(site);
-    let mut next = host_in(&rt, "acts")?;
-    compare(&rt, rt.alloc(), &mut next, KEPT)?;
+    drop(host_with(&rt, "acts", "acts/services.tab", services)?);
+    drop(compare_in(&rt, &rt, "acts", ACTS)?);
+    let mut next = compare_in(&rt, &rt, "acts", KEPT)?;
     assert!(rt; next.write_tables(rt.alloc()));
     drop(next);
-    let mut last = host_in(&rt, "acts")?;
-    compare(&rt, rt.alloc(), &mut last, KEPT)?;
-    for (file, text) in [
-        ("acts/services.tab", "sshd running disabled 1\n"),
-        ("acts/perms.tab", "/a/b/c 0644 root root\n"),
-        ("acts/changes", ""),
-    ] {
-        assert!(rt; has_text(&rt, file, text), "{file}");
-    }
+    drop(compare_in(&rt, &rt, "acts", KEPT)?);
+    check_texts(&rt, &rt, &TABLES);
     Ok(())
 }
 
@@ -182,6 +198,12 @@ fn makes_all(alloc: Global, site: &mut RealHost) -> Result<bool, Fail> {
     has_lock(alloc, site)
 }
 
+const MENDED: [(&str, &str); 3] = [
+    ("cut/changes", CHANGES),
+    ("cut/journal", "run 4\nrun 5\n"),
+    ("cut/tree/a", "one"),
+];
+
 // A row of a node that isn't there counts for nothing, lines that were cut off are taken away, and the rest stays.
 #[test]
 fn ends_that_were_cut_off(rt: HostRuntime) -> Result<(), Fail> {
@@ -190,13 +212,7 @@ fn ends_that_were_cut_off(rt: HostRuntime) -> Result<(), Fail> {
     fs::write(&rt, "cut/journal", "run 4\nopen 1")?;
     assert!(rt; makes_all(rt.alloc(), &mut site)?);
     drop(site);
-    for (file, text) in [
-        ("cut/changes", CHANGES),
-        ("cut/journal", "run 4\nrun 5\n"),
-        ("cut/tree/a", "one"),
-    ] {
-        assert!(rt; has_text(&rt, file, text), "{file}");
-    }
+    check_texts(&rt, &rt, &MENDED);
     let mut next = host_in(&rt, "cut")?;
     assert!(rt; has_lock(rt.alloc(), &mut next)?);
     Ok(())
@@ -223,16 +239,23 @@ fn make_links(rt: &HostRuntime) -> Result<(), Fail> {
     Ok(())
 }
 
+// A folder with links, and a file below one of the directories that they name.
+fn linked(rt: &HostRuntime) -> Result<RealHost, Fail> {
+    let mut site = host_with(rt, "links", "links/out", "out")?;
+    if !makes(rt.alloc(), &mut site, "in", "/a/b")? {
+        return Err(Fail::from("no file"));
+    }
+    make_links(rt)?;
+    Ok(site)
+}
+
 #[test]
 fn no_link_is_followed(rt: HostRuntime) -> Result<(), Fail> {
-    let mut site = host_with(&rt, "links", "links/out", "out")?;
-    assert!(rt; makes(rt.alloc(), &mut site, "in", "/a/b")?);
-    make_links(&rt)?;
+    let mut site = linked(&rt)?;
     for path in ["/end", "/mid", "/mid/b", "/mid/new", "/loose"] {
         assert!(rt; refuses(rt.alloc(), &mut site, path)?, "{path}");
     }
-    assert!(rt; has_text(&rt, "links/out", "out"));
-    assert!(rt; has_text(&rt, "links/tree/a/b", "in"));
+    check_texts(&rt, &rt, &[("links/out", "out"), ("links/tree/a/b", "in")]);
     Ok(())
 }
 
@@ -259,19 +282,36 @@ fn opens(rt: &HostRuntime, folder: &str) -> Result<bool, Fail> {
     answers(rt.alloc(), &mut site, "/a")
 }
 
-// A host that another agent holds is refused, and stays so; a file in the folder's place too. A missing folder is made.
+// Whether a host is refused while another agent holds it, and stays so afterwards.
+fn is_refused_beside(alloc: Global, first: RealHost, second: &mut RealHost) -> Result<bool, Fail> {
+    let is_open = answers(alloc, second, "/a")?;
+    drop(first);
+    Ok(!is_open && !answers(alloc, second, "/a")?)
+}
+
+// A folder that is missing is made, and a host in it has a file.
+fn holder(rt: &HostRuntime, folder: &str) -> Result<RealHost, Fail> {
+    let _ = fs::remove_dir_all(rt, folder);
+    let mut site = host_in(rt, folder)?;
+    if !makes(rt.alloc(), &mut site, "1", "/a")? {
+        return Err(Fail::from("no file"));
+    }
+    Ok(site)
+}
+
 #[test]
 fn one_agent_at_a_time(rt: HostRuntime) -> Result<(), Fail> {
-    let _ = fs::remove_dir_all(&rt, "two");
-    let mut first = host_in(&rt, "two")?;
-    assert!(rt; makes(rt.alloc(), &mut first, "1", "/a")?);
+    let first = holder(&rt, "two")?;
     let mut second = host_in(&rt, "two")?;
-    let refused = !answers(rt.alloc(), &mut second, "/a")?;
-    drop(first);
-    let still_refused = !answers(rt.alloc(), &mut second, "/a")?;
-    assert!(rt; refused && still_refused);
-    drop(second);
-    assert!(rt; opens(&rt, "two")?);
-    assert!(rt; !opens(&rt, "two/tree/a")?);
+    assert!(rt; is_refused_beside(rt.alloc(), first, &mut second)?);
+    Ok(())
+}
+
+// A file in the folder's place is refused.
+#[test]
+fn a_file_is_no_folder(rt: HostRuntime) -> Result<(), Fail> {
+    drop(holder(&rt, "left")?);
+    assert!(rt; opens(&rt, "left")?);
+    assert!(rt; !opens(&rt, "left/tree/a")?);
     Ok(())
 }

@@ -99,19 +99,54 @@ fn attributes_take_their_kinds(rt: HostRuntime) -> Result<(), Fail> {
     Ok(())
 }
 
+// Each word beside the type of bundles that it names; `foreign` is that of another program.
+fn bundle_word(word: &str) -> &'static str {
+    match bundle_type(word) {
+        Some(BundleType::Agent) => "agent",
+        Some(BundleType::Common) => "common",
+        Some(BundleType::EditLine) => "edit_line",
+        None => {
+            if is_foreign_bundle_type(word) {
+                "foreign"
+            } else {
+                "none"
+            }
+        }
+    }
+}
+
 #[test]
-fn words_name_their_types(rt: HostRuntime) -> Result<(), Fail> {
-    assert_eq!(rt; bundle_type("edit_line"), Some(BundleType::EditLine));
-    assert_eq!(rt; bundle_type("server"), None);
-    assert!(rt; is_foreign_bundle_type("server") && !is_foreign_bundle_type("agent"));
-    assert_eq!(rt; promise_type("services"), Some(PromiseType::Services));
-    assert!(rt; is_foreign_promise_type("commands") && !is_foreign_promise_type("vars"));
-    assert!(rt; is_foreign_body_type("file") && !is_foreign_body_type("perms"));
-    assert!(rt; has_promise_type(BundleType::Common, PromiseType::Classes));
-    assert!(rt; !has_promise_type(BundleType::Common, PromiseType::Reports));
-    assert_eq!(rt; choices(PromiseType::Vars).len(), 3);
-    assert_eq!(rt; required(BodyType::EditField).len(), 3);
-    Ok(())
+fn words_name_types_of_bundles(rt: HostRuntime) {
+    for (word, want) in [
+        ("agent", "agent"),
+        ("common", "common"),
+        ("edit_line", "edit_line"),
+        ("server", "foreign"),
+        ("agents", "none"),
+    ] {
+        assert!(rt; bundle_word(word) == want, "{word}");
+    }
+}
+
+#[test]
+fn words_of_other_programs_are_foreign(rt: HostRuntime) {
+    for (word, want) in [("commands", true), ("vars", false), ("command", false)] {
+        assert!(rt; is_foreign_promise_type(word) == want, "{word}");
+    }
+    for (word, want) in [("file", true), ("perms", false), ("files", false)] {
+        assert!(rt; is_foreign_body_type(word) == want, "{word}");
+    }
+}
+
+#[test]
+fn types_have_their_promises(rt: HostRuntime) {
+    let services = promise_type("services");
+    assert!(rt; services == Some(PromiseType::Services));
+    let common = BundleType::Common;
+    let has_reports = has_promise_type(common, PromiseType::Reports);
+    assert!(rt; has_promise_type(common, PromiseType::Classes) && !has_reports);
+    let (of_three, with_three) = (choices(PromiseType::Vars), required(BodyType::EditField));
+    assert!(rt; of_three.len() == 3 && with_three.len() == 3);
 }
 
 struct Row {

@@ -41,7 +41,11 @@ mod outside;
 #[cfg(test)]
 mod parser;
 #[cfg(test)]
+mod paths;
+#[cfg(test)]
 mod printer;
+#[cfg(test)]
+mod sites;
 #[cfg(test)]
 mod sources;
 #[cfg(test)]

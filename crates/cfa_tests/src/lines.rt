@@ -2,6 +2,17 @@
 use cfa_lines::Deck;
 use std::test::Fail;
 
+// Whether a deck has so many lines behind its place.
+fn has_lines(deck: &mut Deck, count: u32) -> bool {
+    for _ in 0..count {
+        if deck.at().is_none() {
+            return false;
+        }
+        deck.step();
+    }
+    deck.at().is_none()
+}
+
 // Each text beside the text of its lines, and how many they are.
 #[test]
 fn lines_end_with_newlines(rt: HostRuntime) -> Result<(), Fail> {
@@ -17,11 +28,7 @@ fn lines_end_with_newlines(rt: HostRuntime) -> Result<(), Fail> {
         let mut deck = Deck::from_text(rt.alloc(), text)?;
         let shown = deck.to_text(rt.alloc())?;
         assert!(rt; shown.as_str() == want, "{text:?}");
-        for _ in 0..count {
-            assert!(rt; deck.at().is_some(), "{text:?}");
-            deck.step();
-        }
-        assert!(rt; deck.at().is_none(), "{text:?}");
+        assert!(rt; has_lines(&mut deck, count), "{text:?}");
     }
     Ok(())
 }

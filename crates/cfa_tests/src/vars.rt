@@ -143,13 +143,24 @@ fn texts(rt: HostRuntime) -> Result<(), Fail> {
     Ok(())
 }
 
+fn with_long(alloc: Global) -> Result<Bundles, NoMemory> {
+    let mut own = Scope::new(alloc);
+    set_long(alloc, &mut own, 65_535)?;
+    beside_b(alloc, own)
+}
+
 #[test]
-fn limit_of_a_text(rt: HostRuntime) -> Result<(), Fail> {
-    let mut own = Scope::new(rt.alloc());
-    set_long(rt.alloc(), &mut own, 65_535)?;
-    let bundles = beside_b(rt.alloc(), own)?;
-    check(&rt, rt.alloc(), &bundles, &[], &told("$(x)bc", "!"))?;
-    check(&rt, rt.alloc(), &bundles, &[], &told("$(x)bc$(z)", "?z"))?;
+fn texts_that_are_too_long(rt: HostRuntime) -> Result<(), Fail> {
+    let bundles = with_long(rt.alloc())?;
+    for row in [told("$(x)bc", "!"), told("$(x)bc$(z)", "?z")] {
+        check(&rt, rt.alloc(), &bundles, &[], &row)?;
+    }
+    Ok(())
+}
+
+#[test]
+fn the_longest_text(rt: HostRuntime) -> Result<(), Fail> {
+    let bundles = with_long(rt.alloc())?;
     let text = Name::from_text(rt.alloc(), "$(x)b")?;
     let expanded = expand(rt.alloc(), &text, &bundles.scopes(), &[])?;
     assert!(rt; size_of(&expanded) == 65_536);
@@ -208,16 +219,20 @@ fn counts_of_choices(rt: HostRuntime) -> Result<(), Fail> {
 }
 
 #[test]
-fn parts(rt: HostRuntime) -> Result<(), Fail> {
+fn variables_are_looked_up(rt: HostRuntime) -> Result<(), Fail> {
     let bundles = beside_b(rt.alloc(), small_scope(rt.alloc())?)?;
-    let scopes = bundles.scopes();
     let word = Name::from_text(rt.alloc(), "x")?;
     assert!(rt; bundles.own.get(&word).is_some());
+    let scopes = bundles.scopes();
     assert!(rt; matches!(look_up(&scopes, "const.n"), Some(Variable::Text("\n"))));
     assert!(rt; list_key(&scopes, "main.l") == "l");
+    Ok(())
+}
+
+#[test]
+fn parts_of_texts(rt: HostRuntime) {
     assert!(rt; first_reference("a$$(x)b").is_some());
     assert!(rt; matches!(split_name("b.x"), Some(("b", "x"))));
     let none = ChoiceList::from_vec(Vec::new(rt.alloc()));
     assert!(rt; none.as_slice().is_empty());
-    Ok(())
 }

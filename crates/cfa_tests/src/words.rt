@@ -1,6 +1,6 @@
 // Command lines, and what they ask for.
 use cfa_base::{Name, Names};
-use cfa_words::{Request, read_words};
+use cfa_words::{Options, Request, read_words};
 use std::alloc::Global;
 use std::process::Abort;
 use std::test::Fail;
@@ -218,30 +218,39 @@ fn put(text: &mut String, is_given: bool, flag: &str) -> Result<(), Fail> {
     Ok(())
 }
 
+fn put_all(text: &mut String, parts: &[&str]) -> Result<(), Fail> {
+    for part in parts {
+        text.push_str(part)?;
+    }
+    Ok(())
+}
+
+fn put_options(text: &mut String, options: &Options) -> Result<(), Fail> {
+    put_classes(text, &options.classes)?;
+    put(text, !options.locks, " -K")?;
+    put(text, options.strict, " --strict")
+}
+
+fn put_request(text: &mut String, request: &Request) -> Result<(), Fail> {
+    match request {
+        Request::Run(policy, options) => {
+            put_all(text, &["run ", policy.as_str()])?;
+            put_options(text, options)
+        }
+        Request::Check(policy, classes) => {
+            put_all(text, &["check ", policy.as_str()])?;
+            put_classes(text, classes)
+        }
+        Request::Show(policy) => put_all(text, &["show ", policy.as_str()]),
+        Request::Audit(journal) => put_all(text, &["audit ", journal.as_str()]),
+    }
+}
+
 fn shown(alloc: Global, request: &Option<Request>) -> Result<String, Fail> {
     let mut text = String::new(alloc);
     match request {
         None => text.push_str("refused")?,
-        Some(Request::Run(policy, options)) => {
-            text.push_str("run ")?;
-            text.push_str(policy.as_str())?;
-            put_classes(&mut text, &options.classes)?;
-            put(&mut text, !options.locks, " -K")?;
-            put(&mut text, options.strict, " --strict")?;
-        }
-        Some(Request::Check(policy, classes)) => {
-            text.push_str("check ")?;
-            text.push_str(policy.as_str())?;
-            put_classes(&mut text, classes)?;
-        }
-        Some(Request::Show(policy)) => {
-            text.push_str("show ")?;
-            text.push_str(policy.as_str())?;
-        }
-        Some(Request::Audit(journal)) => {
-            text.push_str("audit ")?;
-            text.push_str(journal.as_str())?;
-        }
+        Some(request) => put_request(&mut text, request)?,
     }
     Ok(text)
 }
@@ -271,24 +280,27 @@ fn lines_are_read(rt: HostRuntime) -> Result<(), Fail> {
 }
 
 #[test]
-fn no_words_and_empty_texts_are_refused(rt: HostRuntime) -> Result<(), Fail> {
-    let alloc = rt.alloc();
-    let none: Vec<Name> = Vec::new(alloc);
-    assert!(rt; read_words(alloc, none.as_slice())?.is_none());
-    check(
-        &rt,
-        alloc,
-        &Line {
-            words: "run a.cf -D ",
-            asks: "refused",
-        },
-    )?;
-    check(
-        &rt,
-        alloc,
-        &Line {
-            words: "show ",
-            asks: "show ",
-        },
-    )
+fn no_words_are_refused(rt: HostRuntime) -> Result<(), Fail> {
+    let none: Vec<Name> = Vec::new(rt.alloc());
+    assert!(rt; read_words(rt.alloc(), none.as_slice())?.is_none());
+    Ok(())
+}
+
+static WITH_EMPTY_TEXTS: [Line; 2] = [
+    Line {
+        words: "run a.cf -D ",
+        asks: "refused",
+    },
+    Line {
+        words: "show ",
+        asks: "show ",
+    },
+];
+
+#[test]
+fn empty_texts_are_read(rt: HostRuntime) -> Result<(), Fail> {
+    for line in &WITH_EMPTY_TEXTS {
+        check(&rt, rt.alloc(), line)?;
+    }
+    Ok(())
 }

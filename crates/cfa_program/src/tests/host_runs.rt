@@ -1,9 +1,6 @@
 // Runs on the real host, in folders that each test makes where it runs. They put what runs on a host in memory put.
-use super::run_tables::compare_row_on;
-use super::worlds::parts;
-use cfa_base::{Name, unescape};
-use cfa_hostdir::HostSite;
-use std::fs;
+use super::folders::host_in;
+use super::run_tables::{compare_row_on, marked_lines};
 use std::test::Fail;
 
 const PASSES: &str = "passes
@@ -80,42 +77,11 @@ total kept 4 repaired 0 failed 2 skipped 0
 settled: no (failed)
 ";
 
-// Puts a file of a heading into the folder of a host.
-fn put_given(rt: &HostRuntime, folder: &str, given: &str) -> Result<(), Fail> {
-    let alloc = rt.alloc();
-    let (kind, text) = parts(given, " ");
-    if kind == "file" {
-        let (path, field) = parts(text, " ");
-        let content = unescape(alloc, &Name::from_text(alloc, field)?)?;
-        let file = format!(in alloc; "{folder}/tree{path}")?;
-        fs::write(rt, file.as_str(), content.as_str())?;
-    } else {
-        let file = format!(in alloc; "{folder}/services.tab")?;
-        let row = format!(in alloc; "{text}\n")?;
-        fs::write(rt, file.as_str(), row.as_str())?;
-    }
-    Ok(())
-}
-
-// The host of a row in a new folder.
-fn host_in(rt: &HostRuntime, folder: &str, row: &str) -> Result<HostSite<HostRuntime>, Fail> {
-    let alloc = rt.alloc();
-    let _ = fs::remove_dir_all(rt, folder);
-    fs::create_dir(rt, folder)?;
-    let tree = format!(in alloc; "{folder}/tree")?;
-    fs::create_dir(rt, tree.as_str())?;
-    for line in row.lines() {
-        if let Some(given) = line.strip_prefix("+ ") {
-            put_given(rt, folder, given)?;
-        }
-    }
-    Ok(HostSite::new(rt.clone()?, Name::from_text(alloc, folder)?))
-}
-
 #[test]
 fn runs_in_folders(rt: HostRuntime) -> Result<(), Fail> {
     for (folder, row) in [("passes", PASSES), ("settings", SETTINGS), ("lines", LINES)] {
-        let mut site = host_in(&rt, folder, row)?;
+        let things = marked_lines(rt.alloc(), row, "+ ")?;
+        let mut site = host_in(&rt, folder, things.as_str())?;
         compare_row_on(&rt, rt.alloc(), row, &mut site)?;
     }
     Ok(())

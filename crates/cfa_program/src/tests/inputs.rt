@@ -218,20 +218,25 @@ const OF_MANY_FILES: [(&str, &str, &str); 6] = [
     ),
 ];
 
+fn add_text(
+    alloc: Global,
+    texts: &mut Vec<(Name, Bytes)>,
+    name: &str,
+    text: &str,
+) -> Result<(), Fail> {
+    let bytes = Bytes::from_slice(alloc, text.as_bytes())?;
+    texts.push((Name::from_text(alloc, name)?, bytes))?;
+    Ok(())
+}
+
 // The main file, and the files `i1` to `i16`, of which the last alone has a text.
 fn sixteen_inputs(alloc: Global, main: &str, last: &str) -> Result<MemoryInputs, Fail> {
     let mut texts = Vec::new(alloc);
-    texts.push((
-        Name::from_text(alloc, "a.cf")?,
-        Bytes::from_slice(alloc, main.as_bytes())?,
-    ))?;
+    add_text(alloc, &mut texts, "a.cf", main)?;
     for number in 1..17 {
         let name = format!(in alloc; "i{number}")?;
         let text = if number == 16 { last } else { "" };
-        texts.push((
-            Name::from_text(alloc, name.as_str())?,
-            Bytes::from_slice(alloc, text.as_bytes())?,
-        ))?;
+        add_text(alloc, &mut texts, name.as_str(), text)?;
     }
     Ok(MemoryInputs::new(alloc, texts, Vec::new(alloc))?)
 }

@@ -2,21 +2,27 @@
 use super::empty_site;
 use super::run_logs::{Run, compare_lines, compare_run, unlocked_run};
 use super::worlds::site_of;
+use cfa_outside::MemorySite;
 use std::alloc::Global;
+use std::process::Abort;
 use std::test::Fail;
+
+// So many items of a list from 0 on, each with an ending.
+fn items(alloc: Global, count: u32, ending: &str) -> Result<String, Fail> {
+    let mut text = String::new(alloc);
+    for number in 0..count {
+        text.push_str(format!(in alloc; "'{number}{ending}', ")?.as_str())?;
+    }
+    Ok(text)
+}
 
 // Two lists of so many items each, up to the reports behind them.
 fn lists_of(alloc: Global, first: u32, second: u32) -> Result<String, Fail> {
-    let mut text = "bundle agent main\n{\n  vars:\n    'a' slist => { ".to_string(alloc)?;
-    for number in 0..first {
-        text.push_str(format!(in alloc; "'{number}.', ")?.as_str())?;
-    }
-    text.push_str("};\n    'b' slist => { ")?;
-    for number in 0..second {
-        text.push_str(format!(in alloc; "'{number}', ")?.as_str())?;
-    }
-    text.push_str("};\n  reports:\n")?;
-    Ok(text)
+    let (first, second) = (items(alloc, first, ".")?, items(alloc, second, "")?);
+    let (first, second) = (first.as_str(), second.as_str());
+    Ok(format!(in alloc;
+        "bundle agent main\n{{\n  vars:\n    'a' slist => {{ {first}}};\n    'b' slist => {{ {second}}};\n  reports:\n"
+    )?)
 }
 
 // Two lists, and a report of their combinations.
@@ -61,15 +67,20 @@ const LINES_OF_TOO_MANY: &str =
 
 #[test]
 fn combinations_of_lists(rt: HostRuntime) -> Result<(), Fail> {
-    let alloc = rt.alloc();
-    let text = policy_of_lists(alloc, 64, 64)?;
-    let lines = reports_of(alloc, 64, 64)?;
+    let text = policy_of_lists(rt.alloc(), 64, 64)?;
+    let lines = reports_of(rt.alloc(), 64, 64)?;
     let many = unlocked_run(text.as_str(), "", lines.as_str());
-    compare_run(&rt, alloc, &many, &mut empty_site(alloc, 0)?)?;
-    let text = policy_of_lists(alloc, 64, 65)?;
-    let mut too_many = unlocked_run(text.as_str(), LOG_OF_TOO_MANY, LINES_OF_TOO_MANY);
-    too_many.status = 2;
-    compare_run(&rt, alloc, &too_many, &mut empty_site(alloc, 0)?)
+    compare_run(&rt, rt.alloc(), &many, &mut empty_site(rt.alloc(), 0)?)
+}
+
+#[test]
+fn too_many_combinations_of_lists(rt: HostRuntime) -> Result<(), Fail> {
+    let text = policy_of_lists(rt.alloc(), 64, 65)?;
+    let too_many = Run {
+        status: 2,
+        ..unlocked_run(text.as_str(), LOG_OF_TOO_MANY, LINES_OF_TOO_MANY)
+    };
+    compare_run(&rt, rt.alloc(), &too_many, &mut empty_site(rt.alloc(), 0)?)
 }
 
 // A policy of so many files, whose paths don't come in the order of their texts.
@@ -102,20 +113,26 @@ fn repairs_of(alloc: Global, count: u32) -> Result<String, Fail> {
     Ok(lines)
 }
 
-#[test]
-fn thousands_of_files(rt: HostRuntime) -> Result<(), Fail> {
-    let alloc = rt.alloc();
+// Makes a run of 3,000 files, three entries each behind that of the first run.
+fn run_of_files(
+    rt: &impl Abort,
+    alloc: Global,
+    lines: &str,
+    site: &mut MemorySite,
+) -> Result<(), Fail> {
     let text = policy_of_files(alloc, 3_000)?;
-    let repairs = repairs_of(alloc, 3_000)?;
-    let mut site = empty_site(alloc, 0)?;
-    let first = unlocked_run(text.as_str(), "", repairs.as_str());
-    compare_lines(&rt, alloc, &first, &mut site)?;
-    assert!(rt; site.log().len() == 9_001);
-    let kept = "total kept 3000 repaired 0 failed 0 skipped 0\nsettled: yes\n";
-    let again = unlocked_run(text.as_str(), "", kept);
-    compare_lines(&rt, alloc, &again, &mut site)?;
+    compare_lines(rt, alloc, &unlocked_run(text.as_str(), "", lines), site)?;
     assert!(rt; site.log().len() == 9_001);
     Ok(())
+}
+
+#[test]
+fn thousands_of_files(rt: HostRuntime) -> Result<(), Fail> {
+    let repairs = repairs_of(rt.alloc(), 3_000)?;
+    let mut site = empty_site(rt.alloc(), 0)?;
+    run_of_files(&rt, rt.alloc(), repairs.as_str(), &mut site)?;
+    let kept = "total kept 3000 repaired 0 failed 0 skipped 0\nsettled: yes\n";
+    run_of_files(&rt, rt.alloc(), kept, &mut site)
 }
 
 // So many times a line.
@@ -167,17 +184,20 @@ fn policy_of_rare_visits(alloc: Global) -> Result<String, Fail> {
 
 #[test]
 fn an_analysis_that_is_too_large(rt: HostRuntime) -> Result<(), Fail> {
-    let alloc = rt.alloc();
-    let mut site = site_of(alloc, "+ file /a")?;
-    let text = policy_of_rare_visits(alloc)?;
-    let text = text.as_str();
-    let checked = check_of(text, "stopped: visits\n", 6);
-    compare_run(&rt, alloc, &checked, &mut site)?;
-    let strict = Run {
-        words: "run a.cf -K --strict",
-        ..checked
-    };
-    compare_run(&rt, alloc, &strict, &mut site)?;
+    let mut site = site_of(rt.alloc(), "+ file /a")?;
+    let text = policy_of_rare_visits(rt.alloc())?;
     let kept = "total kept 1 repaired 0 failed 0 skipped 0\nsettled: no (limit)\n";
-    compare_run(&rt, alloc, &unlocked_run(text, "", kept), &mut site)
+    for (words, lines, status) in [
+        ("check a.cf", "stopped: visits\n", 6),
+        ("run a.cf -K --strict", "stopped: visits\n", 6),
+        ("run a.cf -K", kept, 0),
+    ] {
+        let run = Run {
+            words,
+            status,
+            ..unlocked_run(text.as_str(), "", lines)
+        };
+        compare_run(&rt, rt.alloc(), &run, &mut site)?;
+    }
+    Ok(())
 }

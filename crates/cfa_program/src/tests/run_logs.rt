@@ -3,7 +3,9 @@ use super::{inputs_of, words_of};
 use crate::agent::agent_main;
 use cfa_base::{Bytes, Name, escape};
 use cfa_locks::key;
-use cfa_outside::{Change, Entry, MemorySink, MemorySite, RegexPatterns, ServiceRow, Site};
+use cfa_outside::{
+    Change, Entry, MemoryInputs, MemorySink, MemorySite, Perms, RegexPatterns, ServiceRow, Site,
+};
 use std::alloc::Global;
 use std::process::Abort;
 use std::str;
@@ -69,27 +71,41 @@ fn service_line(alloc: Global, name: &Name, row: &ServiceRow) -> Result<String, 
     Ok(format!(in alloc; "service {name} {running} {enabled} {restarts}\n")?)
 }
 
+fn perms_line(alloc: Global, path: &str, perms: &Perms) -> Result<String, Fail> {
+    let (mode, owner, group) = (perms.mode, perms.owner.as_str(), perms.group.as_str());
+    Ok(format!(in alloc; "perms {path} {mode:o} {owner} {group}\n")?)
+}
+
+fn record_line(alloc: Global, bytes: &Bytes) -> Result<String, Fail> {
+    let record = str::from_utf8(bytes.as_slice()).unwrap_or("no text");
+    Ok(format!(in alloc; "append {record}")?)
+}
+
+fn file_line(alloc: Global, path: &str, bytes: &Bytes) -> Result<String, Fail> {
+    let text = told_bytes(alloc, bytes)?;
+    let text = text.as_str();
+    Ok(format!(in alloc; "file {path}={text}\n")?)
+}
+
+fn line_of(alloc: Global, word: &str, rest: &str) -> Result<String, Fail> {
+    Ok(format!(in alloc; "{word} {rest}\n")?)
+}
+
+fn lock_line(alloc: Global, key: &str, moment: u64) -> Result<String, Fail> {
+    Ok(format!(in alloc; "lock {key} {moment}\n")?)
+}
+
 // A change as a line. A file is told with its bytes, permissions with the mode in octal digits.
 fn change_line(alloc: Global, change: &Change) -> Result<String, Fail> {
-    Ok(match change {
-        Change::PutFile(path, bytes) => {
-            let (path, text) = (path.text().as_str(), told_bytes(alloc, bytes)?);
-            format!(in alloc; "file {path}={}\n", text.as_str())?
-        }
-        Change::PutDir(path) => format!(in alloc; "dir {}\n", path.text().as_str())?,
-        Change::Remove(path) => format!(in alloc; "remove {}\n", path.text().as_str())?,
-        Change::SetPerms(path, perms) => {
-            let (owner, group) = (perms.owner.as_str(), perms.group.as_str());
-            let (path, mode) = (path.text().as_str(), perms.mode);
-            format!(in alloc; "perms {path} {mode:o} {owner} {group}\n")?
-        }
-        Change::PutService(name, row) => service_line(alloc, name, row)?,
-        Change::PutLock(key, moment) => format!(in alloc; "lock {} {moment}\n", key.text())?,
-        Change::Append(bytes) => match str::from_utf8(bytes.as_slice()) {
-            Ok(record) => format!(in alloc; "append {record}")?,
-            Err(_) => "append".to_string(alloc)?,
-        },
-    })
+    match change {
+        Change::PutFile(path, bytes) => file_line(alloc, path.text().as_str(), bytes),
+        Change::PutDir(path) => line_of(alloc, "dir", path.text().as_str()),
+        Change::Remove(path) => line_of(alloc, "remove", path.text().as_str()),
+        Change::SetPerms(path, perms) => perms_line(alloc, path.text().as_str(), perms),
+        Change::PutService(name, row) => service_line(alloc, name, row),
+        Change::PutLock(key, moment) => lock_line(alloc, key.text(), *moment),
+        Change::Append(bytes) => record_line(alloc, bytes),
+    }
 }
 
 // The entries of a log behind the first ones, each as a line.
@@ -105,6 +121,28 @@ fn log_behind(alloc: Global, log: &[Entry], count: usize) -> Result<String, Fail
     Ok(told)
 }
 
+// Makes a run, and answers its status and what it puts.
+fn make_run<S: Site>(
+    alloc: Global,
+    run: &Run,
+    inputs: &mut MemoryInputs,
+    site: &mut S,
+) -> Result<(u8, MemorySink), Fail> {
+    let words = words_of(alloc, run.words)?;
+    let mut out = MemorySink::new(alloc, 1_048_576, Vec::new(alloc))?;
+    let mut pats = RegexPatterns::new(alloc, vec![in alloc; run.refused_build]?);
+    let status = agent_main(
+        alloc,
+        words.as_slice(),
+        run.moment,
+        inputs,
+        site,
+        &mut out,
+        &mut pats,
+    );
+    Ok((status, out))
+}
+
 // Makes a run, and compares what it puts and answers.
 pub fn compare_lines<S: Site>(
     rt: &impl Abort,
@@ -112,19 +150,8 @@ pub fn compare_lines<S: Site>(
     run: &Run,
     site: &mut S,
 ) -> Result<(), Fail> {
-    let words = words_of(alloc, run.words)?;
     let mut inputs = inputs_of(alloc, &[("a.cf", run.text.as_bytes())], 0)?;
-    let mut out = MemorySink::new(alloc, 1_048_576, Vec::new(alloc))?;
-    let mut pats = RegexPatterns::new(alloc, vec![in alloc; run.refused_build]?);
-    let status = agent_main(
-        alloc,
-        words.as_slice(),
-        run.moment,
-        &mut inputs,
-        site,
-        &mut out,
-        &mut pats,
-    );
+    let (status, out) = make_run(alloc, run, &mut inputs, site)?;
     let put = str::from_utf8(out.bytes()).unwrap_or("no text");
     assert!(rt; put == run.lines, "lines of {}, which are {put}", run.lines);
     assert!(rt; status == run.status, "status of {}", run.lines);

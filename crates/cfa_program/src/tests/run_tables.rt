@@ -66,7 +66,7 @@ fn policy_of(alloc: Global, frame: &str, heading: &str) -> Result<String, Fail> 
 }
 
 // The lines of a run that begin with this mark, without it.
-fn marked_lines(alloc: Global, part: &str, mark: &str) -> Result<String, Fail> {
+pub fn marked_lines(alloc: Global, part: &str, mark: &str) -> Result<String, Fail> {
     let mut marked = String::new(alloc);
     for line in part.lines().skip(1) {
         if let Some(rest) = line.strip_prefix(mark) {

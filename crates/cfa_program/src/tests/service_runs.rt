@@ -1,7 +1,9 @@
 // Runs of a policy whose service follows the lines of a file, where all goes well and where each call on the site fails.
 use super::run_tables::{compare_framed, compare_row_on};
 use super::worlds::site_of;
-use cfa_outside::MemorySite;
+use cfa_outside::{MemorySite, World};
+use std::alloc::Global;
+use std::process::Abort;
 use std::test::Fail;
 
 // A file is to have each setting as a line, and its service is restarted where it had not.
@@ -222,16 +224,32 @@ const STOPS: [(u32, &str, &str); 7] = [
     (6, FILE, KEPT),
 ];
 
+// The site whose run is stopped behind so many changes, after that run.
+fn stopped_site(
+    rt: &impl Abort,
+    alloc: Global,
+    changes: u32,
+    lines: &str,
+) -> Result<MemorySite, Fail> {
+    let heading = format!(in alloc; "{HOST}!! {changes}")?;
+    let mut site = site_of(alloc, heading.as_str())?;
+    let row = format!(in alloc; "stopped\n{SSH}\n$ 4 run a.cf -K\n{lines}")?;
+    compare_row_on(rt, alloc, row.as_str(), &mut site)?;
+    Ok(site)
+}
+
+// Makes the next run on the world left.
+fn run_again(rt: &impl Abort, alloc: Global, world: World, lines: &str) -> Result<(), Fail> {
+    let mut left = MemorySite::new(alloc, world, Vec::new(alloc), None)?;
+    let row = format!(in alloc; "again\n{SSH}\n$ 0 run a.cf -K\n{lines}")?;
+    compare_row_on(rt, alloc, row.as_str(), &mut left)
+}
+
 #[test]
 fn a_run_goes_on_where_a_stopped_one_ended(rt: HostRuntime) -> Result<(), Fail> {
-    let alloc = rt.alloc();
     for (changes, first, second) in STOPS {
-        let mut site = site_of(alloc, format!(in alloc; "{HOST}!! {changes}")?.as_str())?;
-        let row = format!(in alloc; "stopped\n{SSH}\n$ 4 run a.cf -K\n{first}")?;
-        compare_row_on(&rt, alloc, row.as_str(), &mut site)?;
-        let mut left = MemorySite::new(alloc, site.into_world(), Vec::new(alloc), None)?;
-        let row = format!(in alloc; "again\n{SSH}\n$ 0 run a.cf -K\n{second}")?;
-        compare_row_on(&rt, alloc, row.as_str(), &mut left)?;
+        let site = stopped_site(&rt, rt.alloc(), changes, first)?;
+        run_again(&rt, rt.alloc(), site.into_world(), second)?;
     }
     Ok(())
 }

@@ -5,13 +5,13 @@
 // that its check puts, and hosts. A host is `- HOST | LINES | COUNTS | LINES | COUNTS`: what stands on it (`worlds`), and for the
 // first run and for the rerun the lines before the total, and how many promises are kept, repaired and failed. One on which a
 // promise fails is `x HOST | LINES | COUNTS`. Several things or lines are parted by `; `. Each host is made in memory, and in a folder.
+use super::folders::host_in;
 use super::run_logs::{Run, compare_lines, compare_run, unlocked_run};
 use super::run_tables::BLOCKS;
 use super::worlds::{parts, site_of};
-use cfa_base::{Name, unescape};
 use cfa_hostdir::HostSite;
+use cfa_outside::MemorySite;
 use std::alloc::Global;
-use std::fs;
 use std::process::Abort;
 use std::test::Fail;
 
@@ -213,43 +213,48 @@ fn put_by_run(alloc: Global, lines: &str, counts: &str, settled: &str) -> Result
     )?)
 }
 
-// Makes a directory or a file in the folder of a host.
-fn put_node(rt: &HostRuntime, folder: &str, item: &str) -> Result<(), Fail> {
-    let alloc = rt.alloc();
-    let (kind, text) = parts(item, " ");
-    let (path, field) = parts(text, " ");
-    let node = format!(in alloc; "{folder}/tree{path}")?;
-    if kind == "dir" {
-        fs::create_dir(rt, node.as_str())?;
+// Makes the first run on a host in memory and on one in a folder.
+fn compare_first(
+    rt: &impl Abort,
+    alloc: Global,
+    policy: &str,
+    line: &str,
+    site: &mut MemorySite,
+    real: &mut HostSite<HostRuntime>,
+) -> Result<(), Fail> {
+    let (settled, status) = if line.starts_with("x ") {
+        ("no (failed)", 2)
     } else {
-        let content = unescape(alloc, &Name::from_text(alloc, field)?)?;
-        fs::write(rt, node.as_str(), content.as_str())?;
-    }
-    Ok(())
+        ("yes", 0)
+    };
+    let put = put_by_run(alloc, field(line, 1), field(line, 2), settled)?;
+    let first = Run {
+        status,
+        ..unlocked_run(policy, "", put.as_str())
+    };
+    compare_lines(rt, alloc, &first, site)?;
+    compare_lines(rt, alloc, &first, real)
 }
 
-// The real host in a new folder.
-fn host_in(rt: &HostRuntime, folder: &str, host: &str) -> Result<HostSite<HostRuntime>, Fail> {
-    let alloc = rt.alloc();
-    let _ = fs::remove_dir_all(rt, folder);
-    fs::create_dir(rt, folder)?;
-    fs::create_dir(rt, format!(in alloc; "{folder}/tree")?.as_str())?;
-    let mut services = String::new(alloc);
-    for item in host.split("; ") {
-        if let Some(row) = item.strip_prefix("service ") {
-            services.push_str(row)?;
-            services.push_str("\n")?;
-        } else if !item.is_empty() {
-            put_node(rt, folder, item)?;
-        }
-    }
-    let table = format!(in alloc; "{folder}/services.tab")?;
-    fs::write(rt, table.as_str(), services.as_str())?;
-    Ok(HostSite::new(rt.clone()?, Name::from_text(alloc, folder)?))
+// Makes the rerun, which is in the last second of the minute in whose first second the first run is.
+fn compare_again(
+    rt: &impl Abort,
+    alloc: Global,
+    policy: &str,
+    line: &str,
+    site: &mut MemorySite,
+    real: &mut HostSite<HostRuntime>,
+) -> Result<(), Fail> {
+    let put = put_by_run(alloc, field(line, 3), field(line, 4), "yes")?;
+    let again = Run {
+        moment: 1_704_103_259,
+        ..unlocked_run(policy, "", put.as_str())
+    };
+    compare_run(rt, alloc, &again, site)?;
+    compare_lines(rt, alloc, &again, real)
 }
 
-// Makes both runs on a host in memory and on one in a folder. The rerun is in the last second of the minute in whose first second the
-// first run is.
+// Makes both runs on both hosts, or the first alone where a promise of it fails.
 fn compare_host(
     rt: &impl Abort,
     files: &HostRuntime,
@@ -260,45 +265,32 @@ fn compare_host(
     let alloc = files.alloc();
     let (mark, host) = parts(field(line, 0), " ");
     let mut site = site_of(alloc, lines_of(alloc, "+ ", host)?.as_str())?;
-    let mut real = host_in(files, folder, host)?;
-    let (settled, status) = if mark == "x" {
-        ("no (failed)", 2)
-    } else {
-        ("yes", 0)
-    };
-    let put = put_by_run(alloc, field(line, 1), field(line, 2), settled)?;
-    let first = Run {
-        status,
-        ..unlocked_run(policy, "", put.as_str())
-    };
-    compare_lines(rt, alloc, &first, &mut site)?;
-    compare_lines(rt, alloc, &first, &mut real)?;
+    let mut real = host_in(files, folder, lines_of(alloc, "", host)?.as_str())?;
+    compare_first(rt, alloc, policy, line, &mut site, &mut real)?;
     if mark == "x" {
         return Ok(());
     }
-    let put = put_by_run(alloc, field(line, 3), field(line, 4), settled)?;
-    let again = Run {
-        moment: 1_704_103_259,
-        ..unlocked_run(policy, "", put.as_str())
+    compare_again(rt, alloc, policy, line, &mut site, &mut real)
+}
+
+// Checks a policy on an empty host: so many live instances are accepted.
+fn compare_accepted(rt: &impl Abort, alloc: Global, policy: &str, live: &str) -> Result<(), Fail> {
+    let accepted = format!(in alloc; "accepted {live}\n")?;
+    let check = Run {
+        words: "check a.cf",
+        ..unlocked_run(policy, "", accepted.as_str())
     };
-    compare_run(rt, alloc, &again, &mut site)?;
-    compare_lines(rt, alloc, &again, &mut real)
+    compare_run(rt, alloc, &check, &mut site_of(alloc, "")?)
 }
 
 // The check of a row's policy, which names none of the variables of the blocks, and the runs on each host.
 fn compare_row(rt: &impl Abort, files: &HostRuntime, folder: &str, row: &str) -> Result<(), Fail> {
-    let alloc = files.alloc();
     let (heading, rest) = parts(row, "\naccepted ");
     let (_, policy) = parts(heading, "\n");
     let (blocks, _) = parts(BLOCKS, "bundle common long");
     let (live, hosts) = parts(rest, "\n");
-    let policy = format!(in alloc; "{policy}\n{blocks}")?;
-    let accepted = format!(in alloc; "accepted {live}\n")?;
-    let check = Run {
-        words: "check a.cf",
-        ..unlocked_run(policy.as_str(), "", accepted.as_str())
-    };
-    compare_run(rt, alloc, &check, &mut site_of(alloc, "")?)?;
+    let policy = format!(in files.alloc(); "{policy}\n{blocks}")?;
+    compare_accepted(rt, files.alloc(), policy.as_str(), live)?;
     for line in hosts.lines() {
         compare_host(rt, files, folder, policy.as_str(), line)?;
     }
