@@ -10,7 +10,7 @@ use crate::sections::{OpenPromise, OpenSection, SectionState, StandingSection};
 use crate::values::{ValueProgress, ValueState, take_in_value, value_start};
 use cfa_base::{Kind, Name, Place};
 use cfa_lexer::Token;
-use cfa_tree::{Attribute, Attributes, Value};
+use cfa_tree::{Attribute, Parts, Value};
 use std::alloc::Global;
 
 fn new_promise(alloc: Global, promiser: Name, place: Place, promisee: Option<Value>) -> OpenPromise
@@ -48,7 +48,7 @@ fn close_promise(section: OpenSection, promise: OpenPromise) -> Result<StandingS
         between_promises ≡ Some (seen_section s)) }
     ensures memory { IfErr result OnlyMemory }
 {
-    let attributes = Attributes::from_vec(promise.attributes);
+    let attributes = Parts::from_vec(promise.attributes);
     let promises = section.promises.with(
         promise.promiser,
         promise.promisee,

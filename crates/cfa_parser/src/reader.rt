@@ -18,9 +18,7 @@ use crate::headings::{
 };
 use cfa_base::{Kind, Place};
 use cfa_lexer::Token;
-use cfa_tree::{
-    Attribute, Attributes, Block, Blocks, Body, Bundle, Params, Policy, Section, Sections,
-};
+use cfa_tree::{Attribute, Block, Body, Bundle, Parts, Policy, Section};
 use std::alloc::Global;
 
 // Where the reading stands within a policy.
@@ -53,8 +51,8 @@ fn with_bundle(
     blocks.push(Block::Bundle(Bundle {
         kind: heading.kind,
         name: heading.name,
-        params: Params::from_vec(heading.params),
-        sections: Sections::from_vec(sections),
+        params: Parts::from_vec(heading.params),
+        sections: Parts::from_vec(sections),
         place: heading.place,
     }))?;
     Ok(blocks)
@@ -74,8 +72,8 @@ fn with_body(
     blocks.push(Block::Body(Body {
         kind: heading.kind,
         name: heading.name,
-        params: Params::from_vec(heading.params),
-        attributes: Attributes::from_vec(attributes),
+        params: Parts::from_vec(heading.params),
+        attributes: Parts::from_vec(attributes),
         place: heading.place,
     }))?;
     Ok(blocks)
@@ -227,7 +225,7 @@ fn whole_policy(reader: Reader) -> Option<Policy>
     let Reader { blocks, state } = reader;
     match state {
         State::BetweenBlocks => Some(Policy {
-            blocks: Blocks::from_vec(blocks),
+            blocks: Parts::from_vec(blocks),
         }),
         _ => None,
     }

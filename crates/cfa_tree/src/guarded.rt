@@ -2,7 +2,7 @@
 ghost use Rattle.std.specs.Prelude.{◌≡◌, ◌∷◌, ◌++◌, [], None, Some, IfOk, IsTrue, length};
 ghost use Rattle.cfa_tree.specs.Repeats.{guard_before};
 
-use crate::{Attributes, Expr, Guard, Promise, Promises, Value};
+use crate::{Attribute, Expr, Guard, Parts, Promise, Promises, Value};
 use cfa_base::{Name, NoMemory, Place};
 use std::alloc::Global;
 
@@ -55,7 +55,7 @@ impl GuardedPromises {
         self,
         promiser: Name,
         promisee: Option<Value>,
-        attributes: Attributes,
+        attributes: Parts<Attribute>,
         place: Place,
     ) -> Result<GuardedPromises, NoMemory>
         ensures promises { IfOk result (λ g. g.promises ≡ self.promises ++ record {

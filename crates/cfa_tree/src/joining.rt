@@ -3,7 +3,7 @@ ghost use Rattle.std.specs.Prelude.{◌≡◌, IfOk};
 ghost use Rattle.std.specs.List.{flat_map};
 ghost use Rattle.cfa_tree.specs.Plain.{plain_policy};
 
-use crate::{Blocks, Policy};
+use crate::{Parts, Policy};
 use cfa_base::NoMemory;
 use std::alloc::Global;
 
@@ -16,6 +16,6 @@ pub fn join(alloc: Global, parts: Vec<Policy>) -> Result<Policy, NoMemory>
         blocks.extend(part.blocks.into_vec())?;
     }
     Ok(Policy {
-        blocks: Blocks::from_vec(blocks),
+        blocks: Parts::from_vec(blocks),
     })
 }

@@ -10,12 +10,13 @@ mod guarded;
 mod guards;
 mod joining;
 mod laws;
+mod parts;
 mod promises;
 mod sections;
 mod values;
 
-pub use attributes::{Attribute, Attributes};
-pub use blocks::{Block, Blocks, Body, Bundle, Named, Params, Policy};
+pub use attributes::Attribute;
+pub use blocks::{Block, Body, Bundle, Named, Policy};
 pub use class_texts::{ExprErr, read_expr};
 pub use expressions::Expr;
 pub use guarded::GuardedPromises;
@@ -25,6 +26,7 @@ pub use guards::{
 };
 pub use joining::join;
 pub use laws::expressions_are_read;
+pub use parts::Parts;
 pub use promises::{Guard, Promise, Promises};
-pub use sections::{Section, Sections};
+pub use sections::Section;
 pub use values::Value;

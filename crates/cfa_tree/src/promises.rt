@@ -1,7 +1,7 @@
 // Promises.
 ghost use Rattle.std.specs.Prelude.{◌≡◌, ◌<◌, ◌∷◌, ◌++◌, [], IfOk, IsTrue, length};
 
-use crate::{Attributes, Expr, Value};
+use crate::{Attribute, Expr, Parts, Value};
 use cfa_base::{Name, NoMemory, Place};
 use std::alloc::Global;
 use std::marker::Model;
@@ -56,7 +56,7 @@ pub struct Promise {
     pub guard: Option<Guard>,
     pub promiser: Name,
     pub promisee: Option<Value>,
-    pub attributes: Attributes,
+    pub attributes: Parts<Attribute>,
     pub place: Place,
 }
 

@@ -1,0 +1,44 @@
+// Lists of parts.
+ghost use Rattle.std.specs.Prelude.{◌≡◌};
+
+use std::marker::Model;
+
+/// Parts of one kind, in order: the attributes of a promise, say, or the blocks of a policy. Contracts see their list.
+#[derive(Drop)]
+pub struct Parts<T> {
+    items: Vec<T>,
+}
+
+impl<T> Model for Parts<T> {
+    ghost use Rattle.std.specs.Prelude.{List};
+    ghost use Rattle.std.specs.Coded.{coded_list};
+
+    ghost Value = { List T };
+
+    ghost coded = { coded_list T.code };
+
+    ghost view = { λ a. a.items.items };
+}
+
+impl<T> Parts<T> {
+    /// The parts of a `Vec`, without taking memory.
+    pub fn from_vec(items: Vec<T>) -> Parts<T>
+        ensures { result ≡ items.items }
+    {
+        Parts { items }
+    }
+
+    /// The parts, without taking memory.
+    pub fn as_slice(&self) -> &[T]
+        ensures { result.now ≡ self.now }
+    {
+        self.items.as_slice()
+    }
+
+    /// The parts as a `Vec`, without taking memory.
+    pub fn into_vec(self) -> Vec<T>
+        ensures { result.items ≡ self }
+    {
+        self.items
+    }
+}
