@@ -35,11 +35,13 @@ impl Model for Acts {
 }
 
 impl Acts {
-    /// The acts of a `Vec`.
+    /// The acts of a `Vec`. What room it has left over is given back.
     pub fn from_vec(alloc: Global, items: Vec<Act>) -> Result<Acts, base::NoMemory>
         requires { All IsAct items.items }
         ensures { IfOk result (λ acts. acts ≡ items.items) }
     {
+        let mut items = items;
+        items.shrink_to_fit();
         let items = Rc::new(alloc, items)?;
         Ok(Acts { items })
     }

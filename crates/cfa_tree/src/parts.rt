@@ -21,10 +21,12 @@ impl<T> Model for Parts<T> {
 }
 
 impl<T> Parts<T> {
-    /// The parts of a `Vec`, without taking memory.
+    /// The parts of a `Vec`, without taking memory. What room it has left over is given back.
     pub fn from_vec(items: Vec<T>) -> Parts<T>
         ensures { result ≡ items.items }
     {
+        let mut items = items;
+        items.shrink_to_fit();
         Parts { items }
     }
 
