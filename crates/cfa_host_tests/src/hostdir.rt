@@ -1,12 +1,12 @@
 // The real host, in folders that each test makes where it runs.
 ghost use Rattle.cfa_acts.specs.Acts.{IsAct};
 
-use crate::act_texts::{act_of, pair};
+use crate::act_texts::{act_of, pair, path_of};
 use crate::acts::told;
 use cfa_acts::{Act, Decision, decide};
 use cfa_base::{Bytes, Key, Name};
 use cfa_hostdir::HostSite;
-use cfa_outside::{Change, MemorySite, Path, ServiceRow, Site, World};
+use cfa_outside::{Change, MemorySite, ServiceRow, Site, World};
 use std::alloc::Global;
 use std::fs;
 use std::os::unix::fs::symlink;
@@ -155,10 +155,6 @@ fn acts_in_a_folder(rt: HostRuntime) -> Result<(), Fail> {
     drop(compare_in(&rt, &rt, "acts", KEPT)?);
     check_texts(&rt, &rt, &TABLES);
     Ok(())
-}
-
-fn path_of(alloc: Global, text: &str) -> Result<Path, Fail> {
-    Ok(Path::read(alloc, &Name::from_text(alloc, text)?)?)
 }
 
 fn zeros() -> Result<Key, Fail> {

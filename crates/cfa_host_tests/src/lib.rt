@@ -7,6 +7,8 @@ mod act_texts;
 #[cfg(test)]
 mod acts;
 #[cfg(test)]
+mod changes;
+#[cfg(test)]
 mod edits;
 #[cfg(test)]
 mod hostdir;

@@ -1,6 +1,6 @@
 // Rows whose expected values come from the rules on readings, puts and builds. A table is a text, each line of which is what is
 // given, `=>`, and what is wanted.
-use crate::paths::sides;
+use crate::act_texts::pair;
 use cfa_base::{Bytes, How, Name, NoMemory, PatternErr};
 use cfa_outside::{Inputs, MemoryInputs, MemorySink, OutsideErr, Patterns, RegexPatterns, Sink};
 use std::alloc::Global;
@@ -45,7 +45,7 @@ fn reads_texts(rt: HostRuntime) -> Result<(), Fail> {
     let alloc = rt.alloc();
     let mut inputs = texts(alloc)?;
     for row in READINGS.lines() {
-        let (reading, want) = sides(&rt, row);
+        let (reading, want) = pair(&rt, row, " => ");
         let (name, limit) = reading.split_once(' ').ok_or("no limit")?;
         check_reading(&rt, alloc, &mut inputs, name, limit.parse::<u32>()?, want)?;
     }
@@ -65,7 +65,7 @@ fn puts_what_fits(rt: HostRuntime) -> Result<(), Fail> {
     let alloc = rt.alloc();
     let mut sink = MemorySink::new(alloc, 5, Vec::from_slice(alloc, &[2, 3])?)?;
     for row in PUTS.lines() {
-        let (piece, want) = sides(&rt, row);
+        let (piece, want) = pair(&rt, row, " => ");
         let taken = sink.put(piece.as_bytes());
         assert_eq!(rt; format!(in alloc; "{taken:?}")?.as_str(), want);
     }

@@ -1,12 +1,13 @@
 // Rows whose expected values come from the rules on paths. A table is a text, each line of which is what is given, `=>`, and what is
 // wanted.
+use crate::act_texts::pair;
 use cfa_base::Name;
 use cfa_outside::{Path, PathErr};
 use std::alloc::{AllocError, Global};
 use std::process::Abort;
 use std::test::Fail;
 
-pub fn path_of(alloc: Global, text: &str) -> Result<Path, PathErr> {
+fn read(alloc: Global, text: &str) -> Result<Path, PathErr> {
     Path::read(alloc, &Name::from_text(alloc, text)?)
 }
 
@@ -17,14 +18,6 @@ fn letters(alloc: Global, count: usize) -> Result<String, AllocError> {
         text.push_str("a")?;
     }
     Ok(text)
-}
-
-// The two sides of a row.
-pub fn sides<'a>(rt: &impl Abort, row: &'a str) -> (&'a str, &'a str) {
-    match row.split_once(" => ") {
-        Some(sides) => sides,
-        None => panic!(rt; "no row: {row}"),
-    }
 }
 
 const PATHS: &str = " => none
@@ -48,7 +41,7 @@ a/b => none
 /\u{e9}/\u{4e16} x => /\u{e9}/\u{4e16} x";
 
 fn check_path(rt: &impl Abort, alloc: Global, text: &str, want: &str) -> Result<(), Fail> {
-    match path_of(alloc, text) {
+    match read(alloc, text) {
         Ok(path) => assert_eq!(rt; path.copy(alloc)?.text().as_str(), want, "{text}"),
         Err(PathErr::BadPath) => assert_eq!(rt; "none", want, "{text}"),
         Err(PathErr::NoMemory) => return Err(PathErr::NoMemory.into()),
@@ -59,7 +52,7 @@ fn check_path(rt: &impl Abort, alloc: Global, text: &str, want: &str) -> Result<
 #[test]
 fn reads_paths(rt: HostRuntime) -> Result<(), Fail> {
     for row in PATHS.lines() {
-        let (text, want) = sides(&rt, row);
+        let (text, want) = pair(&rt, row, " => ");
         check_path(&rt, rt.alloc(), text, want)?;
     }
     Ok(())
@@ -87,10 +80,10 @@ fn text_of_sizes(alloc: Global, sizes: &str) -> Result<String, Fail> {
 #[test]
 fn reads_long_paths(rt: HostRuntime) -> Result<(), Fail> {
     for row in SIZES.lines() {
-        let (sizes, want) = sides(&rt, row);
+        let (sizes, want) = pair(&rt, row, " => ");
         let text = text_of_sizes(rt.alloc(), sizes)?;
         assert_eq!(rt;
-            path_of(rt.alloc(), text.as_str()).is_ok(),
+            read(rt.alloc(), text.as_str()).is_ok(),
             want == "path",
             "{sizes}"
         );
