@@ -1,5 +1,5 @@
 // The expansion of a text.
-ghost use Rattle.std.specs.Prelude.{◌≡◌, ◌++◌, ◌<◌, ◌≤◌, IfOk, MatchBool, is_none, length, unwrap_or, [], option_copied, option_map};
+ghost use Rattle.std.specs.Prelude.{◌≡◌, ◌++◌, ◌<◌, ◌≤◌, IfOk, IfSome, MatchBool, None, is_none, length, option_copied};
 ghost use Rattle.std.specs.String.{string_bytes, string_len};
 ghost use Rattle.cfa_vars.specs.Named.{thing_at};
 ghost use Rattle.cfa_vars.specs.Scopes.{in_scope};
@@ -65,16 +65,6 @@ fn first_unresolved<'t>(
     None
 }
 
-// What a reference stands for, nothing where it is unresolved.
-fn put_in<'a>(scopes: &Scopes<'a>, choice: &'a [(Name, Name)], name: &str) -> &'a str
-    ensures { result.now ≡ unwrap_or (scalar (in_scope scopes.now) choice.now name.now) [] }
-{
-    match scalar(scopes, choice, name) {
-        Some(text) => text,
-        None => "",
-    }
-}
-
 // Adds a part to a text if the whole stays within the limit, and tells whether it did.
 fn add(whole: &mut String, part: &str) -> Result<bool, NoMemory>
     requires { string_len whole.old ≤ MOST_TEXT_BYTES }
@@ -90,23 +80,30 @@ fn add(whole: &mut String, part: &str) -> Result<bool, NoMemory>
     Ok(true)
 }
 
-// The text with what each reference stands for in its place, or `None` past the limit.
+// The text with what each reference stands for in its place, or `None` where one stands for nothing, and past the limit.
 fn fill(
     alloc: Global,
     text: &str,
     scopes: &Scopes<'_>,
     choice: &[(Name, Name)],
 ) -> Result<Option<String>, NoMemory>
-    ensures { IfOk result (λ whole. option_map string_bytes whole
-        ≡ within_limit (filled (in_scope scopes.now) choice.now text.now)) }
+    ensures done { IfOk result (λ whole. IfSome whole (λ w.
+        expanded (in_scope scopes.now) choice.now text.now ≡ Expanded.Done (string_bytes w))) }
+    ensures long { IfOk result (λ whole. whole ≡ None
+        → first_unresolved (in_scope scopes.now) choice.now text.now ≡ None
+        → within_limit (filled (in_scope scopes.now) choice.now text.now) ≡ None) }
 {
     let mut whole = String::new(alloc);
     let mut rest = text;
     while let Some(found) = first_reference(rest) {
+        let part = match scalar(scopes, choice, found.name) {
+            Some(part) => part,
+            None => return Ok(None),
+        };
         if !add(&mut whole, found.before)? {
             return Ok(None);
         }
-        if !add(&mut whole, put_in(scopes, choice, found.name))? {
+        if !add(&mut whole, part)? {
             return Ok(None);
         }
         rest = found.after;
@@ -132,11 +129,11 @@ pub fn expand(
 ) -> Result<Expanded, NoMemory>
     ensures { IfOk result (λ e. e ≡ expanded (in_scope scopes.now) choice.now text.now) }
 {
-    if let Some(name) = first_unresolved(text.as_str(), scopes, choice) {
-        return Ok(Expanded::Unresolved(Name::from_text(alloc, name)?));
+    if let Some(whole) = fill(alloc, text.as_str(), scopes, choice)? {
+        return Ok(Expanded::Done(Name::from_string(whole)));
     }
-    match fill(alloc, text.as_str(), scopes, choice)? {
-        Some(whole) => Ok(Expanded::Done(Name::from_string(whole))),
+    match first_unresolved(text.as_str(), scopes, choice) {
+        Some(name) => Ok(Expanded::Unresolved(Name::from_text(alloc, name)?)),
         None => Ok(Expanded::TooLong),
     }
 }
