@@ -25,7 +25,7 @@ use Rattle.cfa_functions.specs.declared.listing.ValueList.TheVariants.{Items, Un
 use Rattle.cfa_functions.specs.Calls.{text_given, list_given, referred_list}
 use Rattle.cfa_defines.specs.OwnTexts.{arguments_of, held_list}
 use Rattle.cfa_defines.specs.Items.{items_or_none, item_count}
-use Rattle.cfa_schema.specs.Served.{body_of}
+use Rattle.cfa_served.specs.Served.{body_of}
 use Rattle.cfa_bodies.specs.declared.sayings.Said.{Said}
 use Rattle.cfa_bodies.specs.declared.sayings.Said.TheVariants.{Text as text_said, Items as items_said, Unresolved as unresolved, Over as over}
 use Rattle.cfa_bodies.specs.declared.hearing.Heard.{Heard}

@@ -6,7 +6,7 @@ ghost use Rattle.cfa_tree.specs.Plain.{plain_attribute, plain_block, plain_promi
 ghost use Rattle.cfa_tree.specs.Tree.{value_trees};
 ghost use Rattle.cfa_vars.specs.Scopes.{in_scope};
 ghost use Rattle.cfa_schema.specs.Seen.{tree_of};
-ghost use Rattle.cfa_schema.specs.Served.{body_of};
+ghost use Rattle.cfa_served.specs.Served.{body_of};
 ghost use Rattle.cfa_defines.specs.OwnTexts.{arguments_of};
 ghost use Rattle.cfa_bodies.specs.Bodies.{name_given, saying_of, sayings_in, body_by, bodies_of};
 

@@ -19,8 +19,8 @@ use Rattle.cfa_resolve.specs.declared.instances.Instance.{Instance}
 use Rattle.cfa_resolve.specs.declared.instances.Work.{Work}
 use Rattle.cfa_resolve.specs.declared.instances.Work.TheVariants.{Acts, Call, Report}
 use Rattle.cfa_resolve.specs.Resolution.{resolution, reached_at, is_acting}
-use Rattle.cfa_schema.specs.Control.{sequence_of}
-use Rattle.cfa_schema.specs.Served.{bundle_of, common_bundles_of}
+use Rattle.cfa_served.specs.Control.{sequence_of}
+use Rattle.cfa_served.specs.Served.{bundle_of, common_bundles_of}
 use Rattle.cfa_scripts.specs.declared.blaming.Unsettled.{Unsettled}
 use Rattle.cfa_tree.specs.Tree.{ExprTree, BlockTree, NamedTree}
 use Rattle.cfa_vars.specs.declared.scoping.Datum.{Datum}

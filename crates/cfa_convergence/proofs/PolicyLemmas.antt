@@ -27,11 +27,11 @@ use Rattle.cfa_values.specs.Attributes.{value_of, attribute_by, attribute_refusa
 use Rattle.cfa_values.specs.Definitions.{BundleHead, bundle_named}
 use Rattle.cfa_values.specs.Scope.{in_bundle}
 use Rattle.cfa_values.specs.Values.{Setting, is_known, value_count, text_scope, named_by_text, method_refusals, repeated}
-use Rattle.cfa_schema.specs.Checked.{promises_of, worded_promises_of, ids_from, ids_in_block, promise_ids_of}
-use Rattle.cfa_schema.specs.Control.{control_of, sequence_of}
+use Rattle.cfa_served.specs.Checked.{promises_of, worded_promises_of, ids_from, ids_in_block, promise_ids_of}
+use Rattle.cfa_served.specs.Control.{control_of, sequence_of}
 use Rattle.cfa_schema.specs.Defined.{bundle_head, definitions_of}
 use Rattle.cfa_schema.specs.Laws.{Stands, in_promise, by_word, by_call, NamesBundle, by_name, by_text, NothingIsRefused, AgentBundleIsThere, IsWord, HasWordName, WordsLackNewlines, NamesAreWords, NamedBundleStands, CommonBundlesStand, CommonNamesAreWords, SequenceNamesAreWords, IsCounted, IdsAreCounted}
-use Rattle.cfa_schema.specs.Served.{common_bundles_of}
+use Rattle.cfa_served.specs.Served.{common_bundles_of}
 use Rattle.cfa_schema.specs.Sourced.{IsSourced}
 use Rattle.cfa_schema.specs.Valid.{Valid, refusals, repeated_bodies_after, body_name, bundle_name, default_refusals, block_refusals, bundle_by, other_type}
 use Rattle.cfa_walk.specs.Levels.{HasPlainNames}

@@ -11,8 +11,8 @@ use Rattle.cfa_kinds.specs.declared.kinds.PromiseType.{PromiseType}
 use Rattle.cfa_resolve.specs.declared.instances.Instance.{Instance}
 use Rattle.cfa_resolve.specs.declared.instances.Work.{Work}
 use Rattle.cfa_resolve.specs.declared.instances.Work.TheVariants.{Acts, Call, Report}
-use Rattle.cfa_schema.specs.Control.{sequence_of}
-use Rattle.cfa_schema.specs.Served.{bundle_of, common_bundles_of}
+use Rattle.cfa_served.specs.Control.{sequence_of}
+use Rattle.cfa_served.specs.Served.{bundle_of, common_bundles_of}
 use Rattle.cfa_tree.specs.Tree.{BlockTree}
 use Rattle.cfa_vars.specs.declared.scoping.Datum.{Datum}
 use Rattle.cfa_vars.specs.Scopes.{Table}

@@ -9,8 +9,8 @@ use Rattle.cfa_resolve.specs.declared.instances.Instance.{Instance}
 use Rattle.cfa_resolve.specs.declared.instances.Work.{Work}
 use Rattle.cfa_resolve.specs.declared.instances.Work.TheVariants.{Acts, Call, Report}
 use Rattle.cfa_resolve.specs.Resolution.{resolution, reached_at}
-use Rattle.cfa_schema.specs.Control.{sequence_of}
-use Rattle.cfa_schema.specs.Served.{common_bundles_of}
+use Rattle.cfa_served.specs.Control.{sequence_of}
+use Rattle.cfa_served.specs.Served.{common_bundles_of}
 use Rattle.cfa_tree.specs.Tree.{BlockTree}
 use Rattle.cfa_walk.specs.History.{History, everywhere, Raised, Listed, Told}
 use Rattle.cfa_walk.specs.Numbered.{Numbered, numbered_in, name_of, common_types, of_type}

@@ -27,7 +27,7 @@ use Rattle.cfa_acts.specs.declared.acts.Reason.TheVariants as reasons
 use Rattle.cfa_bodies.specs.declared.sayings.Said.{Said}
 use Rattle.cfa_bodies.specs.Bodies.{Sayings, Bodies, text_in, bound, data_given, name_given}
 use Rattle.cfa_defines.specs.OwnTexts.{arguments_of}
-use Rattle.cfa_schema.specs.Served.{bundle_of}
+use Rattle.cfa_served.specs.Served.{bundle_of}
 use Rattle.cfa_scripts.specs.declared.scripting.Scripted.{Scripted}
 use Rattle.cfa_scripts.specs.declared.scripting.Scripted.TheVariants.{Script as a_script, Unresolved as no_script, TooMany as script_many, TooLong as script_long, BadPattern as bad_pattern, BadValue as bad_value}
 use Rattle.cfa_scripts.specs.EditScripts.{Caller, around_of, walked_by, walked}

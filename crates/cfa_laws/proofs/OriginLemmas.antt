@@ -14,7 +14,7 @@ use Rattle.cfa_classes.specs.declared.levels.Status.TheVariants.{No, Maybe, Yes}
 use Rattle.cfa_classes.specs.Status.{lesser, greater}
 use Rattle.cfa_classes.specs.Raised.{status_in, raised}
 use Rattle.cfa_classes.specs.lemmas.Raised.{status_in-none_raised, status_in-raised}
-use Rattle.cfa_schema.specs.Served.{bundle_of}
+use Rattle.cfa_served.specs.Served.{bundle_of}
 use Rattle.cfa_vars.specs.Scopes.{Table}
 use Rattle.cfa_vars.specs.Expansion.{Chosen}
 use Rattle.cfa_bodies.specs.Bodies.{name_given}

@@ -19,7 +19,7 @@ use Rattle.cfa_vars.specs.Choices.{are_too_many}
 use Rattle.cfa_functions.specs.Calls.{list_given, answer_of}
 use Rattle.cfa_outside.specs.Paths.{path_of}
 use Rattle.cfa_values.specs.Scope.{is_literal}
-use Rattle.cfa_schema.specs.Served.{body_of, bundle_of, minutes_of}
+use Rattle.cfa_served.specs.Served.{body_of, bundle_of, minutes_of}
 use Rattle.cfa_defines.specs.OwnTexts.{own_reads, combined}
 use Rattle.cfa_defines.specs.VarsPromises.{setting_choices, data_set}
 use Rattle.cfa_defines.specs.ClassPromises.{raises_of}

@@ -11,7 +11,7 @@ use Rattle.cfa_kinds.specs.declared.kinds.Form.TheVariants.{Minutes}
 use Rattle.cfa_kinds.specs.Forms.{has_form, has_no_leading_zero}
 use Rattle.cfa_values.specs.Attributes.{value_of}
 use Rattle.cfa_values.specs.Values.{known_named}
-use Rattle.cfa_schema.specs.Served.{body_of, minutes_named, minutes_in, or_one, minutes_of}
+use Rattle.cfa_served.specs.Served.{body_of, minutes_named, minutes_in, or_one, minutes_of}
 
 small_digits : (text : List ℕ) → has_form Minutes text ≡ true → digits_value 10 text ≤ 525600
 small_digits text form =

@@ -14,7 +14,7 @@ use Rattle.cfa_kinds.specs.declared.kinds.PromiseType.{PromiseType}
 use Rattle.cfa_kinds.specs.declared.kinds.PromiseType.TheVariants as promises
 use Rattle.cfa_kinds.specs.Forms.{minutes_written}
 use Rattle.cfa_values.specs.Attributes.{value_of}
-use Rattle.cfa_schema.specs.Served.{minutes_of}
+use Rattle.cfa_served.specs.Served.{minutes_of}
 use Rattle.cfa_vars.specs.declared.expanding.Expanded.{Expanded}
 use Rattle.cfa_vars.specs.declared.expanding.Expanded.TheVariants.{Done, Unresolved, TooLong}
 use Rattle.cfa_vars.specs.Scopes.{InScope}

@@ -11,7 +11,7 @@ use Rattle.cfa_tree.specs.Tree.{ValueTree, PromiseTree, PolicyTree}
 use Rattle.cfa_classes.specs.declared.levels.Status.{Status}
 use Rattle.cfa_kinds.specs.declared.kinds.PromiseType.{PromiseType}
 use Rattle.cfa_kinds.specs.declared.kinds.PromiseType.TheVariants as promises
-use Rattle.cfa_schema.specs.Checked.{typed_promise_of}
+use Rattle.cfa_served.specs.Checked.{typed_promise_of}
 use Rattle.cfa_vars.specs.Scopes.{InScope}
 use Rattle.cfa_vars.specs.Expansion.{Chosen}
 use Rattle.cfa_acts.specs.declared.acts.Reason.TheVariants as reasons

@@ -2,7 +2,7 @@
 ghost use Rattle.std.specs.Prelude.{◌≡◌, ◌∷◌, [], Some, IfOk, codes, option_copied};
 ghost use Rattle.cfa_acts.specs.Acts.{IsAct, IsOwn};
 ghost use Rattle.cfa_schema.specs.Seen.{tree_of};
-ghost use Rattle.cfa_schema.specs.Served.{minutes_of};
+ghost use Rattle.cfa_served.specs.Served.{minutes_of};
 ghost use Rattle.cfa_tree.specs.Plain.{plain_promise, plain_value};
 ghost use Rattle.cfa_values.specs.Attributes.{value_of};
 ghost use Rattle.cfa_resolve.specs.declared.instances.Work.TheVariants.{Acts as of_acts};

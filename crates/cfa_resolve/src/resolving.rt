@@ -2,7 +2,7 @@
 ghost use Rattle.std.specs.Prelude.{◌≡◌, ◌∷◌, [], ◌≤◌, ◌<◌, Some, IfOk, IfSome, IsErrOf, IsTrue, ◌↔◌, length};
 ghost use Rattle.cfa_base.specs.Patterns.{SizeRefusal};
 ghost use Rattle.cfa_classes.specs.Raised.{status_in};
-ghost use Rattle.cfa_schema.specs.Checked.{typed_promise_of};
+ghost use Rattle.cfa_served.specs.Checked.{typed_promise_of};
 ghost use Rattle.cfa_schema.specs.Seen.{tree_of};
 ghost use Rattle.cfa_vars.specs.Scopes.{in_scope};
 ghost use Rattle.cfa_acts.specs.Acts.{IsOwn};

@@ -19,7 +19,7 @@ use Rattle.cfa_values.specs.Refusals.{only_if}
 use Rattle.cfa_values.specs.Definitions.{BundleHead, BodyHead, bundle_named, body_named}
 use Rattle.cfa_values.specs.Values.{Setting, text_scope, value_count, values_in, item_refusals, body_found, body_refusals, bundle_found, is_type, edit_refusals, is_known, named_by_text, method_refusals, value_refusals, repeated}
 use Rattle.cfa_values.specs.Attributes.{attribute_name, attribute_by, attribute_refusals, attributes_refusals, value_of}
-use Rattle.cfa_schema.specs.Control.{control_of}
+use Rattle.cfa_served.specs.Control.{control_of}
 use Rattle.cfa_schema.specs.Defined.{definitions_of}
 use Rattle.cfa_schema.specs.Valid.{Valid, refusals, repeated_bodies_after, body_name, bundle_name, default_refusals, block_refusals, bundle_by, body_by, section_by, section_refusals, promise_refusals, promisee_refusals, is_wrong_promiser, lacks_choice, lacks_required, is_misnamed}
 use Rattle.cfa_schema.specs.Laws.{in_promise, of_body, Names, by_word, by_call, NamesBundle, by_name, by_text, NothingIsRefused, NamedBodyIsThere, EditBundleIsThere, AgentBundleIsThere}

@@ -3,7 +3,6 @@ pub mod ChainLemmas
 pub mod CollectedLemmas
 pub mod FactLemmas
 pub mod IdLemmas
-pub mod IndexLemmas
 pub mod LawLemmas
 pub mod LeastLemmas
 pub mod PolicyLemmas

@@ -8,7 +8,7 @@ use Rattle.cfa_values.specs.declared.refusals.Refusal.{Refusal}
 use Rattle.cfa_base.specs.Index.{Text, same_pair, pair_place_of}
 use Rattle.cfa_values.specs.Definitions.{Definitions}
 use Rattle.cfa_schema.specs.Defined.{definitions_of}
-use Rattle.cfa_schema.specs.Control.{control_of}
+use Rattle.cfa_served.specs.Control.{control_of}
 use Rattle.cfa_values.specs.Attributes.{value_of}
 use Rattle.cfa_values.specs.Refusals.{noted, only_if}
 use Rattle.cfa_schema.specs.Valid.{BodyName, bundle_name, body_name, is_same_body, repeated_bodies_after, default_refusals, block_refusals, refusals}

@@ -11,8 +11,7 @@ use Rattle.cfa_base.specs.Lexing.{Scans, ends, a_separator, a_comment, a_token, 
 use Rattle.cfa_base.specs.lemmas.Spelled.{nothing_spells}
 use Rattle.cfa_tree.specs.Tree.{ExprTree, PromiseTree, SectionTree, bundle, body, PolicyTree}
 use Rattle.cfa_tree.specs.Grammar.{Levels, Promises, no_promise, new_guard, a_promise, Sections, no_section, a_section, Policy, no_block, a_bundle, a_body}
-use Rattle.cfa_schema.specs.Checked.{promises_of}
-use Rattle.cfa_schema.specs.Collected.{promise_count, HasFew}
+use Rattle.cfa_served.specs.Checked.{promises_of, promise_count, HasFew}
 use Rattle.cfa_schema.specs.Sourced.{IsRead, AreRead, no_file, a_file, joined, IsSourced}
 use Rattle.cfa_schema.proofs.RestLemmas.{end_fits, guard_ends, attributes_end, promisee_ends, params_end, body_attributes_end}
 

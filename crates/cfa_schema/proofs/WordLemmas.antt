@@ -18,11 +18,10 @@ use Rattle.cfa_values.specs.Scope.{in_body}
 use Rattle.cfa_values.specs.Definitions.{BundleHead, bundle_named}
 use Rattle.cfa_values.specs.Values.{Setting, values_in, known_items, known_item_refusals, name_in, repeated, in_sequence_refusals, sequence_item_refusals, sequence_refusals}
 use Rattle.cfa_values.specs.Attributes.{attribute_by, value_of}
-use Rattle.cfa_schema.specs.Checked.{promises_of, ids_from, ids_in_block, promise_ids_of}
-use Rattle.cfa_schema.specs.Collected.{promise_count, HasFew}
-use Rattle.cfa_schema.specs.Control.{is_control, control_of, names_listed, names_given, sequence_of}
+use Rattle.cfa_served.specs.Checked.{promises_of, ids_from, ids_in_block, promise_ids_of, promise_count, HasFew}
+use Rattle.cfa_served.specs.Control.{is_control, control_of, names_listed, names_given, sequence_of}
 use Rattle.cfa_schema.specs.Defined.{bundle_head, definitions_of}
-use Rattle.cfa_schema.specs.Served.{is_bundle_of, if_bundle, bundle_of, is_common, common_bundles_of}
+use Rattle.cfa_served.specs.Served.{is_bundle_of, if_bundle, bundle_of, is_common, common_bundles_of}
 use Rattle.cfa_schema.specs.Sourced.{IsSourced}
 use Rattle.cfa_schema.specs.Valid.{Valid}
 use Rattle.cfa_schema.specs.Laws.{of_body, IsWord, HasWordName, WordsLackNewlines, NamesAreWords, ParamsAreWords, LinesAreCounts, LinesAreFew, PromisesAreFew, NamedBundleStands, CommonBundlesStand, NamedBundleIsWord, CommonNamesAreWords, SequenceNamesAreWords, IsCounted, IdsAreCounted}

@@ -1,19 +1,14 @@
 -- Of the code alone: what the parts of a policy give to what is collected from the whole, what is noted of the calls that lie
 -- on a cycle, and what holds where the patterns of a policy weren't all built.
-use Rattle.std.specs.Prelude.{ℕ, List, [], ◌∷◌, ◌++◌, length, Option, Some, None, if◌then◌else◌, ◌≡◌, ◌≤◌, false, All, ⊤}
-use Rattle.std.specs.List.{flat_map}
-use Rattle.cfa_tree.specs.Tree.{AttributeTree, PromiseTree, NamedTree, BlockTree, bundle, body, PolicyTree}
+use Rattle.std.specs.Prelude.{ℕ, List, [], ◌∷◌, ◌++◌, length, Option, Some, None, ◌≡◌, false, All, ⊤}
+use Rattle.cfa_tree.specs.Tree.{PromiseTree, NamedTree, BlockTree, bundle, body, PolicyTree}
 use Rattle.cfa_base.specs.declared.patterns.How.{How}
 use Rattle.cfa_base.specs.declared.patterns.How.TheVariants.{Whole, Part}
 use Rattle.cfa_kinds.specs.declared.kinds.PromiseType.{PromiseType}
 use Rattle.cfa_kinds.specs.declared.kinds.PromiseType.TheVariants as promises
-use Rattle.cfa_tree.specs.Plain.{plain_promise}
-use Rattle.cfa_schema.specs.declared.promise_ids.Placed.{Placed}
 use Rattle.cfa_schema.specs.declared.patterns.KnownPattern.{KnownPattern as FoundPattern}
 use Rattle.cfa_kinds.specs.Kinds.{bundle_type}
 use Rattle.cfa_values.specs.Definitions.{BundleHead, BodyHead, Definitions}
-use Rattle.cfa_schema.specs.Checked.{promises_of}
-use Rattle.cfa_schema.specs.Control.{is_control}
 use Rattle.cfa_schema.specs.Valid.{KnownPattern, pattern_at, IsPattern, IsFirstBad}
 use Rattle.cfa_base.specs.declared.places.Place.{Place}
 use Rattle.cfa_values.specs.declared.refusals.Refusal.{Refusal}
@@ -23,11 +18,6 @@ use Rattle.cfa_base.specs.Patterns.{is_pattern}
 use Rattle.cfa_values.specs.declared.refusals.Code.TheVariants.{CallCycle, BadPattern}
 use Rattle.cfa_schema.specs.declared.errors.SchemaErr.{SchemaErr}
 use Rattle.cfa_schema.specs.declared.errors.SchemaErr.TheVariants.{Refused, PatternTooBig, NoMemory}
-
--- the attributes of a block that is `body common control`
-abbrev pub control_in : BlockTree → Option (List AttributeTree)
-control_in (bundle type_name name params sections place) = None
-control_in (body type_name name params attributes place) = if is_control type_name name then Some attributes else None
 
 -- ---- what is defined
 
@@ -45,19 +35,6 @@ with_block definitions (body type_name name params attributes place) = record de
 abbrev pub with_blocks : Definitions → PolicyTree → Definitions
 with_blocks definitions [] = definitions
 with_blocks definitions (b ∷ rest) = with_blocks (with_block definitions b) rest
-
--- ---- promises
-
-abbrev pub seen_placed : Placed → List ℕ × PromiseTree
-seen_placed p = (p.word.now, plain_promise p.promise.now)
-
-abbrev pub promise_count : BlockTree → ℕ
-promise_count (bundle type_name name params sections place) = length (flat_map promises_of sections)
-promise_count (body type_name name params attributes place) = 0
-
--- no block has more promises than this
-abbrev pub HasFew : ℕ → PolicyTree → Type 0
-HasFew most policy = All (λ b. promise_count b ≤ most) policy
 
 -- ---- patterns
 

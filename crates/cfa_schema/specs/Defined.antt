@@ -4,7 +4,7 @@ use Rattle.std.specs.List.{filter_map}
 use Rattle.cfa_tree.specs.Tree.{BlockTree, bundle, body, PolicyTree}
 use Rattle.cfa_kinds.specs.Kinds.{bundle_type}
 use Rattle.cfa_values.specs.Definitions.{Definitions, BodyHead, BundleHead, bundle_named, is_agent_head}
-use Rattle.cfa_schema.specs.Control.{control_of, sequence_of}
+use Rattle.cfa_served.specs.Control.{control_of, sequence_of}
 use Rattle.cfa_values.specs.Attributes.{value_of}
 
 abbrev pub bundle_head : BlockTree → Option BundleHead

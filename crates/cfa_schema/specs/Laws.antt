@@ -21,10 +21,10 @@ use Rattle.cfa_values.specs.Definitions.{BundleHead, BodyHead, bundle_named, bod
 use Rattle.cfa_values.specs.Values.{Setting, is_known, name_in, value_count}
 use Rattle.cfa_values.specs.Attributes.{attribute_refusals}
 use Rattle.cfa_base.specs.declared.places.PromiseId.{PromiseId}
-use Rattle.cfa_schema.specs.Checked.{promises_of, promise_of, typed_promise_of, promise_ids_of}
-use Rattle.cfa_schema.specs.Control.{sequence_of}
+use Rattle.cfa_served.specs.Checked.{promises_of, promise_of, typed_promise_of, promise_ids_of}
+use Rattle.cfa_served.specs.Control.{sequence_of}
 use Rattle.cfa_schema.specs.Defined.{definitions_of}
-use Rattle.cfa_schema.specs.Served.{bundle_of, common_bundles_of}
+use Rattle.cfa_served.specs.Served.{bundle_of, common_bundles_of}
 use Rattle.cfa_schema.specs.Sourced.{IsSourced}
 use Rattle.cfa_schema.specs.Valid.{Valid, FirstRefusal, bundle_name, calls_of}
 use Rattle.cfa_calls.specs.Cycles.{Call}

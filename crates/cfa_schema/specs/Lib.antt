@@ -1,11 +1,7 @@
-pub mod Checked
 pub mod Collected
-pub mod Control
 pub mod Defined
 pub mod Errors
-pub mod Indexed
 pub mod Laws
 pub mod Seen
-pub mod Served
 pub mod Sourced
 pub mod Valid

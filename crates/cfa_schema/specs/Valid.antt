@@ -24,7 +24,7 @@ use Rattle.cfa_values.specs.Refusals.{refusal, is_sooner, only_if}
 use Rattle.cfa_calls.specs.Cycles.{Call, OnCycle}
 use Rattle.cfa_values.specs.Definitions.{Definitions, BundleHead, bundle_named, is_agent}
 use Rattle.cfa_schema.specs.Defined.{definitions_of, has_sequence}
-use Rattle.cfa_schema.specs.Control.{control_of}
+use Rattle.cfa_served.specs.Control.{control_of}
 use Rattle.cfa_values.specs.Attributes.{value_of, attributes_refusals, has_attribute}
 use Rattle.cfa_values.specs.Values.{is_known, known_named, name_in, Setting, text_scope, is_list_reference, item_refusals, value_refusals, repeated}
 use Rattle.cfa_values.specs.declared.refusals.Code.TheVariants.{UnknownType, TypeOutOfScope, WrongValue, ArgumentCount, Duplicate, CallCycle, NoSequence, BadPattern}

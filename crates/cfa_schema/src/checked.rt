@@ -3,18 +3,19 @@ ghost use Rattle.std.specs.Prelude.{◌≡◌, IfOk, map, option_map};
 ghost use Rattle.std.proofs.Props.{props};
 ghost use Rattle.cfa_tree.specs.Plain.{plain_block, plain_policy, plain_promise};
 ghost use Rattle.cfa_calls.specs.Cycles.{NoneOnCycle};
-ghost use Rattle.cfa_schema.specs.Checked.{promise_ids_of, promise_of, typed_promise_of};
-ghost use Rattle.cfa_schema.specs.Control.{sequence_of};
-ghost use Rattle.cfa_schema.specs.Indexed.{IsIndex};
-ghost use Rattle.cfa_schema.specs.Served.{body_of, bundle_of, common_bundles_of, minutes_of};
+ghost use Rattle.cfa_served.specs.Checked.{promise_ids_of, promise_of, typed_promise_of};
+ghost use Rattle.cfa_served.specs.Control.{sequence_of};
+ghost use Rattle.cfa_served.specs.Indexed.{IsIndex};
+ghost use Rattle.cfa_served.specs.Served.{body_of, bundle_of, common_bundles_of, minutes_of};
 ghost use Rattle.cfa_schema.specs.Sourced.{IsSourced};
 ghost use Rattle.cfa_schema.specs.Valid.{Valid, calls_of};
 
-use crate::control::{agent_minutes, common_bundles, sequence_names};
-use crate::index::Index;
-use crate::promise_ids::{find_promise, find_typed_promise, list_ids};
 use cfa_base::{Names, NoMemory, PromiseId};
 use cfa_kinds::{BodyType, PromiseType};
+use cfa_served::{
+    Index, agent_minutes, common_bundles, find_promise, find_typed_promise, list_ids,
+    sequence_names,
+};
 use cfa_tree::{Block, Body, Bundle, Policy, Promise};
 use std::alloc::Global;
 

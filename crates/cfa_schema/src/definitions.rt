@@ -4,12 +4,12 @@ ghost use Rattle.cfa_tree.specs.Plain.{plain_block, plain_named, plain_policy, p
 ghost use Rattle.cfa_schema.specs.Collected.{bundle_head_of, body_head_of, with_block};
 ghost use Rattle.cfa_schema.specs.Defined.{has_sequence, definitions_of};
 ghost use Rattle.cfa_values.specs.Definitions.{is_agent_head};
-ghost use Rattle.cfa_schema.specs.Control.{names_listed, sequence_of};
+ghost use Rattle.cfa_served.specs.Control.{names_listed, sequence_of};
 ghost use Rattle.cfa_values.specs.Kept.{seen_bundle, seen_body};
 
-use crate::control::{control_attributes, listed_names};
 use cfa_base::{NameIndex, NoMemory};
 use cfa_kinds::{BundleType, bundle_type};
+use cfa_served::{control_attributes, listed_names};
 use cfa_tree::{Block, Body, Bundle, Policy, Value};
 use cfa_values::{BodyEntry, BundleEntry, Definitions, value_named};
 use std::alloc::Global;
@@ -34,7 +34,7 @@ fn default_sequence<'a>(alloc: Global) -> Result<NameIndex<'a>, NoMemory>
 }
 
 // The bundles that are activated.
-#[tactic(auto, unfolding(crate::specs::Control::sequence_of))]
+#[tactic(auto, unfolding(cfa_served::specs::Control::sequence_of))]
 fn sequence_of<'a>(alloc: Global, policy: &'a Policy) -> Result<NameIndex<'a>, NoMemory>
     ensures { IfOk result (λ names. names ≡ sequence_of (plain_policy policy.now)) }
 {

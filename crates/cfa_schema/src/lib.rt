@@ -4,22 +4,17 @@
 mod blocks;
 mod bundle_calls;
 mod checked;
-mod control;
 mod definitions;
 mod errors;
-mod index;
-mod inputs;
 mod laws;
 mod patterns;
 mod policies;
-mod promise_ids;
 mod promises;
 mod verdicts;
 
 pub use cfa_values::{Code, Refusal};
 pub use checked::Checked;
 pub use errors::SchemaErr;
-pub use inputs::input_names;
 pub use laws::{
     chains_are_short, ids_are_found, lines_are_counts, named_blocks_are_there, names_are_words,
     one_refusal, served_bundles_stand, served_names_are_words,

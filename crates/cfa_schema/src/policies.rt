@@ -11,9 +11,9 @@ ghost use Rattle.cfa_schema.specs.Valid.{bundle_name, body_name, repeated_bodies
 ghost use Rattle.cfa_values.specs.Values.{repeated};
 
 use crate::blocks::note_blocks;
-use crate::control::control_attributes;
 use cfa_base::{NoMemory, PairIndex};
 use cfa_kinds::BundleType;
+use cfa_served::control_attributes;
 use cfa_tree::{Attribute, Block, Policy};
 use cfa_values::{Code, Definitions, Item, Refusal, has_attribute, note_if, note_repeated};
 use std::alloc::Global;

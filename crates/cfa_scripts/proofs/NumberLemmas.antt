@@ -4,7 +4,7 @@ use Rattle.std.specs.List.{flat_map, cons_option}
 use Rattle.std.proofs.lemmas.List.{drop_more}
 use Rattle.cfa_kinds.specs.declared.kinds.PromiseType.{PromiseType}
 use Rattle.cfa_kinds.specs.Kinds.{promise_type}
-use Rattle.cfa_schema.specs.Checked.{worded_promises_of}
+use Rattle.cfa_served.specs.Checked.{worded_promises_of}
 use Rattle.cfa_tree.specs.Plain.{plain_promise, plain_section}
 use Rattle.cfa_tree.specs.Tree.{PromiseTree}
 use Rattle.cfa_tree.specs.declared.promises.Promise.{Promise}

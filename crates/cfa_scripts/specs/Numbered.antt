@@ -6,7 +6,7 @@ use Rattle.cfa_tree.specs.Tree.{PromiseTree, NamedTree, BlockTree, bundle, body}
 use Rattle.cfa_kinds.specs.declared.kinds.PromiseType.{PromiseType}
 use Rattle.cfa_kinds.specs.declared.kinds.PromiseType.TheVariants.{Vars, Classes, Files, Methods, Services, Reports, DeleteLines, FieldEdits, InsertLines, ReplacePatterns}
 use Rattle.cfa_kinds.specs.Kinds.{promise_type}
-use Rattle.cfa_schema.specs.Checked.{worded_promises_of}
+use Rattle.cfa_served.specs.Checked.{worded_promises_of}
 
 pub record Numbered : Type 0 where
   pub id : PromiseId

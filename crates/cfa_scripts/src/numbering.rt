@@ -2,7 +2,7 @@
 ghost use Rattle.std.specs.Prelude.{◌≡◌, ◌+◌, ◌++◌, [], IfOk, OnOk, Some, filter, length, map};
 ghost use Rattle.std.specs.List.{flat_map, cons_option};
 ghost use Rattle.cfa_kinds.specs.Kinds.{promise_type};
-ghost use Rattle.cfa_schema.specs.Checked.{worded_promises_of};
+ghost use Rattle.cfa_served.specs.Checked.{worded_promises_of};
 ghost use Rattle.cfa_tree.specs.Plain.{plain_block, plain_promise, plain_section};
 ghost use Rattle.cfa_scripts.specs.Numbered.{numbered_as, numbered_from, numbered_in, is_type, of_type, edit_types};
 ghost use Rattle.cfa_scripts.specs.EditScripts.{in_order};

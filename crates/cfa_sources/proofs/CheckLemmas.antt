@@ -16,7 +16,7 @@ use Rattle.cfa_output.specs.declared.ends.Failure.{Failure}
 use Rattle.cfa_output.specs.declared.ends.Failure.TheVariants.{Refused, Stopped}
 use Rattle.cfa_schema.specs.declared.checked.Checked.{Checked}
 use Rattle.cfa_schema.specs.Sourced.{IsSourced, joined}
-use Rattle.cfa_schema.specs.Control.{inputs_of}
+use Rattle.cfa_served.specs.Control.{inputs_of}
 use Rattle.cfa_schema.specs.Valid.{Valid, IsRefusedForSize}
 use Rattle.cfa_schema.specs.Seen.{tree_of}
 use Rattle.cfa_sources.specs.Sources.{Texts, ReadsFile, RefusesFile, ReadsFiles, ReadsPolicy, InputIsNext, IsNext, main_file, an_input}

@@ -2,7 +2,7 @@
 use Rattle.std.proofs.Common.{◌≡◌, ℕ, List, ◌∷◌, sym, ap, subst, ◌∙◌}
 use Rattle.cfa_tree.specs.Tree.{PolicyTree}
 use Rattle.cfa_schema.specs.Sourced.{joined}
-use Rattle.cfa_schema.specs.Control.{inputs_of}
+use Rattle.cfa_served.specs.Control.{inputs_of}
 use Rattle.cfa_schema.specs.Valid.{Valid}
 use Rattle.cfa_schema.specs.Laws as schema
 use Rattle.cfa_sources.specs.Sources.{Texts, ReadsFile, RefusesFile, ReadsFiles, ReadsPolicy, IsNext, main_file, an_input}

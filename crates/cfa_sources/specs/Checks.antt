@@ -5,7 +5,7 @@ use Rattle.std.specs.Prelude.{ℕ, ◌≡◌, List, ◌∷◌, get_or}
 use Rattle.cfa_tree.specs.Tree.{PolicyTree}
 use Rattle.cfa_values.specs.declared.refusals.Refusal.{Refusal}
 use Rattle.cfa_schema.specs.Sourced.{joined}
-use Rattle.cfa_schema.specs.Control.{inputs_of}
+use Rattle.cfa_served.specs.Control.{inputs_of}
 use Rattle.cfa_schema.specs.Valid.{Valid, FirstRefusal, IsRefusedForSize}
 use Rattle.cfa_sources.specs.Headings.{heading_of}
 use Rattle.cfa_sources.specs.Lines.{line_at}

@@ -11,7 +11,7 @@ use Rattle.cfa_tree.specs.Grammar.{depth_limit, ReadsWithin}
 use Rattle.cfa_parser.specs.Reading.{UnexpectedAt, TooDeepAt}
 use Rattle.cfa_outside.specs.Inputs.{text_of}
 use Rattle.cfa_output.specs.Lines.{source_long_line}
-use Rattle.cfa_schema.specs.Control.{inputs_of}
+use Rattle.cfa_served.specs.Control.{inputs_of}
 use Rattle.cfa_sources.specs.Lines.{line_at}
 
 -- texts by their names

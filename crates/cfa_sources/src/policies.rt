@@ -10,7 +10,8 @@ use crate::refusing::schema_line;
 use cfa_base::{MOST_INPUTS, Name, Patterns};
 use cfa_output::{Failure, Stop};
 use cfa_outside::Inputs;
-use cfa_schema::{Checked, SchemaErr, check, input_names};
+use cfa_schema::{Checked, SchemaErr, check};
+use cfa_served::input_names;
 use cfa_tree::{Policy, join};
 use std::alloc::Global;
 

@@ -20,7 +20,7 @@ use Rattle.cfa_resolve.specs.declared.instances.Instance.{Instance}
 use Rattle.cfa_resolve.specs.declared.instances.Resolved.{Resolved}
 use Rattle.cfa_resolve.specs.declared.instances.Work.{Work}
 use Rattle.cfa_resolve.specs.declared.instances.Work.TheVariants.{Acts, Call, Report}
-use Rattle.cfa_schema.specs.Served.{bundle_of}
+use Rattle.cfa_served.specs.Served.{bundle_of}
 use Rattle.cfa_walk.specs.Builds.{BuiltAt, BuiltWhere, BuiltIn, BuiltOn}
 use Rattle.cfa_walk.specs.History.{History, Where, Begun, Reached, Listed, Told, mark_in, visits_in}
 use Rattle.cfa_walk.specs.Numbered.{Numbered, numbered_in, params_of, agent_types, of_type}

@@ -10,10 +10,10 @@ use Rattle.std.proofs.lemmas.List.Elements.{All-append, All-cons, All-contains, 
 use Rattle.std.proofs.lemmas.Slice.Eq.{bytes_eq-Decides}
 use Rattle.cfa_kinds.specs.declared.kinds.PromiseType.{PromiseType}
 use Rattle.cfa_kinds.specs.Kinds.{promise_type}
-use Rattle.cfa_schema.specs.Checked.{promises_of, worded_promises_of, ids_from, ids_in_block, promise_ids_of}
-use Rattle.cfa_schema.specs.Control.{sequence_of}
+use Rattle.cfa_served.specs.Checked.{promises_of, worded_promises_of, ids_from, ids_in_block, promise_ids_of}
+use Rattle.cfa_served.specs.Control.{sequence_of}
 use Rattle.cfa_schema.specs.Laws.{IsWord, HasWordName, IsCounted, WordsLackNewlines, CommonNamesAreWords, SequenceNamesAreWords, IdsAreCounted, NamedBundleStands}
-use Rattle.cfa_schema.specs.Served.{common_bundles_of}
+use Rattle.cfa_served.specs.Served.{common_bundles_of}
 use Rattle.cfa_schema.specs.Sourced.{IsSourced}
 use Rattle.cfa_schema.specs.Valid.{Valid}
 use Rattle.cfa_tree.specs.Tree.{PromiseTree, SectionTree, BlockTree, bundle, body, PolicyTree}

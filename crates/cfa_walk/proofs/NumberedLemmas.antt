@@ -8,7 +8,7 @@ use Rattle.cfa_tree.specs.Plain.{plain_promise, plain_section}
 use Rattle.cfa_tree.specs.Tree.{PromiseTree}
 use Rattle.cfa_kinds.specs.declared.kinds.PromiseType.{PromiseType}
 use Rattle.cfa_kinds.specs.Kinds.{promise_type}
-use Rattle.cfa_schema.specs.Checked.{worded_promises_of}
+use Rattle.cfa_served.specs.Checked.{worded_promises_of}
 use Rattle.cfa_walk.specs.Numbered.{Numbered, numbered_as, numbered_from}
 
 cons-append : {X : Type 0} (o : Option X) (xs ys : List X) → cons_option o xs ++ ys ≡ cons_option o (xs ++ ys)

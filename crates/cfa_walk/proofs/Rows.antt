@@ -18,8 +18,8 @@ use Rattle.cfa_vars.specs.Choices.{are_too_many}
 use Rattle.cfa_functions.specs.Calls.{list_given, answer_of}
 use Rattle.cfa_outside.specs.Paths.{path_of}
 use Rattle.cfa_values.specs.Scope.{is_literal}
-use Rattle.cfa_schema.specs.Control.{sequence_of}
-use Rattle.cfa_schema.specs.Served.{body_of, bundle_of, common_bundles_of, minutes_of}
+use Rattle.cfa_served.specs.Control.{sequence_of}
+use Rattle.cfa_served.specs.Served.{body_of, bundle_of, common_bundles_of, minutes_of}
 use Rattle.cfa_resolve.specs.declared.instances.Instance.{Instance}
 use Rattle.cfa_resolve.specs.declared.instances.Work.{Work}
 use Rattle.cfa_resolve.specs.declared.instances.Work.TheVariants.{Acts, Call, Report}

@@ -13,8 +13,8 @@ use Rattle.cfa_tree.specs.declared.blocks.Bundle.{Bundle}
 use Rattle.cfa_tree.specs.declared.blocks.Block.TheVariants.{Bundle as a_bundle}
 use Rattle.cfa_tree.specs.Plain.{plain_block}
 use Rattle.cfa_tree.specs.Tree.{BlockTree, PolicyTree}
-use Rattle.cfa_schema.specs.Control.{sequence_of}
-use Rattle.cfa_schema.specs.Served.{common_bundles_of}
+use Rattle.cfa_served.specs.Control.{sequence_of}
+use Rattle.cfa_served.specs.Served.{common_bundles_of}
 use Rattle.cfa_walk.specs.Kept.{first}
 use Rattle.cfa_walk.specs.Numbered.{name_of}
 use Rattle.cfa_walk.specs.Views.{is_listed, joined_once, shared_names}

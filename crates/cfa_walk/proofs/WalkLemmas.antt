@@ -7,8 +7,8 @@ use Rattle.cfa_output.specs.declared.ends.Stop.{Stop}
 use Rattle.cfa_output.specs.declared.ends.Stop.TheVariants.{Outside, Memory, Visits, Pattern}
 use Rattle.cfa_kinds.specs.declared.kinds.BundleType.{BundleType}
 use Rattle.cfa_kinds.specs.declared.kinds.BundleType.TheVariants.{Agent, Common, EditLine}
-use Rattle.cfa_schema.specs.Control.{sequence_of}
-use Rattle.cfa_schema.specs.Served.{bundle_of}
+use Rattle.cfa_served.specs.Control.{sequence_of}
+use Rattle.cfa_served.specs.Served.{bundle_of}
 use Rattle.cfa_tree.specs.Tree.{NamedTree, BlockTree, PolicyTree}
 use Rattle.cfa_walk.specs.declared.states.State.{State}
 use Rattle.cfa_walk.specs.declared.activations.Activation.{Activation}

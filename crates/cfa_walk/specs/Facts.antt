@@ -1,6 +1,6 @@
 -- Of the code alone: the promises of each bundle that is found have ids that a policy may have.
 use Rattle.std.specs.Prelude.{◌≡◌, ℕ, List, Some}
-use Rattle.cfa_schema.specs.Served.{bundle_of}
+use Rattle.cfa_served.specs.Served.{bundle_of}
 use Rattle.cfa_tree.specs.Tree.{BlockTree, PolicyTree}
 use Rattle.cfa_walk.specs.Numbered.{numbered_in}
 use Rattle.cfa_walk.specs.Steps.{AreCounted}

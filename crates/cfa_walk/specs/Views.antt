@@ -9,8 +9,8 @@ use Rattle.cfa_tree.specs.Tree.{ExprTree, PolicyTree}
 use Rattle.cfa_classes.specs.declared.levels.Status.{Status}
 use Rattle.cfa_classes.specs.declared.levels.Status.TheVariants.{No, Yes}
 use Rattle.cfa_classes.specs.Status.{greater, value_of}
-use Rattle.cfa_schema.specs.Control.{sequence_of}
-use Rattle.cfa_schema.specs.Served.{common_bundles_of}
+use Rattle.cfa_served.specs.Control.{sequence_of}
+use Rattle.cfa_served.specs.Served.{common_bundles_of}
 use Rattle.cfa_vars.specs.Scopes.{Table, InScope}
 pub use Rattle.cfa_walk.specs.History.{Home}
 use Rattle.cfa_walk.specs.History.{History, scope_in, globally, locally, source_in}

@@ -2,7 +2,7 @@
 ghost use Rattle.std.specs.Prelude.{◌≡◌, ◌+◌, ◌++◌, [], IfOk, OnOk, map, length};
 ghost use Rattle.std.specs.List.{cons_option};
 ghost use Rattle.cfa_tree.specs.Plain.{plain_block, plain_promise, plain_section};
-ghost use Rattle.cfa_schema.specs.Checked.{worded_promises_of};
+ghost use Rattle.cfa_served.specs.Checked.{worded_promises_of};
 ghost use Rattle.cfa_walk.specs.Numbered.{numbered_as, numbered_from, numbered_in};
 ghost use Rattle.cfa_walk.specs.SeenNumbered.{seen_numbered};
 

@@ -1,7 +1,7 @@
 // The names of the bundles whose variables may be referred to from everywhere.
 ghost use Rattle.std.specs.Prelude.{◌≡◌, [], ◌∷◌, ◌++◌, IfOk, OnOk, map, if◌then◌else◌};
 ghost use Rattle.cfa_schema.specs.Seen.{tree_of};
-ghost use Rattle.cfa_schema.specs.Served.{common_bundles_of};
+ghost use Rattle.cfa_served.specs.Served.{common_bundles_of};
 ghost use Rattle.cfa_walk.specs.Numbered.{name_of};
 ghost use Rattle.cfa_walk.specs.Views.{is_listed, joined_once, shared_names};
 

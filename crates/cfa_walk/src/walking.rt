@@ -1,7 +1,7 @@
 // The history of a whole run.
 ghost use Rattle.std.specs.Prelude.{◌≡◌, [], ◌∷◌, ℕ, All, IsTrue, Some, length, map, true};
 ghost use Rattle.cfa_schema.specs.Seen.{tree_of};
-ghost use Rattle.cfa_schema.specs.Served.{bundle_of};
+ghost use Rattle.cfa_served.specs.Served.{bundle_of};
 ghost use Rattle.cfa_tree.specs.Tree.{PolicyTree};
 ghost use Rattle.cfa_walk.specs.Bundles.{is_in_common, seen_bundle, IsShared, QuietWalkDone, WalkEnds, common_walk, commons_walk, passes_walk, agent_walk, bundle_walk, sequence_walk};
 ghost use Rattle.cfa_walk.specs.Levels.{FaultsAre, PatternsAre, QuietDone, done_of};

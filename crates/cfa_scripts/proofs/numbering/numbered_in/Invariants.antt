@@ -1,6 +1,6 @@
 use Rattle.std.proofs.Common.{◌≡◌, ◌+◌, ◌++◌, drop, map}
 use Rattle.std.specs.List.{flat_map}
-use Rattle.cfa_schema.specs.Checked.{worded_promises_of}
+use Rattle.cfa_served.specs.Checked.{worded_promises_of}
 use Rattle.cfa_tree.specs.Plain.{plain_section}
 use Rattle.cfa_scripts.specs.Numbered.{numbered_from}
 use Rattle.cfa_scripts.specs.Walking.{seen_numbered}

@@ -1,7 +1,7 @@
 use Rattle.std.proofs.Common.{◌∙◌, [], sym, ap, map}
-use Rattle.cfa_schema.specs.Control.{sequence_of}
+use Rattle.cfa_served.specs.Control.{sequence_of}
 use Rattle.cfa_schema.specs.Seen.{tree_of}
-use Rattle.cfa_schema.specs.Served.{common_bundles_of}
+use Rattle.cfa_served.specs.Served.{common_bundles_of}
 use Rattle.cfa_walk.specs.Numbered.{name_of}
 use Rattle.cfa_walk.specs.Views.{joined_once, shared_names}
 use Rattle.cfa_walk.proofs.SharedLemmas.{joined-append}

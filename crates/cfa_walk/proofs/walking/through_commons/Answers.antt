@@ -3,7 +3,7 @@ use Rattle.std.specs.Prelude.{Err}
 use Rattle.cfa_tree.specs.declared.blocks.Bundle.{Bundle}
 use Rattle.cfa_tree.specs.Tree.{BlockTree}
 use Rattle.cfa_schema.specs.Seen.{tree_of}
-use Rattle.cfa_schema.specs.Served.{common_bundles_of}
+use Rattle.cfa_served.specs.Served.{common_bundles_of}
 use Rattle.cfa_walk.specs.Bundles.{Walk, QuietWalkDone, IsShared, commons_walk, passes_walk, seen_bundle}
 use Rattle.cfa_walk.specs.Passes.{then_on}
 use Rattle.cfa_walk.proofs.CommonLemmas.{on_stop}

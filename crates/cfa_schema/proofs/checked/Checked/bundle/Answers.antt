@@ -1,9 +1,9 @@
 use Rattle.std.proofs.Common.{List, ◌∙◌, ap, map, sym, subst}
 use Rattle.cfa_tree.specs.declared.blocks.Block.{Block}
 use Rattle.cfa_tree.specs.Plain.{plain_block}
-use Rattle.cfa_schema.specs.Indexed.{IsIndex}
+use Rattle.cfa_served.specs.Indexed.{IsIndex}
 use Rattle.cfa_schema.specs.Seen.{tree_of}
-use Rattle.cfa_schema.specs.Served.{bundle_of}
+use Rattle.cfa_served.specs.Served.{bundle_of}
 use Rattle.cfa_schema.proofs.checked.Checked.bundle.Goals as goal
 
 pub bundle-requires : goal.bundle-requires

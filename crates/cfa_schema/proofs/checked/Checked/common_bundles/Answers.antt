@@ -3,7 +3,7 @@ use Rattle.cfa_tree.specs.declared.blocks.Block.{Block}
 use Rattle.cfa_tree.specs.declared.blocks.Block.TheVariants.{Bundle}
 use Rattle.cfa_tree.specs.Plain.{plain_block}
 use Rattle.cfa_schema.specs.Seen.{tree_of}
-use Rattle.cfa_schema.specs.Served.{common_bundles_of}
+use Rattle.cfa_served.specs.Served.{common_bundles_of}
 use Rattle.cfa_schema.proofs.checked.Checked.common_bundles.Goals as goal
 
 pub returns : goal.returns

@@ -1,5 +1,5 @@
 use Rattle.std.proofs.Common.{◌∙◌, ap}
-use Rattle.cfa_schema.specs.Served.{minutes_in, minutes_of, or_one}
+use Rattle.cfa_served.specs.Served.{minutes_in, minutes_of, or_one}
 use Rattle.cfa_schema.proofs.checked.Checked.minutes.Goals as goal
 
 pub returns : goal.returns

@@ -4,8 +4,7 @@ use Rattle.std.proofs.Math.Logic.{∥∥₁_elim}
 use Rattle.cfa_base.specs.declared.limits.TheConstants.{MOST_SOURCE_BYTES}
 use Rattle.cfa_tree.specs.declared.blocks.Block.{Block}
 use Rattle.cfa_tree.specs.Plain.{plain_block, plain_policy}
-use Rattle.cfa_schema.specs.Checked.{promise_ids_of}
-use Rattle.cfa_schema.specs.Collected.{HasFew, promise_count}
+use Rattle.cfa_served.specs.Checked.{promise_ids_of, HasFew, promise_count}
 use Rattle.cfa_schema.specs.Seen.{tree_of}
 use Rattle.cfa_schema.proofs.SizeLemmas.{sourced_has_few}
 use Rattle.cfa_schema.proofs.checked.Checked.promise_ids.Goals as goal

@@ -1,8 +1,0 @@
-use Rattle.std.proofs.Common.{take, map}
-use Rattle.cfa_tree.specs.Plain.{plain_block}
-use Rattle.cfa_schema.specs.Indexed.{AnswersPlaces}
-use Rattle.cfa_schema.proofs.index.first_places.Given as goal
-
--- the table answers for the blocks so far
-abbrev pub invariant-loop-place : goal.invariant-loop-place
-invariant-loop-place l = AnswersPlaces l.wanted l.places (map plain_block (take l.place l.blocks))
