@@ -85,8 +85,9 @@ fn checks_the_default_sequence(rt: HostRuntime) -> Result<(), Fail> {
     check_rows(&rt, rt.alloc(), &ALONE, &DEFAULT_SEQUENCES)
 }
 
-// A call is refused where the called bundle reaches the caller; a call into a cycle from outside isn't.
-const CYCLES: [Row<'static>; 16] = [
+// A call is refused where the called bundle reaches the caller; a call into a cycle from outside isn't. Of a name the first
+// bundle alone calls.
+const CYCLES: [Row<'static>; 18] = [
     (
         "bundle agent main { methods: 'm0' usebundle => 'main'; }\n",
         "1:48 S9 CallCycle",
@@ -150,6 +151,14 @@ const CYCLES: [Row<'static>; 16] = [
     (
         "bundle agent main { methods: 'm0' usebundle => main; 'm1' usebundle => nosuch; }\n",
         "1:48 S9 CallCycle",
+    ),
+    (
+        "bundle agent main { methods: 'm' usebundle => a; }\nbundle agent a { }\nbundle agent a { methods: 'm' usebundle => main; }\n",
+        "3:14 S8 Duplicate",
+    ),
+    (
+        "bundle agent main { methods: 'm' usebundle => a; }\nbundle agent a { methods: 'm' usebundle => main; }\nbundle agent a { }\n",
+        "1:47 S9 CallCycle",
     ),
 ];
 

@@ -1,6 +1,6 @@
 -- A chain of calls of which none lies on a cycle has as many callers as calls.
 use Rattle.std.proofs.Common.{◌≡◌, ◌∙◌, ◌≤◌, ℕ, Bool, true, false, List, [], ◌∷◌, ◌++◌, length, map, Option, Some, None, inr, refl, ap, sym, subst}
-use Rattle.std.specs.Prelude.{if◌then◌else◌, codes, ⊤}
+use Rattle.std.specs.Prelude.{if◌then◌else◌, ⊤}
 use Rattle.std.specs.List.{Contains, IsDistinct, AllByRecursion, cons_option, flat_map, filter_map}
 use Rattle.std.specs.Cmp.{IsEquivalence}
 use Rattle.std.specs.Str.{bytes_eq}
@@ -8,14 +8,21 @@ use Rattle.std.proofs.lemmas.Slice.Eq.{bytes_eq-Decides}
 use Rattle.std.proofs.lemmas.Map.Made.{is_member-Decides, length-le_from_is_member}
 use Rattle.std.proofs.lemmas.List.Elements.{All-contains, All-from_recursion, Contains-push, Contains-append_left, Contains-append_right}
 use Rattle.std.proofs.lemmas.List.{length-map}
-use Rattle.cfa_base.specs.declared.places.Place.{Place}
-use Rattle.cfa_tree.specs.Tree.{AttributeTree, SectionTree, NamedTree, bundle, body, PolicyTree}
+use Rattle.cfa_tree.specs.Tree.{ValueTree, AttributeTree, PromiseTree, SectionTree, NamedTree, BlockTree, bundle, body, PolicyTree}
+use Rattle.cfa_kinds.specs.declared.kinds.BundleType.{BundleType}
+use Rattle.cfa_kinds.specs.declared.kinds.BundleType.TheVariants as bundles
+use Rattle.cfa_kinds.specs.declared.kinds.PromiseType.{PromiseType}
+use Rattle.cfa_kinds.specs.declared.kinds.PromiseType.TheVariants as promises
+use Rattle.cfa_kinds.specs.declared.kinds.Kind.{Kind}
+use Rattle.cfa_kinds.specs.declared.kinds.Kind.TheVariants as kinds
+use Rattle.cfa_kinds.specs.Kinds.{bundle_type, promise_type, promise_attribute}
+use Rattle.cfa_values.specs.Definitions.{is_one_of}
 use Rattle.cfa_values.specs.Refusals.{refusal}
 use Rattle.cfa_values.specs.declared.refusals.Code.TheVariants.{CallCycle}
 use Rattle.cfa_values.specs.Values.{name_in}
 use Rattle.cfa_calls.specs.Cycles.{Call, Reaches, NoneOnCycle}
 use Rattle.cfa_calls.specs.Cycles.Reaches.{here, onward}
-use Rattle.cfa_schema.specs.Valid.{bundle_name, callee_named, called_by, call_in_attribute, calls_in_promise, calls_in_section, calls_in_block, calls_of}
+use Rattle.cfa_schema.specs.Valid.{bundle_name, callee_named, called_by, call_of_kind, call_in_attribute, calls_in_promise, calls_by_type, calls_in_section, calls_in_bundle, calls_in_block, first_bundles_after, calls_of}
 use Rattle.cfa_schema.specs.Laws.{IsChain, one_call, more_calls, ChainsAreShort}
 
 sym_by : (x y : List ℕ) (a b : Bool) → bytes_eq x y ≡ a → bytes_eq y x ≡ b → a ≡ b
@@ -101,15 +108,24 @@ by_named : (name : List ℕ) (o : Option NamedTree) → Holds (IsBy name) (calle
 by_named name None = tt
 by_named name (Some n) = refl
 
+by_kind : (name : List ℕ) (kind : Option Kind) (v : ValueTree) → Holds (IsBy name) (call_of_kind name kind v)
+by_kind name None v = tt
+by_kind name (Some kinds.AgentBundle) v = by_named name (callee_named v)
+by_kind name (Some kind) v = tt
+
 by_attribute : (name : List ℕ) (a : AttributeTree) → Holds (IsBy name) (call_in_attribute name a)
-by_attribute name a =
-    elim (bytes_eq a.name (codes "usebundle")) as (λ b. Holds (IsBy name) (if b then called_by name (callee_named a.value) else None))
-    [ true ↦ by_named name (callee_named a.value) | false ↦ tt ]
+by_attribute name a = by_kind name (promise_attribute promises.Methods a.name) a.value
+
+by_promise : (name : List ℕ) (p : PromiseTree) → AllByRecursion (IsBy name) (calls_in_promise name p)
+by_promise name p = of_some (IsBy name) (call_in_attribute name) (by_attribute name) p.attributes
+
+by_type : (name : List ℕ) (type : Option PromiseType) (ps : List PromiseTree) → AllByRecursion (IsBy name) (calls_by_type name type ps)
+by_type name None ps = tt
+by_type name (Some promises.Methods) ps = of_each (IsBy name) (calls_in_promise name) (by_promise name) ps
+by_type name (Some type) ps = tt
 
 by_section : (name : List ℕ) (s : SectionTree) → AllByRecursion (IsBy name) (calls_in_section name s)
-by_section name s =
-    elim (bytes_eq s.kind (codes "methods")) as (λ b. AllByRecursion (IsBy name) (if b then flat_map (calls_in_promise name) s.promises else []))
-    [ true ↦ of_each (IsBy name) (calls_in_promise name) (λ p. of_some (IsBy name) (call_in_attribute name) (by_attribute name) p.attributes) s.promises | false ↦ tt ]
+by_section name s = by_type name (promise_type s.kind) s.promises
 
 abbrev names_of : PolicyTree → List (List ℕ)
 names_of policy = map name_in (filter_map bundle_name policy)
@@ -118,28 +134,35 @@ weaker : {X : Type 0} (P Q : X → Type 0) → ((x : X) → P x → Q x) → (xs
 weaker P Q f [] h = tt
 weaker P Q f (x ∷ xs) h = (f x h.0, weaker P Q f xs h.1)
 
-by_bundle : (type_name name : NamedTree) (params : List NamedTree) (sections : List SectionTree) (place : Place) →
-    AllByRecursion (IsBy name.name) (calls_in_block (bundle type_name name params sections place))
-by_bundle type_name name params sections place =
-    elim (bytes_eq type_name.name (codes "agent")) as (λ b. AllByRecursion (IsBy name.name) (if b then flat_map (calls_in_section name.name) sections else []))
-    [ true ↦ of_each (IsBy name.name) (calls_in_section name.name) (by_section name.name) sections | false ↦ tt ]
+by_bundle : (name : List ℕ) (type : Option BundleType) (sections : List SectionTree) → AllByRecursion (IsBy name) (calls_in_bundle name type sections)
+by_bundle name None sections = tt
+by_bundle name (Some bundles.Agent) sections = of_each (IsBy name) (calls_in_section name) (by_section name) sections
+by_bundle name (Some type) sections = tt
 
-callers_named : (policy : PolicyTree) → AllByRecursion (λ c. Contains (names_of policy) c.caller) (flat_map calls_in_block policy)
-callers_named [] = tt
-callers_named (bundle type_name name params sections place ∷ rest) =
-    both (λ (c : Call). Contains (name.name ∷ names_of rest) c.caller) (calls_in_block (bundle type_name name params sections place)) (flat_map calls_in_block rest)
+-- the calls of a bundle, where it makes some, and those of the bundles behind it
+calls_with : (P : Call → Type 0) (b : BlockTree) (behind : PolicyTree) (is_known : Bool) → AllByRecursion P (calls_in_block b) → AllByRecursion P (flat_map calls_in_block behind) →
+    AllByRecursion P (flat_map calls_in_block ((if is_known then [] else b ∷ []) ++ behind))
+calls_with P b behind true own more = more
+calls_with P b behind false own more = both P (calls_in_block b) (flat_map calls_in_block behind) own more
+
+callers_named : (before : List (List ℕ)) (policy : PolicyTree) → AllByRecursion (λ c. Contains (names_of policy) c.caller) (flat_map calls_in_block (first_bundles_after before policy))
+callers_named before [] = tt
+callers_named before (bundle type_name name params sections place ∷ rest) =
+    let behind = first_bundles_after (before ++ name.name ∷ []) rest in
+    calls_with (λ (c : Call). Contains (name.name ∷ names_of rest) c.caller) (bundle type_name name params sections place) behind (is_one_of name.name before)
     (weaker (IsBy name.name) (λ c. Contains (name.name ∷ names_of rest) c.caller)
     (λ c e. subst (Contains (name.name ∷ names_of rest)) (sym e) (Contains-append_left (name.name ∷ []) (names_of rest) name.name (Contains-push [] name.name)))
-    (calls_in_block (bundle type_name name params sections place)) (by_bundle type_name name params sections place))
+    (calls_in_block (bundle type_name name params sections place)) (by_bundle name.name (bundle_type type_name.name) sections))
     (weaker (λ (c : Call). Contains (names_of rest) c.caller) (λ c. Contains (name.name ∷ names_of rest) c.caller)
-    (λ c h. Contains-append_right (name.name ∷ []) (names_of rest) c.caller h) (flat_map calls_in_block rest) (callers_named rest))
-callers_named (body type_name name params attributes place ∷ rest) = callers_named rest
+    (λ c h. Contains-append_right (name.name ∷ []) (names_of rest) c.caller h) (flat_map calls_in_block behind) (callers_named (before ++ name.name ∷ []) rest))
+callers_named before (body type_name name params attributes place ∷ rest) = callers_named before rest
 
 caller_named : (policy : PolicyTree) (c : Call) → Contains (calls_of policy) c → Contains (names_of policy) c.caller
 unfolding calls_of
 caller_named policy c h =
-    All-contains (λ (d : Call). Contains (names_of policy) d.caller) (flat_map calls_in_block policy) c
-    (All-from_recursion (λ (d : Call). Contains (names_of policy) d.caller) (flat_map calls_in_block policy) (callers_named policy)) h
+    let calls = flat_map calls_in_block (first_bundles_after [] policy) in
+    All-contains (λ (d : Call). Contains (names_of policy) d.caller) calls c
+    (All-from_recursion (λ (d : Call). Contains (names_of policy) d.caller) calls (callers_named [] policy)) h
 
 seen_all : (names : List (List ℕ)) (chain : List Call) → AllByRecursion (λ (c : Call). Contains names c.caller) chain → AllByRecursion (Contains names) (map caller_of chain)
 unfolding caller_of

@@ -149,7 +149,7 @@ any_both test (y ∷ xs) x e =
     let more = any_both test xs x both.1 in
     (ap (λ b. b || list_any test xs) both.0 ∙ more.0, more.1)
 
-only_none : (b : Bool) (place : Place) → only_if b Duplicate place ≡ [] → b ≡ false
+pub only_none : (b : Bool) (place : Place) → only_if b Duplicate place ≡ [] → b ≡ false
 only_none true place e = cc
 only_none false place e = refl
 

@@ -1,4 +1,5 @@
 pub mod BlockLemmas
+pub mod CallLemmas
 pub mod ChainLemmas
 pub mod CollectedLemmas
 pub mod FactLemmas

@@ -26,7 +26,7 @@ use Rattle.cfa_served.specs.Control.{sequence_of}
 use Rattle.cfa_schema.specs.Defined.{definitions_of}
 use Rattle.cfa_served.specs.Served.{bundle_of, common_bundles_of}
 use Rattle.cfa_schema.specs.Sourced.{IsSourced}
-use Rattle.cfa_schema.specs.Valid.{Valid, FirstRefusal, bundle_name, calls_of}
+use Rattle.cfa_schema.specs.Valid.{Valid, FirstRefusal, bundle_name, calls_in_block, calls_of}
 use Rattle.cfa_calls.specs.Cycles.{Call}
 
 abbrev pub RefusalIsOne : Type 0
@@ -95,6 +95,10 @@ pub data IsChain (calls : List Call) : List Call → Type 0 where
   no_call : IsChain calls []
   one_call : {c : Call} → Contains calls c → IsChain calls (c ∷ [])
   more_calls : {c d : Call} {rest : List Call} → Contains calls c → c.callee ≡ d.caller → IsChain calls (d ∷ rest) → IsChain calls (c ∷ d ∷ rest)
+
+-- in a valid policy each bundle makes its calls
+abbrev pub EachBundleCalls : Type 0
+EachBundleCalls = (policy : PolicyTree) → Valid policy → calls_of policy ≡ flat_map calls_in_block policy
 
 -- no chain of calls of a valid policy is longer than the number of its bundles
 abbrev pub ChainsAreShort : Type 0

@@ -11,6 +11,7 @@ use Rattle.cfa_base.specs.Lexing.{is_word, first_place}
 use Rattle.cfa_base.specs.Patterns.{is_pattern}
 use Rattle.cfa_tree.specs.Tree.{ValueTree, text, word, list, call, AttributeTree, PromiseTree, SectionTree, NamedTree, BlockTree, bundle, body, PolicyTree}
 use Rattle.cfa_kinds.specs.declared.kinds.BundleType.{BundleType}
+use Rattle.cfa_kinds.specs.declared.kinds.BundleType.TheVariants as bundles
 use Rattle.cfa_kinds.specs.declared.kinds.PromiseType.{PromiseType}
 use Rattle.cfa_kinds.specs.declared.kinds.PromiseType.TheVariants as promises
 use Rattle.cfa_kinds.specs.declared.kinds.BodyType.{BodyType}
@@ -22,7 +23,7 @@ use Rattle.cfa_kinds.specs.Kinds.{bundle_type, is_foreign_bundle_type, promise_t
 use Rattle.cfa_values.specs.Scope.{in_bundle, in_body}
 use Rattle.cfa_values.specs.Refusals.{refusal, is_sooner, only_if}
 use Rattle.cfa_calls.specs.Cycles.{Call, OnCycle}
-use Rattle.cfa_values.specs.Definitions.{Definitions, BundleHead, bundle_named, is_agent}
+use Rattle.cfa_values.specs.Definitions.{Definitions, BundleHead, bundle_named, is_agent, is_one_of}
 use Rattle.cfa_schema.specs.Defined.{definitions_of, has_sequence}
 use Rattle.cfa_served.specs.Control.{control_of}
 use Rattle.cfa_values.specs.Attributes.{value_of, attributes_refusals, has_attribute}
@@ -150,24 +151,49 @@ abbrev pub called_by : List ℕ → Option NamedTree → Option Call
 called_by caller None = None
 called_by caller (Some callee) = Some (record { caller = caller; callee = callee.name; place = callee.place })
 
+-- the call that a value of a kind makes
+abbrev pub call_of_kind : List ℕ → Option Kind → ValueTree → Option Call
+call_of_kind caller (Some kinds.AgentBundle) v = called_by caller (callee_named v)
+call_of_kind caller kind v = None
+
 abbrev pub call_in_attribute : List ℕ → AttributeTree → Option Call
-call_in_attribute caller a = if bytes_eq a.name (codes "usebundle") then called_by caller (callee_named a.value) else None
+call_in_attribute caller a = call_of_kind caller (promise_attribute promises.Methods a.name) a.value
 
 abbrev pub calls_in_promise : List ℕ → PromiseTree → List Call
 calls_in_promise caller p = filter_map (call_in_attribute caller) p.attributes
 
+-- methods promises call
+abbrev pub calls_by_type : List ℕ → Option PromiseType → List PromiseTree → List Call
+calls_by_type caller (Some promises.Methods) ps = flat_map (calls_in_promise caller) ps
+calls_by_type caller type ps = []
+
 abbrev pub calls_in_section : List ℕ → SectionTree → List Call
-calls_in_section caller section =
-    if bytes_eq section.kind (codes "methods") then flat_map (calls_in_promise caller) section.promises else []
+calls_in_section caller section = calls_by_type caller (promise_type section.kind) section.promises
+
+-- agent bundles call
+abbrev pub calls_in_bundle : List ℕ → Option BundleType → List SectionTree → List Call
+calls_in_bundle caller (Some bundles.Agent) sections = flat_map (calls_in_section caller) sections
+calls_in_bundle caller type sections = []
 
 abbrev pub calls_in_block : BlockTree → List Call
-calls_in_block (bundle type_name name params sections place) =
-    if bytes_eq type_name.name (codes "agent") then flat_map (calls_in_section name.name) sections else []
+calls_in_block (bundle type_name name params sections place) = calls_in_bundle name.name (bundle_type type_name.name) sections
 calls_in_block (body type_name name params attributes place) = []
 
--- which agent bundle calls which, by the methods promises
+-- the bundles, but those whose name stands before already
+abbrev pub first_bundles_after : (before : List (List ℕ)) → PolicyTree → PolicyTree
+first_bundles_after before [] = []
+first_bundles_after before (bundle type_name name params sections place ∷ rest) =
+    (if is_one_of name.name before then [] else bundle type_name name params sections place ∷ [])
+    ++ first_bundles_after (before ++ name.name ∷ []) rest
+first_bundles_after before (body type_name name params attributes place ∷ rest) = first_bundles_after before rest
+
+-- the first bundle of each name
+abbrev pub first_bundles : PolicyTree → PolicyTree
+first_bundles policy = first_bundles_after [] policy
+
+-- which agent bundle calls which, by the methods promises; of a name the first bundle alone calls
 unfoldable pub calls_of : PolicyTree → List Call
-calls_of policy = flat_map calls_in_block policy
+calls_of policy = flat_map calls_in_block (first_bundles policy)
 
 -- ---- patterns
 

@@ -1,12 +1,15 @@
 // Which agent bundle calls which.
-ghost use Rattle.std.specs.Prelude.{◌≡◌, ◌++◌, IfOk, OnOk, map, option_map};
+ghost use Rattle.std.specs.Prelude.{◌≡◌, ◌∷◌, [], ◌++◌, IfOk, OnOk, if◌then◌else◌, map, option_map};
+ghost use Rattle.std.specs.List.{flat_map};
 ghost use Rattle.cfa_tree.specs.Plain.{plain_attribute, plain_block, plain_policy, plain_promise, plain_section, plain_value};
 ghost use Rattle.cfa_calls.specs.Cycles.{seen_call};
+ghost use Rattle.cfa_values.specs.Definitions.{is_one_of};
 ghost use Rattle.cfa_values.specs.Kept.{seen_item};
-ghost use Rattle.cfa_schema.specs.Valid.{call_in_attribute, callee_named, calls_in_block, calls_in_promise, calls_in_section, calls_of};
+ghost use Rattle.cfa_schema.specs.Valid.{call_in_attribute, called_by, callee_named, calls_in_block, calls_in_promise, calls_in_section, calls_of};
 
-use cfa_base::NoMemory;
+use cfa_base::{NameIndex, NoMemory};
 use cfa_calls::Call;
+use cfa_kinds::{BundleType, Kind, PromiseType, bundle_type, promise_attribute, promise_type};
 use cfa_tree::{Attribute, Block, Bundle, Policy, Promise, Section, Value};
 use cfa_values::{Item, Shape, known_text, shape_of};
 use std::alloc::Global;
@@ -23,19 +26,26 @@ fn callee_in(value: &Value) -> Option<Item<'_>>
     }
 }
 
-fn call_in<'a>(caller: &'a str, attribute: &'a Attribute) -> Option<Call<'a>>
+fn call_by<'a>(caller: &'a str, value: &'a Value) -> Option<Call<'a>>
     ensures { option_map seen_call result
-        ≡ call_in_attribute caller.now (plain_attribute attribute.now) }
+        ≡ called_by caller.now (callee_named (plain_value value.now)) }
 {
-    if attribute.name.as_str() != "usebundle" {
-        return None;
-    }
-    let callee = callee_in(&attribute.value)?;
+    let callee = callee_in(value)?;
     Some(Call {
         caller,
         callee: callee.name,
         place: callee.place,
     })
+}
+
+fn call_in<'a>(caller: &'a str, attribute: &'a Attribute) -> Option<Call<'a>>
+    ensures { option_map seen_call result
+        ≡ call_in_attribute caller.now (plain_attribute attribute.now) }
+{
+    match promise_attribute(PromiseType::Methods, attribute.name.as_str()) {
+        Some(Kind::AgentBundle) => call_by(caller, &attribute.value),
+        _ => None,
+    }
 }
 
 fn add_of_promise<'a>(
@@ -54,6 +64,20 @@ fn add_of_promise<'a>(
     Ok(())
 }
 
+fn add_of_promises<'a>(
+    calls: &mut Vec<Call<'a>>,
+    caller: &'a str,
+    promises: &'a [Promise],
+) -> Result<(), NoMemory>
+    ensures { OnOk result (map seen_call calls.new.items ≡ map seen_call calls.old.items
+        ++ flat_map (calls_in_promise caller.now) (map plain_promise promises.now)) }
+{
+    for promise in promises {
+        add_of_promise(calls, caller, promise)?;
+    }
+    Ok(())
+}
+
 fn add_of_section<'a>(
     calls: &mut Vec<Call<'a>>,
     caller: &'a str,
@@ -62,11 +86,22 @@ fn add_of_section<'a>(
     ensures { OnOk result (map seen_call calls.new.items ≡ map seen_call calls.old.items
         ++ calls_in_section caller.now (plain_section section.now)) }
 {
-    if section.kind.as_str() != "methods" {
-        return Ok(());
+    match promise_type(section.kind.as_str()) {
+        Some(PromiseType::Methods) => add_of_promises(calls, caller, section.promises.as_slice()),
+        _ => Ok(()),
     }
-    for promise in section.promises.as_slice() {
-        add_of_promise(calls, caller, promise)?;
+}
+
+fn add_of_sections<'a>(
+    calls: &mut Vec<Call<'a>>,
+    caller: &'a str,
+    sections: &'a [Section],
+) -> Result<(), NoMemory>
+    ensures { OnOk result (map seen_call calls.new.items ≡ map seen_call calls.old.items
+        ++ flat_map (calls_in_section caller.now) (map plain_section sections.now)) }
+{
+    for section in sections {
+        add_of_section(calls, caller, section)?;
     }
     Ok(())
 }
@@ -75,34 +110,43 @@ fn add_of_bundle<'a>(calls: &mut Vec<Call<'a>>, bundle: &'a Bundle) -> Result<()
     ensures { OnOk result (map seen_call calls.new.items
         ≡ map seen_call calls.old.items ++ calls_in_block (plain_block (Block.Bundle bundle.now))) }
 {
-    if bundle.kind.name.as_str() != "agent" {
-        return Ok(());
+    let caller = bundle.name.name.as_str();
+    match bundle_type(bundle.kind.name.as_str()) {
+        Some(BundleType::Agent) => add_of_sections(calls, caller, bundle.sections.as_slice()),
+        _ => Ok(()),
     }
-    for section in bundle.sections.as_slice() {
-        add_of_section(calls, bundle.name.name.as_str(), section)?;
+}
+
+// Adds the calls of a bundle whose name none before it has, and its name to theirs.
+fn add_if_first<'a>(
+    calls: &mut Vec<Call<'a>>,
+    names: &mut NameIndex<'a>,
+    bundle: &'a Bundle,
+) -> Result<(), NoMemory>
+    ensures calls { OnOk result (map seen_call calls.new.items ≡ map seen_call calls.old.items
+        ++ (if is_one_of bundle.now.name.name names.old then []
+        else calls_in_block (plain_block (Block.Bundle bundle.now)))) }
+    ensures names { OnOk result (names.new ≡ names.old ++ bundle.now.name.name ∷ []) }
+{
+    let is_first = names.add(bundle.name.name.as_str())?;
+    if is_first {
+        add_of_bundle(calls, bundle)?;
     }
     Ok(())
 }
 
-fn add_of_block<'a>(calls: &mut Vec<Call<'a>>, block: &'a Block) -> Result<(), NoMemory>
-    ensures { OnOk result (map seen_call calls.new.items
-        ≡ map seen_call calls.old.items ++ calls_in_block (plain_block block.now)) }
-{
-    match block {
-        Block::Bundle(bundle) => add_of_bundle(calls, bundle),
-        Block::Body(_) => Ok(()),
-    }
-}
-
-/// The calls of bundles by the methods promises of agent bundles, in text order.
+/// The calls of bundles by the methods promises of agent bundles, in text order. Of a name the first bundle alone calls.
 #[tactic(auto, unfolding(crate::specs::Valid::calls_of))]
 pub(crate) fn calls_of<'a>(alloc: Global, policy: &'a Policy) -> Result<Vec<Call<'a>>, NoMemory>
     ensures { IfOk result (λ calls. map seen_call calls.items
         ≡ calls_of (plain_policy policy.now)) }
 {
     let mut calls = Vec::new(alloc);
+    let mut names = NameIndex::new(alloc);
     for block in policy.blocks.as_slice() {
-        add_of_block(&mut calls, block)?;
+        if let Block::Bundle(bundle) = block {
+            add_if_first(&mut calls, &mut names, bundle)?;
+        }
     }
     Ok(calls)
 }

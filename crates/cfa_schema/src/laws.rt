@@ -1,5 +1,5 @@
 // Laws of the schema.
-ghost use Rattle.cfa_schema.specs.Laws.{RefusalIsOne, NeverBoth, NothingIsRefused, NamedBodyIsThere, EditBundleIsThere, AgentBundleIsThere, ChainsAreShort, ListedIdsAreFound, FoundIdsAreListed, WordsLackNewlines, NamesAreWords, ParamsAreWords, LinesAreCounts, LinesAreFew, PromisesAreFew, NamedBundleStands, CommonBundlesStand, NamedBundleIsWord, CommonNamesAreWords, SequenceNamesAreWords, IdsAreCounted};
+ghost use Rattle.cfa_schema.specs.Laws.{RefusalIsOne, NeverBoth, NothingIsRefused, NamedBodyIsThere, EditBundleIsThere, AgentBundleIsThere, EachBundleCalls, ChainsAreShort, ListedIdsAreFound, FoundIdsAreListed, WordsLackNewlines, NamesAreWords, ParamsAreWords, LinesAreCounts, LinesAreFew, PromisesAreFew, NamedBundleStands, CommonBundlesStand, NamedBundleIsWord, CommonNamesAreWords, SequenceNamesAreWords, IdsAreCounted};
 
 /// A policy has one first refusal, and a valid policy has none: what `check` may answer of a policy is one answer.
 pub fn one_refusal()
@@ -16,9 +16,10 @@ pub fn named_blocks_are_there()
     ensures agent_bundle { AgentBundleIsThere }
 {}
 
-/// No chain of calls of a valid policy is longer than the number of its bundles.
+/// In a valid policy each bundle makes its calls, and no chain of them is longer than the number of its bundles.
 pub fn chains_are_short()
-    ensures { ChainsAreShort }
+    ensures each { EachBundleCalls }
+    ensures short { ChainsAreShort }
 {}
 
 /// The list of the ids of a valid policy has just the ids that are found, and each is found with its type.
