@@ -3,25 +3,24 @@ use Rattle.std.proofs.Common.{◌≡◌, ◌≢◌, ℕ, ◌<◌, ◌+◌, List,
 use Rattle.std.proofs.lemmas.Bool.{false≢true, false_from_ne_true}
 use Rattle.std.proofs.lemmas.List.Folds.{list_any_more}
 use Rattle.std.proofs.lemmas.Map.Steps.{set_value_same}
-use Rattle.std.proofs.lemmas.Map.Text.{btree_map_updates_text}
 use Rattle.std.proofs.lemmas.Slice.Eq.{bytes_eq-Decides}
-use Rattle.std.specs.BTreeMap as tree
-use Rattle.std.specs.Cmp.Lexicographic.{nat_list_cmp_total, slice_cmp}
+use Rattle.std.specs.HashMap as hash
+use Rattle.std.specs.Cmp.Lexicographic.{nat_list_cmp_total}
 use Rattle.std.specs.FinMap as finite
 use Rattle.std.specs.Option.{option_or}
-use Rattle.std.specs.Ordering.{nat_cmp}
 use Rattle.std.specs.Prelude.{String, IsSome}
 use Rattle.std.specs.Str.{bytes_eq}
-use Rattle.std.specs.String.{string_bytes, string_cmp}
+use Rattle.std.specs.String.{string_bytes, string_eq}
 use Rattle.cfa_base.specs.TextMaps.{text_cmp, text_map}
 use Rattle.cfa_base.specs.declared.places.PromiseId.{PromiseId}
-use Rattle.cfa_base.specs.lemmas.TextMaps.{get-put, get-text_map, text_map-put, remove-insert, ties_alike, same_texts}
+use Rattle.cfa_base.specs.lemmas.TextMaps.{get-put, remove-insert, ties_alike, same_texts}
 use Rattle.cfa_classes.specs.declared.levels.Status.{Status}
 use Rattle.cfa_classes.specs.declared.levels.Status.TheVariants.{No, Maybe, Yes}
 use Rattle.cfa_classes.specs.Status.{greater}
 use Rattle.cfa_classes.specs.Raised.{Raised, none_raised, status_in, raised}
 use Rattle.cfa_classes.specs.lemmas.Raised.{status_in-none_raised, status_in-raised_same, status_in-raised_other}
 use Rattle.cfa_outcomes.specs.Environments.{EnvironmentMaps, with_class, Sources, Marks, marks_at, mark_in, marked, sourced, is_listed, all_yes}
+use Rattle.cfa_outcomes.proofs.HashedTexts.{get-hashed, hashed-put}
 
 same : (text : List ℕ) → bytes_eq text text ≡ true
 same text = (bytes_eq-Decides text text).1 refl
@@ -167,52 +166,45 @@ one_more_yes statuses classes i class within at so_far q =
       turned false true = refl
       turned false false = refl
 
--- ---- what is written through a look-up by bytes
-
-pub text_map-written : {Y X : Type 0} (bs : List ℕ) (m n : tree.BTreeMap (String Y) X) (x : X) → tree.UpdatesBy string_cmp (λ k. slice_cmp nat_cmp bs (string_bytes k)) m n (Some x) → text_map string_bytes n.entries ≡ finite.insert (text_map string_bytes m.entries) bs x
-text_map-written bs m n x updates = finite.same_map nat_list_cmp_total same_texts _ _ (λ q.
-    get-text_map string_bytes n.entries q
-    ∙ btree_map_updates_text bs m n (Some x) updates q
-    ∙ ap (cond (bytes_eq bs q) (Some x)) (sym (get-text_map string_bytes m.entries q))
-    ∙ sym (get-put (text_map string_bytes m.entries) bs x q))
+-- ---- the marks of paths, in a hash map
 
 -- what is found at a path
-pub marks_at-found : {Y : Type 0} (m : tree.BTreeMap (String Y) Raised) (marks : Marks) (bs path : List ℕ) (found : Option Raised)
-    → text_map string_bytes m.entries ≡ marks → bs ≡ path → found ≡ tree.get_by_text m bs → marks_at marks path ≡ unwrap_or found none_raised
+pub marks_at-found : {Y S : Type 0} (m : hash.HashMap (String Y) Raised S) (marks : Marks) (bs path : List ℕ) (found : Option Raised)
+    → text_map string_bytes m.entries ≡ marks → bs ≡ path → found ≡ hash.get_by_text m bs → marks_at marks path ≡ unwrap_or found none_raised
 unfolding marks_at
 marks_at-found m marks bs path found view by_path is =
-    let e : finite.get marks path ≡ found = ap (finite.get marks) (sym by_path) ∙ ap (λ n. finite.get n bs) (sym view) ∙ get-text_map string_bytes m.entries bs ∙ sym is in
+    let e : finite.get marks path ≡ found = ap (finite.get marks) (sym by_path) ∙ ap (λ n. finite.get n bs) (sym view) ∙ get-hashed m bs ∙ sym is in
     ap (λ o. unwrap_or o none_raised) e
 
 -- the marks of a path were raised where they lie
-pub marked-written : {Y : Type 0} (m n : tree.BTreeMap (String Y) Raised) (marks : Marks) (bs path text : List ℕ) (to : Status) (before after : Raised)
-    → text_map string_bytes m.entries ≡ marks → bs ≡ path → Some before ≡ tree.get_by_text m bs
-    → tree.WritesThrough string_cmp (λ k. slice_cmp nat_cmp bs (string_bytes k)) m after n → after ≡ raised before text to
+pub marked-written : {Y S : Type 0} (m n : hash.HashMap (String Y) Raised S) (marks : Marks) (bs path text : List ℕ) (to : Status) (before after : Raised)
+    → text_map string_bytes m.entries ≡ marks → bs ≡ path → Some before ≡ hash.get_by_text m bs
+    → hash.WritesThrough string_eq (λ k. bytes_eq bs (string_bytes k)) m after n → after ≡ raised before text to
     → text_map string_bytes n.entries ≡ marked marks path text to
 unfolding marked
 marked-written m n marks bs path text to before after view by_path is writes raises =
-    let there : IsSome (tree.get_by_text m bs) = subst IsSome is refl in
-    let put : text_map string_bytes n.entries ≡ finite.insert (text_map string_bytes m.entries) bs after = text_map-written bs m n after (writes.3 there) in
+    let there : IsSome (hash.get_by_text m bs) = subst IsSome is refl in
+    let put : text_map string_bytes n.entries ≡ finite.insert (text_map string_bytes m.entries) bs after = hashed-put bs m n after (writes.3 there) in
     let at : marks_at marks path ≡ before = marks_at-found m marks bs path (Some before) view by_path is in
     let value : after ≡ raised (marks_at marks path) text to = raises ∙ ap (λ r. raised r text to) (sym at) in
     put ∙ ap (λ t. finite.insert t bs after) view ∙ ap (λ p. finite.insert marks p after) by_path ∙ ap (finite.insert marks path) value
 
 -- nothing was written
-pub marked-left : {Y : Type 0} (m n : tree.BTreeMap (String Y) Raised) (marks : Marks) (bs : List ℕ) (before after : Raised)
-    → text_map string_bytes m.entries ≡ marks → Some before ≡ tree.get_by_text m bs
-    → tree.WritesThrough string_cmp (λ k. slice_cmp nat_cmp bs (string_bytes k)) m after n → after ≡ before
+pub marked-left : {Y S : Type 0} (m n : hash.HashMap (String Y) Raised S) (marks : Marks) (bs : List ℕ) (before after : Raised)
+    → text_map string_bytes m.entries ≡ marks → Some before ≡ hash.get_by_text m bs
+    → hash.WritesThrough string_eq (λ k. bytes_eq bs (string_bytes k)) m after n → after ≡ before
     → text_map string_bytes n.entries ≡ marks
 marked-left m n marks bs before after view is writes stays =
     ap (text_map string_bytes) (writes.0 ∙ set_value_same _ m.entries after (sym (ap Some stays ∙ is))) ∙ view
 
 -- a path got its first mark
-pub marked-added : {Y : Type 0} (m n : tree.BTreeMap (String Y) Raised) (marks : Marks) (key : String Y) (bs path text : List ℕ) (to : Status) (texts : Raised)
-    → text_map string_bytes m.entries ≡ marks → bs ≡ path → string_bytes key ≡ path → None ≡ tree.get_by_text m bs
-    → tree.Updates string_cmp m n key (Some texts) → texts ≡ raised none_raised text to
+pub marked-added : {Y S : Type 0} (m n : hash.HashMap (String Y) Raised S) (marks : Marks) (key : String Y) (bs path text : List ℕ) (to : Status) (texts : Raised)
+    → text_map string_bytes m.entries ≡ marks → bs ≡ path → string_bytes key ≡ path → None ≡ hash.get_by_text m bs
+    → hash.Updates string_eq m n key (Some texts) → texts ≡ raised none_raised text to
     → text_map string_bytes n.entries ≡ marked marks path text to
 unfolding marked
 marked-added m n marks key bs path text to texts view by_path by_key is updates raises =
-    let put : text_map string_bytes n.entries ≡ finite.insert (text_map string_bytes m.entries) (string_bytes key) texts = text_map-put m n key texts updates in
+    let put : text_map string_bytes n.entries ≡ finite.insert (text_map string_bytes m.entries) (string_bytes key) texts = hashed-put (string_bytes key) m n texts updates in
     let at : marks_at marks path ≡ none_raised = marks_at-found m marks bs path None view by_path is in
     let value : texts ≡ raised (marks_at marks path) text to = raises ∙ ap (λ r. raised r text to) (sym at) in
     put ∙ ap (λ t. finite.insert t (string_bytes key) texts) view ∙ ap (λ p. finite.insert marks p texts) by_key ∙ ap (finite.insert marks path) value

@@ -1,2 +1,3 @@
 pub mod EnvironmentLemmas
 pub mod EnvironmentRows
+pub mod HashedTexts

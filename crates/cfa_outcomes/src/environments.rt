@@ -12,8 +12,9 @@ use std::alloc::Global;
 use std::marker::Model;
 
 /// The statuses of classes, the promises that first raised them, and the marks of instances, each by its path and its
-/// text. A class that was never raised and an instance that was never marked are No. A look-up and a change cost a
-/// logarithm of comparisons. Contracts see three finite maps, read by `status_of`, `source_of` and `mark_of`.
+/// text. A class that was never raised and an instance that was never marked are No. A look-up and a change of a class
+/// cost a logarithm of comparisons, and those of a mark the hashes of its path and text. Contracts see three finite maps,
+/// read by `status_of`, `source_of` and `mark_of`.
 #[derive(Drop)]
 pub struct Environment {
     alloc: Global,

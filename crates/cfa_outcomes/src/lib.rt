@@ -5,6 +5,7 @@
 mod environments;
 mod marking;
 mod outcomes;
+mod text_marks;
 
 pub use environments::Environment;
 pub use outcomes::Outcome;

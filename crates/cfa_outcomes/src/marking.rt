@@ -4,16 +4,18 @@ ghost use Rattle.std.specs.FinMap as finite;
 ghost use Rattle.std.specs.String.{string_bytes};
 ghost use Rattle.cfa_outcomes.specs.Environments.{mark_in, marked};
 
+use crate::text_marks::TextMarks;
 use cfa_base::{Name, NoMemory};
-use cfa_classes::{Status, Statuses};
+use cfa_classes::Status;
 use std::alloc::Global;
-use std::collections::BTreeMap;
+use std::collections::HashMap;
 use std::marker::Model;
 
-// By paths, and of one path by texts. A look-up and a change cost a logarithm of comparisons.
+// By the hashes of paths, and of one path by those of texts. A look-up and a change cost as much as the path and the text
+// are long, however many there are.
 #[derive(Drop)]
 pub struct Marks {
-    rows: BTreeMap<String, Statuses>,
+    rows: HashMap<String, TextMarks>,
 }
 
 impl Model for Marks {
@@ -34,7 +36,7 @@ impl Marks {
         ensures { result ≡ finite.empty }
     {
         Marks {
-            rows: BTreeMap::new(alloc),
+            rows: HashMap::new(alloc),
         }
     }
 
@@ -61,7 +63,7 @@ impl Marks {
         match self.rows.get_mut(path.as_str()) {
             Some(texts) => texts.raise(text, to),
             None => {
-                let mut texts = Statuses::new(alloc);
+                let mut texts = TextMarks::new(alloc);
                 texts.raise(text, to)?;
                 self.rows.insert(path.into_string(), texts)?;
                 Ok(())

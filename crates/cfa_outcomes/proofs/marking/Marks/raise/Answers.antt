@@ -25,4 +25,4 @@ returns-in_ok-insert-in-None-clause-ok c =
     marked-added c.get_mut.follows.lender-at-none c.insert.new.self c.args.self.now c.into_string.result c.as_str.result.now c.args.path c.args.text c.args.to c.raise-in-None.new.self
     (ap (λ m. text_map string_bytes m.entries) c.get_mut.follows.holds-at-none ∙ c.self.view_is) c.as_str.ensures c.into_string.ensures
     (rw c.get_mut.follows.holds-at-none c.in-None.ensures.value) c.in_ok-insert-in-None.ensures.updates
-    (c.in_ok-raise-in-None.ensures.ok ∙ ap (λ r. raised r c.args.text c.args.to) c.new-texts.ensures.empty)
+    (c.in_ok-raise-in-None.ensures.ok ∙ ap (λ r. raised r c.args.text c.args.to) c.new-texts.ensures)
