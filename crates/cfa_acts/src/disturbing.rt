@@ -1,6 +1,5 @@
 // Which act disturbs which.
 ghost use Rattle.std.specs.Prelude.{◌≡◌, ◌&&◌, not, IfOk, OnErr};
-ghost use Rattle.std.specs.Cmp.Lexicographic.{pointwise};
 ghost use Rattle.std.specs.Str.{bytes_eq};
 ghost use Rattle.cfa_outside.specs.Worlds.{is_below};
 ghost use Rattle.cfa_acts.specs.Acts.{IsAct};
@@ -9,6 +8,7 @@ ghost use Rattle.cfa_acts.specs.Settling.{keeps_content};
 
 use crate::Act;
 use crate::edits::keeps_content;
+use crate::same::{are_same_names, is_same_name, is_same_path};
 use cfa_base::{Bytes, Name, Names, NoMemory};
 use cfa_edits::Script;
 use cfa_outside::Path;
@@ -44,18 +44,6 @@ pub fn disturbs(alloc: Global, later: &Act, earlier: &Act) -> Result<bool, NoMem
         Act::Disable(name) => Ok(enables(name, later)),
         Act::Restart(_) | Act::Bust(_) => Ok(false),
     }
-}
-
-fn is_same_path(path: &Path, other: &Path) -> bool
-    ensures { result ≡ bytes_eq path.now other.now }
-{
-    path.text().as_str() == other.text().as_str()
-}
-
-fn is_same_name(name: &Name, other: &Name) -> bool
-    ensures { result ≡ bytes_eq name.now other.now }
-{
-    name.as_str() == other.as_str()
 }
 
 fn is_beneath(path: &[u8], other: &[u8]) -> bool
@@ -172,21 +160,6 @@ fn lists_differ(names: &Names, others: &Names) -> bool
 {
     let (names, others) = (names.as_slice(), others.as_slice());
     !names.is_empty() && !others.is_empty() && !are_same_names(names, others)
-}
-
-/// Whether the lists have equal texts.
-pub fn are_same_names(names: &[Name], others: &[Name]) -> bool
-    ensures { result ≡ pointwise bytes_eq names.now others.now }
-{
-    if names.len() != others.len() {
-        return false;
-    }
-    for (i, name) in names.iter().enumerate() {
-        if !is_same_name(name, &others[i]) {
-            return false;
-        }
-    }
-    true
 }
 
 fn gives_other_perms(

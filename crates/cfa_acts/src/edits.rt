@@ -6,7 +6,7 @@ ghost use Rattle.cfa_acts.specs.Acts.{decision};
 ghost use Rattle.cfa_acts.specs.Settling.{leaves, keeps_content, puts_text};
 ghost use Rattle.cfa_acts.specs.Seeing.{Sees, IsWhole, edit_refusal, line_decision, edit_decision};
 
-use crate::disturbing::are_same_names;
+use crate::same::are_same_names;
 use crate::seeing::{SeeErr, see_bytes, see_look};
 use crate::{Act, Decision, Reason};
 use cfa_base::{Bytes, MOST_FILE_BYTES, Name, Names, NoMemory};

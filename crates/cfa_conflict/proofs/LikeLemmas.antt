@@ -12,7 +12,7 @@ use Rattle.std.specs.Prelude.{nat_eq}
 use Rattle.std.specs.Str.{bytes_eq}
 use Rattle.cfa_base.specs.Index.{Text}
 use Rattle.cfa_resolve.specs.declared.instances.Instance.{Instance}
-use Rattle.cfa_conflict.specs.Same.{is_same}
+use Rattle.cfa_acts.specs.Same.{is_same}
 use Rattle.cfa_conflict.specs.Targets.{Row, seen_row, seen_rows, acts_at, is_row, is_like, HaveLikes}
 use Rattle.cfa_conflict.proofs.RowLemmas.{Seen}
 use Rattle.cfa_conflict.proofs.TargetLemmas.{in_left, in_right}

@@ -7,7 +7,7 @@ use Rattle.std.specs.Str.{bytes_eq}
 use Rattle.cfa_base.specs.Index.{Text}
 use Rattle.cfa_acts.specs.declared.acts.Act.{Act}
 use Rattle.cfa_acts.specs.declared.acts.Act.TheVariants.{Create, MakeDir, Delete, Content, Copy, Edit, Perms, Start, Stop, Enable, Disable, Restart, Bust}
-use Rattle.cfa_conflict.specs.Same.{is_same_mode, is_same_flag, is_same}
+use Rattle.cfa_acts.specs.Same.{is_same_mode, is_same_flag, is_same}
 
 no_case : {P : Type 0} → false ≡ true → P
 no_case is = absurd (false≢true is)

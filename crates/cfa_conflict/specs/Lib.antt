@@ -3,5 +3,4 @@ pub mod Conflicts
 pub mod Firsts
 pub mod Names
 pub mod Numbers
-pub mod Same
 pub mod Targets

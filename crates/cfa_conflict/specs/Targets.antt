@@ -15,7 +15,7 @@ use Rattle.cfa_resolve.specs.declared.instances.Instance.{Instance}
 use Rattle.cfa_walk.specs.Tellers.{acts_of}
 use Rattle.cfa_walk.specs.declared.walks.Visit.{Visit}
 use Rattle.cfa_conflict.specs.Conflicts.{undone_from}
-use Rattle.cfa_conflict.specs.Same.{is_same}
+use Rattle.cfa_acts.specs.Same.{is_same}
 
 -- a target with the place of an instance that has an act on it
 abbrev pub Row : Type 0

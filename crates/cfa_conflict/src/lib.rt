@@ -7,7 +7,6 @@ mod live;
 mod numbers;
 mod pairs;
 mod resources;
-mod same;
 mod targets;
 mod verdicts;
 

@@ -5,8 +5,7 @@ ghost use Rattle.std.specs.List.Sorted.{IsNonDecreasing};
 ghost use Rattle.cfa_conflict.specs.Targets.{target_of, rows_of, seen_rows, is_sought, places_of, sought, AreSorted, HasRows, begins_with, is_target, acts_at, is_like, HaveLikes};
 
 use crate::pairs::acts_of;
-use crate::same::are_same_acts;
-use cfa_acts::Act;
+use cfa_acts::{Act, are_same_acts};
 use cfa_base::NoMemory;
 use cfa_resolve::Instance;
 use std::alloc::Global;

@@ -3,7 +3,7 @@ use Rattle.std.specs.Cmp.Lexicographic.{pointwise}
 use Rattle.std.specs.Prelude.{not}
 use Rattle.std.specs.Str.{bytes_eq}
 use Rattle.cfa_acts.specs.declared.acts.Act.{Act}
-use Rattle.cfa_conflict.specs.Same.{is_same}
+use Rattle.cfa_acts.specs.Same.{is_same}
 use Rattle.cfa_conflict.specs.Targets.{acts_at}
 use Rattle.cfa_conflict.proofs.RowLemmas.{Seen}
 use Rattle.cfa_conflict.proofs.LikeLemmas.{like_at}

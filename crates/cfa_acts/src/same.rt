@@ -1,20 +1,22 @@
-// Which acts are the same.
+// Which names, paths and acts are the same.
 ghost use Rattle.std.specs.Prelude.{◌≡◌};
 ghost use Rattle.std.specs.Cmp.Lexicographic.{pointwise};
 ghost use Rattle.std.specs.Str.{bytes_eq};
-ghost use Rattle.cfa_conflict.specs.Same.{is_same_mode, is_same_flag, is_same};
+ghost use Rattle.cfa_acts.specs.Same.{is_same_mode, is_same_flag, is_same};
 
-use cfa_acts::Act;
-use cfa_base::{Name, Names};
+use crate::Act;
+use cfa_base::Name;
 use cfa_outside::Path;
 
-fn is_same_name(name: &Name, other: &Name) -> bool
+/// Whether the names have equal texts.
+pub fn is_same_name(name: &Name, other: &Name) -> bool
     ensures { result ≡ bytes_eq name.now other.now }
 {
     name.as_str() == other.as_str()
 }
 
-fn is_same_path(path: &Path, other: &Path) -> bool
+/// Whether the paths have equal texts.
+pub fn is_same_path(path: &Path, other: &Path) -> bool
     ensures { result ≡ bytes_eq path.now other.now }
 {
     path.text().as_str() == other.text().as_str()
@@ -36,10 +38,10 @@ fn is_same_flag(flag: bool, other: bool) -> bool
     if flag { other } else { !other }
 }
 
-fn are_same_names(names: &Names, others: &Names) -> bool
+/// Whether the lists have equal texts.
+pub fn are_same_names(names: &[Name], others: &[Name]) -> bool
     ensures { result ≡ pointwise bytes_eq names.now others.now }
 {
-    let (names, others) = (names.as_slice(), others.as_slice());
     if names.len() != others.len() {
         return false;
     }
@@ -83,8 +85,8 @@ fn is_same(act: &Act, other: &Act) -> bool
             Act::Perms(at, m, os, gs) => {
                 is_same_path(path, at)
                     && is_same_mode(*mode, *m)
-                    && are_same_names(owners, os)
-                    && are_same_names(groups, gs)
+                    && are_same_names(owners.as_slice(), os.as_slice())
+                    && are_same_names(groups.as_slice(), gs.as_slice())
             }
             _ => false,
         },
@@ -109,7 +111,7 @@ fn is_same(act: &Act, other: &Act) -> bool
 }
 
 /// Whether the acts are the same in the same order. Edits and restarts count as different.
-pub(crate) fn are_same_acts(acts: &[Act], others: &[Act]) -> bool
+pub fn are_same_acts(acts: &[Act], others: &[Act]) -> bool
     ensures { result ≡ pointwise is_same acts.now others.now }
 {
     if acts.len() != others.len() {

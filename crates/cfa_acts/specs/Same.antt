@@ -1,4 +1,5 @@
--- Of the code alone: acts that are the same. The scripts of edits aren't compared, so no two edits count as the same.
+-- Which acts are the same: those of one kind with the same texts. The scripts of edits aren't compared, so no two edits count as
+-- the same, and no two restarts do.
 use Rattle.std.specs.Prelude.{ℕ, Bool, true, false, not, ◌&&◌, ◌==◌, Option, Some, None}
 use Rattle.std.specs.Cmp.Lexicographic.{pointwise}
 use Rattle.std.specs.Str.{bytes_eq}
