@@ -9,6 +9,7 @@ mod large_runs;
 mod limits;
 mod line_runs;
 mod lock_runs;
+mod repeats;
 mod rule_runs;
 mod run_logs;
 mod run_tables;

@@ -1,20 +1,12 @@
 // Runs of many combinations, and of many files.
 use super::empty_site;
+use super::repeats::{items, repeated};
 use super::run_logs::{Run, compare_lines, compare_run, unlocked_run};
 use super::worlds::site_of;
 use cfa_outside::MemorySite;
 use std::alloc::Global;
 use std::process::Abort;
 use std::test::Fail;
-
-// So many items of a list from 0 on, each with an ending.
-fn items(alloc: Global, count: u32, ending: &str) -> Result<String, Fail> {
-    let mut text = String::new(alloc);
-    for number in 0..count {
-        text.push_str(format!(in alloc; "'{number}{ending}', ")?.as_str())?;
-    }
-    Ok(text)
-}
 
 // Two lists of so many items each, up to the reports behind them.
 fn lists_of(alloc: Global, first: u32, second: u32) -> Result<String, Fail> {
@@ -133,15 +125,6 @@ fn thousands_of_files(rt: HostRuntime) -> Result<(), Fail> {
     run_of_files(&rt, rt.alloc(), repairs.as_str(), &mut site)?;
     let kept = "total kept 3000 repaired 0 failed 0 skipped 0\nsettled: yes\n";
     run_of_files(&rt, rt.alloc(), kept, &mut site)
-}
-
-// So many times a line.
-fn repeated(alloc: Global, line: &str, count: u32) -> Result<String, Fail> {
-    let mut text = String::new(alloc);
-    for _ in 0..count {
-        text.push_str(line)?;
-    }
-    Ok(text)
 }
 
 const LETTERS: &str =

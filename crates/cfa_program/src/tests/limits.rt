@@ -1,10 +1,14 @@
 // The limit of visits, and patterns that are too big, in checks, runs and strict runs.
+use super::repeats::{items, repeated};
 use super::run_logs::{Run, compare_run, unlocked_run};
 use super::run_tables::compare_table;
 use super::worlds::site_of;
 use std::alloc::Global;
 use std::process::Abort;
 use std::test::Fail;
+
+// A report behind a guard that isn't set.
+const SILENT: &str = "    'r';\n";
 
 // Makes calls with a policy one after the other on a host, and compares. Each is told by its words, what it adds to the log, what it
 // puts and what it answers.
@@ -27,31 +31,14 @@ fn compare_calls(
     Ok(())
 }
 
-// So many items of a list.
-fn items(alloc: Global, count: u32) -> Result<String, Fail> {
-    let mut text = String::new(alloc);
-    for number in 0..count {
-        text.push_str(format!(in alloc; "'{number}', ")?.as_str())?;
-    }
-    Ok(text)
-}
-
-// So many reports behind a guard that isn't set.
-fn silent(alloc: Global, count: u32) -> Result<String, Fail> {
-    let mut text = String::new(alloc);
-    for _ in 0..count {
-        text.push_str("    'r';\n")?;
-    }
-    Ok(text)
-}
-
 // A policy of a file and 26 * 26 calls of a bundle of 492 silent reports, with so many such reports of its own and so many items in
 // a list. Its calls make 676 * 3 * 492 visits, which are 997,776. Each of its passes makes 676 for the calls, one for each of three
 // lists and one for the file; the string makes one in the first pass, in which its list isn't set yet, and one for each item in each
 // later one. So there are 999,817 visits, two more for each item and three more for each report.
 fn policy_of_calls(alloc: Global, count: u32, reports: u32) -> Result<String, Fail> {
-    let (letters, listed) = (items(alloc, 26)?, items(alloc, count)?);
-    let (own, called) = (silent(alloc, reports)?, silent(alloc, 492)?);
+    let (letters, listed) = (items(alloc, 26, "")?, items(alloc, count, "")?);
+    let own = repeated(alloc, SILENT, reports)?;
+    let called = repeated(alloc, SILENT, 492)?;
     let (letters, listed) = (letters.as_str(), listed.as_str());
     let (own, called) = (own.as_str(), called.as_str());
     Ok(format!(in alloc;
@@ -136,7 +123,8 @@ fn a_run_of_one_visit_more_than_a_million(rt: HostRuntime) -> Result<(), Fail> {
 // outcome says. With 492 reports the calls make 997,776 visits and what stands round them at most 2,037; with 493 the calls alone make
 // 999,804 and the pass that makes them 679 more.
 fn policy_of_outcome(alloc: Global, outcome: &str, reports: u32) -> Result<String, Fail> {
-    let (letters, called) = (items(alloc, 26)?, silent(alloc, reports)?);
+    let letters = items(alloc, 26, "")?;
+    let called = repeated(alloc, SILENT, reports)?;
     let (letters, called) = (letters.as_str(), called.as_str());
     Ok(format!(in alloc;
         "bundle agent main\n{{\n  vars:\n    'a' slist => {{ {letters}}};\n    'b' slist => {{ {letters}}};\n  files:\n    '/a' create => 'true', classes => c;\n  methods:\n    c::\n      'm' usebundle => sub('$(a).$(b)');\n}}\nbundle agent sub(t)\n{{\n  reports:\n    Absent::\n{called}}}\nbody classes c\n{{\n  {outcome} => {{ 'c' }};\n}}\n"
