@@ -6,12 +6,12 @@ ghost use Rattle.cfa_agent.specs.Runs.{last_line};
 ghost use Rattle.cfa_agent.specs.Ending.{LinePut, line_by, line_ended};
 
 use crate::actuating::Actuation;
-use crate::recording::copy_id;
 use crate::running::Tally;
 use cfa_acts::Reason;
 use cfa_base::{Name, PromiseId};
 use cfa_output::{Item, Stop, line, put_all};
 use cfa_outside::Sink;
+use cfa_resolve::copy_id;
 use std::alloc::Global;
 
 // Puts the line of an item.

@@ -11,12 +11,12 @@ ghost use Rattle.cfa_agent.specs.Recording.{Writes, IsRecorded, run_before, open
 
 use crate::actuating::Actuation;
 use cfa_acts::Reason;
-use cfa_base::{NoMemory, PromiseId};
+use cfa_base::NoMemory;
 use cfa_journal::{Record, write};
 use cfa_locks::key;
 use cfa_output::{Object, Stop};
 use cfa_outside::{Call, Change, OutsideErr, Site};
-use cfa_resolve::Instance;
+use cfa_resolve::{Instance, copy_id};
 use std::alloc::Global;
 
 /// What the records of an instance tell of it besides its promise.
@@ -50,17 +50,6 @@ pub fn number_of(reason: Reason) -> u8
         Reason::TooLong => 12,
         Reason::TooMany => 13,
     }
-}
-
-/// An equal id of its own.
-pub fn copy_id(alloc: Global, id: &PromiseId) -> Result<PromiseId, NoMemory>
-    ensures { IfOk result (λ copy. copy ≡ id.now) }
-{
-    Ok(PromiseId {
-        bundle: id.bundle.copy(alloc)?,
-        number: id.number,
-        line: id.line,
-    })
 }
 
 // The change that appends the line of a record.

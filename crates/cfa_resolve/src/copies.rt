@@ -1,4 +1,4 @@
-// Copies of instances.
+// Copies of instances, of ids and of what variables hold.
 ghost use Rattle.std.specs.Prelude.{◌≡◌, IfOk};
 
 use crate::{Data, Instance, Work};
@@ -17,7 +17,8 @@ pub fn copy_id(alloc: Global, id: &PromiseId) -> Result<PromiseId, NoMemory>
     })
 }
 
-fn copy_datum(alloc: Global, datum: &Datum) -> Result<Datum, NoMemory>
+/// A copy of what a variable holds.
+pub fn copy_datum(alloc: Global, datum: &Datum) -> Result<Datum, NoMemory>
     ensures { IfOk result (λ copy. copy ≡ datum.now) }
 {
     match datum {

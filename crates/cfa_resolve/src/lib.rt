@@ -18,7 +18,7 @@ mod services;
 mod values;
 
 pub use cfa_scripts::{Unsettled, UnsettledList};
-pub use copies::copy_id;
+pub use copies::{copy_datum, copy_id};
 pub use instances::{
     Acts, Data, FoundPromise, Instance, Instances, ResolveErr, Resolved, View, Work,
 };

@@ -1,5 +1,5 @@
 // The binding of the parameters of a bundle.
-ghost use Rattle.std.specs.Prelude.{◌≡◌, IfOk, OnOk, map};
+ghost use Rattle.std.specs.Prelude.{OnOk, map};
 ghost use Rattle.cfa_tree.specs.Plain.{plain_named};
 ghost use Rattle.cfa_walk.specs.History.{History};
 ghost use Rattle.cfa_walk.specs.Kept.{Stands, IsSame};
@@ -8,19 +8,11 @@ ghost use Rattle.cfa_walk.specs.Views.{Setting};
 
 use crate::activations::{Activation, set_variable};
 use crate::states::State;
-use cfa_base::{Name, NoMemory};
+use cfa_base::NoMemory;
+use cfa_resolve::copy_datum;
 use cfa_tree::Named;
 use cfa_vars::Datum;
 use std::alloc::Global;
-
-fn copy_datum(alloc: Global, datum: &Datum) -> Result<Datum, NoMemory>
-    ensures { IfOk result (λ d. d ≡ datum.now) }
-{
-    match datum {
-        Datum::Text(text) => Ok(Datum::Text(text.copy(alloc)?)),
-        Datum::List(items) => Ok(Datum::List(items.copy(alloc)?)),
-    }
-}
 
 /// Sets the parameters of a bundle to what the arguments give, one after the other.
 pub(crate) fn bind(
