@@ -13,9 +13,10 @@ use Rattle.cfa_resolve.specs.declared.instances.Instance.{Instance}
 use Rattle.cfa_tree.specs.Tree.{NamedTree}
 use Rattle.cfa_vars.specs.declared.scoping.Datum.{Datum}
 use Rattle.cfa_vars.specs.Named.{put}
+use Rattle.cfa_resolve.specs.Resolution.{is_listed}
 use Rattle.cfa_walk.specs.History.{History, Where, everywhere, within, Set, Raised, Reached, Listed, Told, scope_in, globally, locally, mark_in}
 use Rattle.cfa_walk.specs.Numbered.{Numbered}
-use Rattle.cfa_walk.specs.Passes.{Course, goes, too_large, then_on, told, classes_for, in_every_list, raised_to, is_among, raise_each, set_each, handed, raise_event, raise_all, bind}
+use Rattle.cfa_walk.specs.Passes.{Course, goes, too_large, then_on, told, classes_for, in_every_list, raised_to, raise_each, set_each, handed, raise_event, raise_all, bind}
 use Rattle.cfa_walk.specs.Views.{Setting, Home}
 use Rattle.cfa_convergence.specs.Conflicts.{HasActs}
 use Rattle.cfa_convergence.specs.Contained.{kept_or_repaired, IsSettled}
@@ -185,8 +186,8 @@ module _ (Open : List ℕ → Type 0) where
 
   -- by what was told, and what stood before
   told_in_both : (i : Instance) (o : Outcome) (s : Status) (a b : History) →
-      ((x : List ℕ) → Within (raised_if (is_among (classes_for i o) x) (raised_to Yes (in_every_list i (o ∷ []) x)) (globally a x))
-      (raised_if (is_among i.repaired x) (raised_to s (in_every_list i either x)) (raised_if (is_among i.kept x) (raised_to s (in_every_list i either x)) (globally b x)))) →
+      ((x : List ℕ) → Within (raised_if (is_listed (classes_for i o) x) (raised_to Yes (in_every_list i (o ∷ []) x)) (globally a x))
+      (raised_if (is_listed i.repaired x) (raised_to s (in_every_list i either x)) (raised_if (is_listed i.kept x) (raised_to s (in_every_list i either x)) (globally b x)))) →
       ((p : List ℕ) → Open p → (x : List ℕ) → Within (locally a p x) (locally b p x)) →
       ((p : List ℕ) → Open p → scope_in a p ≡ scope_in b p) →
       ((p x : List ℕ) → Within (mark_in a p x) (mark_in b p x)) →
@@ -201,8 +202,8 @@ module _ (Open : List ℕ → Type 0) where
       record {
         globals = λ x.
             subst (λ r. Within r (globally b2 x)) (sym (each_global i (o ∷ []) Yes (classes_for i o) a0 x))
-            (subst (λ r. Within (raised_if (is_among (classes_for i o) x) (raised_to Yes (in_every_list i (o ∷ []) x)) (globally a x)) r)
-            (sym (each_global i either s i.repaired b1 x ∙ ap (raised_if (is_among i.repaired x) (raised_to s (in_every_list i either x))) (each_global i either s i.kept b0 x)))
+            (subst (λ r. Within (raised_if (is_listed (classes_for i o) x) (raised_to Yes (in_every_list i (o ∷ []) x)) (globally a x)) r)
+            (sym (each_global i either s i.repaired b1 x ∙ ap (raised_if (is_listed i.repaired x) (raised_to s (in_every_list i either x))) (each_global i either s i.kept b0 x)))
             (globals x));
         locals = λ p q x.
             subst (λ r. Within r (locally b2 p x)) (sym (each_local i (o ∷ []) Yes (classes_for i o) a0 p x))
@@ -223,9 +224,9 @@ module _ (Open : List ℕ → Type 0) where
       ((p x : List ℕ) → Within (mark_in a p x) (mark_in b p x)) →
       Placed (Told i (kept_or_repaired repaired ∷ []) ∷ a) (Told i either ∷ b) → Contained Open (told i (kept_or_repaired repaired ∷ []) Yes a) (told i either s b)
   told_both i true s a b v globals locals scopes marks placed =
-      told_in_both i Repaired s a b (λ x. within_repaired (is_among i.kept x) (is_among i.repaired x) v (globals x)) locals scopes marks placed
+      told_in_both i Repaired s a b (λ x. within_repaired (is_listed i.kept x) (is_listed i.repaired x) v (globals x)) locals scopes marks placed
   told_both i false s a b v globals locals scopes marks placed =
-      told_in_both i Kept s a b (λ x. within_kept (is_among i.kept x) (is_among i.repaired x) v (globals x)) locals scopes marks placed
+      told_in_both i Kept s a b (λ x. within_kept (is_listed i.kept x) (is_listed i.repaired x) v (globals x)) locals scopes marks placed
 
   -- a call ends
   pub ended_both : (i : Instance) (repaired : Bool) (s : Status) (a b : History) → (HasActs i.work → ⊥) → Within Yes s → Contained Open a b →
@@ -251,8 +252,8 @@ module _ (Open : List ℕ → Type 0) where
       record {
         globals = λ x.
             subst (λ r. Within r (globally b1 x)) (sym (each_global i os Yes i.kept a0 x))
-            (subst (λ r. Within (raised_if (is_among i.kept x) (raised_to Yes (in_every_list i os x)) (globally a x)) r) (sym (each_global i os s i.kept b0 x))
-            (within_report (is_among i.kept x) v (c.globals x)));
+            (subst (λ r. Within (raised_if (is_listed i.kept x) (raised_to Yes (in_every_list i os x)) (globally a x)) r) (sym (each_global i os s i.kept b0 x))
+            (within_report (is_listed i.kept x) v (c.globals x)));
         locals = λ p q x.
             subst (λ r. Within r (locally b1 p x)) (sym (each_local i os Yes i.kept a0 p x))
             (subst (λ r. Within (locally a p x) r) (sym (each_local i os s i.kept b0 p x)) (c.locals p q x));

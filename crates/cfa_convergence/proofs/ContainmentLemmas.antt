@@ -17,7 +17,7 @@ use Rattle.cfa_resolve.specs.declared.instances.Instance.{Instance}
 use Rattle.cfa_resolve.specs.declared.instances.Work.{Work}
 use Rattle.cfa_resolve.specs.declared.instances.Work.TheVariants.{Acts, Call, Report}
 use Rattle.cfa_resolve.specs.Instances.{Reached as Resolving}
-use Rattle.cfa_resolve.specs.Resolution.{resolution, reached_at, is_acting}
+use Rattle.cfa_resolve.specs.Resolution.{resolution, reached_at, is_acting, is_listed}
 use Rattle.cfa_served.specs.Served.{bundle_of}
 use Rattle.cfa_tree.specs.Tree.{ExprTree, BlockTree, PolicyTree}
 use Rattle.cfa_vars.specs.declared.scoping.Datum.{Datum}
@@ -28,7 +28,7 @@ use Rattle.cfa_walk.specs.Levels.{HasPlainNames}
 use Rattle.cfa_walk.specs.Numbered.{Numbered, numbered_in, name_of, agent_types, of_type}
 use Rattle.cfa_walk.specs.Passes.{Course, goes, too_large, told, Calls, tell, worked, visited, visit_status, visit, instances_from, set_each, raise_all, most_visits, within_limit, reached, vars_reached, classes_reached, sets_variable, acting_reached, kept_by, guarded, reach, promises_from, types_from, passes, activation, calls_of}
 use Rattle.cfa_walk.specs.Tellers.{Teller}
-use Rattle.cfa_walk.specs.Views.{Setting, Home, is_listed, shared_names, shared_in, scopes_in, global_status, status_in, guard_status}
+use Rattle.cfa_walk.specs.Views.{Setting, Home, shared_names, shared_in, scopes_in, global_status, status_in, guard_status}
 use Rattle.cfa_walk.specs.Walks.{unsettled_edits}
 use Rattle.cfa_convergence.specs.Conflicts.{HasActs}
 use Rattle.cfa_convergence.specs.Contained.{unfailing, IsSettled, EditsAreSettled}

@@ -7,8 +7,9 @@ use Rattle.cfa_classes.specs.declared.levels.Status.TheVariants.{No, Maybe, Yes}
 use Rattle.cfa_classes.specs.Status.{greater}
 use Rattle.cfa_outcomes.specs.declared.outcomes.Outcome.{Outcome}
 use Rattle.cfa_resolve.specs.declared.instances.Instance.{Instance}
+use Rattle.cfa_resolve.specs.Resolution.{is_listed}
 use Rattle.cfa_walk.specs.History.{History, everywhere, Raised, scope_in, globally, locally, mark_in}
-use Rattle.cfa_walk.specs.Passes.{raise_each, raised_to, in_every_list, is_among}
+use Rattle.cfa_walk.specs.Passes.{raise_each, raised_to, in_every_list}
 use Rattle.cfa_laws.specs.Statuses.{Within, no_maybe, no_no, yes_maybe, yes_yes}
 use Rattle.cfa_convergence.proofs.NameLemmas.{is_text}
 use Rattle.cfa_convergence.proofs.WithinLemmas.{within_greater}
@@ -28,9 +29,9 @@ module _ (i : Instance) (os : List Outcome) (s : Status) where
   abbrev at_class : List ℕ → Status
   at_class c = raised_to s (in_every_list i os c)
 
-  pub each_global : (cs : List (List ℕ)) (h : History) (x : List ℕ) → globally (raise_each i os s cs h) x ≡ raised_if (is_among cs x) (at_class x) (globally h x)
+  pub each_global : (cs : List (List ℕ)) (h : History) (x : List ℕ) → globally (raise_each i os s cs h) x ≡ raised_if (is_listed cs x) (at_class x) (globally h x)
   each_global [] h x = refl
-  each_global (c ∷ cs) h x = each_global cs (Raised everywhere c (at_class c) (Some i.source) ∷ h) x ∙ go (bytes_eq c x) refl (is_among cs x)
+  each_global (c ∷ cs) h x = each_global cs (Raised everywhere c (at_class c) (Some i.source) ∷ h) x ∙ go (bytes_eq c x) refl (is_listed cs x)
     where
       go : (b : Bool) → bytes_eq c x ≡ b → (r : Bool) →
           raised_if r (at_class x) (elim b [ true ↦ greater (at_class c) (globally h x) | false ↦ globally h x ]) ≡ raised_if (b || r) (at_class x) (globally h x)

@@ -34,9 +34,10 @@ use Rattle.cfa_schema.specs.Laws.{Stands, in_promise, by_word, by_call, NamesBun
 use Rattle.cfa_served.specs.Served.{common_bundles_of}
 use Rattle.cfa_schema.specs.Sourced.{IsSourced}
 use Rattle.cfa_schema.specs.Valid.{Valid, refusals, repeated_bodies_after, body_name, bundle_name, default_refusals, block_refusals, bundle_by, other_type}
+use Rattle.cfa_resolve.specs.Resolution.{is_listed}
 use Rattle.cfa_walk.specs.Levels.{HasPlainNames}
 use Rattle.cfa_walk.specs.Numbered.{Numbered, numbered_as, numbered_from, numbered_in, name_of}
-use Rattle.cfa_walk.specs.Views.{is_listed, joined_once, shared_names}
+use Rattle.cfa_walk.specs.Views.{joined_once, shared_names}
 use Rattle.cfa_convergence.specs.Policies.{IsKnown, IsKnownCommon, HasKnown}
 use Rattle.cfa_convergence.proofs.PlaceLemmas.{none_left, none_right}
 

@@ -111,13 +111,14 @@ made_for r choice = made r choice (scripted_in (walked_for r choice))
 abbrev pub instances_for : Reached → List Chosen → List Instance
 instances_for r choices = filter_map (λ choice. instance_in (made_for r choice)) choices
 
-abbrev pub is_among : List (List ℕ) → List ℕ → Bool
-is_among names name = list_any (λ other. bytes_eq name other) names
+-- the name is among these
+abbrev pub is_listed : List (List ℕ) → List ℕ → Bool
+is_listed names name = list_any (λ other. bytes_eq other name) names
 
 -- names, and one more behind them unless it is among them
 abbrev pub with_name : List (List ℕ) → Option (List ℕ) → List (List ℕ)
 with_name names None = names
-with_name names (Some name) = if is_among names name then names else names ++ name ∷ []
+with_name names (Some name) = if is_listed names name then names else names ++ name ∷ []
 
 abbrev pub names_after : Reached → List (List ℕ) → List Chosen → List (List ℕ)
 names_after r names [] = names

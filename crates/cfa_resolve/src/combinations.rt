@@ -7,7 +7,7 @@ ghost use Rattle.cfa_acts.specs.Acts.{IsOwn};
 ghost use Rattle.cfa_scripts.specs.Refusals.{too_big_in as script_too_big_in};
 ghost use Rattle.cfa_resolve.specs.declared.combinations.Made.TheVariants.{Instance as an_instance};
 ghost use Rattle.cfa_resolve.specs.Instances.{bust_instance};
-ghost use Rattle.cfa_resolve.specs.Resolution.{caller_of, edit_call, walked_for, visits_in, unsettled_in, made_by_script, unless_unresolved, made, made_for, instance_in, name_in, is_among, with_name, instances_for, names_after, inner_visits, inner_unsettled, IsBuiltByCall, IsBuiltAmong};
+ghost use Rattle.cfa_resolve.specs.Resolution.{caller_of, edit_call, walked_for, visits_in, unsettled_in, made_by_script, unless_unresolved, made, made_for, instance_in, name_in, is_listed, with_name, instances_for, names_after, inner_visits, inner_unsettled, IsBuiltByCall, IsBuiltAmong};
 ghost use Rattle.cfa_resolve.specs.SeenReached.{seen_reached};
 ghost use Rattle.cfa_resolve.specs.Viewed.{too_big_in};
 
@@ -144,11 +144,12 @@ fn make(
     }
 }
 
-fn is_among(names: &[Name], name: &str) -> bool
-    ensures { result ≡ is_among names.now name.now }
+/// Whether a name is among these, without taking memory.
+pub fn is_listed(names: &[Name], name: &str) -> bool
+    ensures { result ≡ is_listed names.now name.now }
 {
     for other in names {
-        if name == other.as_str() {
+        if other.as_str() == name {
             return true;
         }
     }
@@ -162,7 +163,7 @@ fn add_name(names: &mut Names, name: Option<Name>) -> Result<(), NoMemory>
     match name {
         None => Ok(()),
         Some(name) => {
-            if is_among(names.as_slice(), name.as_str()) {
+            if is_listed(names.as_slice(), name.as_str()) {
                 Ok(())
             } else {
                 names.push(name)

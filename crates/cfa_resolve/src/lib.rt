@@ -18,6 +18,7 @@ mod services;
 mod values;
 
 pub use cfa_scripts::{Unsettled, UnsettledList};
+pub use combinations::is_listed;
 pub use copies::{copy_datum, copy_id};
 pub use instances::{
     Acts, Data, FoundPromise, Instance, Instances, ResolveErr, Resolved, View, Work,

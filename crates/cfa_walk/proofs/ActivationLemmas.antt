@@ -21,6 +21,7 @@ use Rattle.cfa_vars.specs.declared.scoping.Datum.{Datum}
 use Rattle.cfa_vars.specs.declared.scoping.Scope.{Scope}
 use Rattle.cfa_vars.specs.Named.{put}
 use Rattle.cfa_vars.specs.Scopes.{Table, InScope}
+use Rattle.cfa_resolve.specs.Resolution.{is_listed}
 use Rattle.cfa_walk.specs.declared.activations.Activation.{Activation}
 use Rattle.cfa_walk.specs.declared.states.State.{State}
 use Rattle.cfa_walk.specs.History.{History, Event, Begun, Set, Raised, within, scope_in, locally, local_source, source_in, visits_in}
@@ -31,7 +32,7 @@ use Rattle.cfa_walk.specs.Logs.{Rows}
 use Rattle.cfa_walk.specs.Tellers.{worst_in}
 use Rattle.cfa_defines.specs.FirstMaybe.{first_maybe_of_guard}
 use Rattle.cfa_walk.specs.Waits.{wait_on, wait_of_guard, waits_in}
-use Rattle.cfa_walk.specs.Views.{Setting, global_status, status_in, is_listed, scopes_in, shared_names, shared_in}
+use Rattle.cfa_walk.specs.Views.{Setting, global_status, status_in, scopes_in, shared_names, shared_in}
 use Rattle.cfa_walk.proofs.SharedLemmas.{same_name, is_same, names_of_pairs, with_its, shared_once, set_in_place}
 use Rattle.cfa_walk.proofs.KeptLemmas.{counts_same, changed, greater_turned, keeps_begun, keeps_set, other_begun, other_set}
 use Rattle.cfa_walk.proofs.WaitLemmas.{no_waits}

@@ -15,6 +15,7 @@ use Rattle.cfa_resolve.specs.declared.instances.Work.TheVariants.{Acts, Call, Re
 use Rattle.cfa_served.specs.Served.{bundle_of}
 use Rattle.cfa_tree.specs.Tree.{NamedTree, BlockTree, PolicyTree}
 use Rattle.cfa_vars.specs.declared.scoping.Datum.{Datum}
+use Rattle.cfa_resolve.specs.Resolution.{is_listed}
 use Rattle.cfa_walk.specs.declared.states.State.{State}
 use Rattle.cfa_walk.specs.declared.activations.Activation.{Activation}
 use Rattle.cfa_walk.specs.History.{History, Event, Begun}
@@ -25,7 +26,7 @@ use Rattle.cfa_walk.specs.Builds.{BuiltOn}
 use Rattle.cfa_walk.specs.Passes.{Course, goes, bind, activation, called_by, calls_of}
 use Rattle.cfa_walk.specs.Steps.{passes_level, call_course, CallEnds}
 use Rattle.cfa_walk.specs.Tellers.{Teller, worst_in, inner_path}
-use Rattle.cfa_walk.specs.Views.{Setting, Home, is_listed, shared_names}
+use Rattle.cfa_walk.specs.Views.{Setting, Home, shared_names}
 use Rattle.cfa_walk.proofs.LevelLemmas.{goes_weaker, quietly_behind, later_same}
 use Rattle.cfa_walk.proofs.KeptLemmas.{keeps_begun}
 use Rattle.cfa_walk.proofs.SharedLemmas.{same_name}

@@ -12,22 +12,23 @@ use Rattle.cfa_resolve.specs.declared.instances.Instance.{Instance}
 use Rattle.cfa_tree.specs.declared.blocks.Named.{Named}
 use Rattle.cfa_tree.specs.Plain.{plain_named}
 use Rattle.cfa_vars.specs.declared.scoping.Datum.{Datum}
+use Rattle.cfa_resolve.specs.Resolution.{is_listed}
 use Rattle.cfa_walk.specs.declared.states.State.{State}
 use Rattle.cfa_walk.specs.declared.activations.Activation.{Activation}
 use Rattle.cfa_walk.specs.History.{History, everywhere, Set, Raised}
 use Rattle.cfa_walk.specs.Kept.{Keeps, Stands, IsSame}
-use Rattle.cfa_walk.specs.Passes.{classes_for, is_among, in_every_list, raised_to, raise_each, bind}
+use Rattle.cfa_walk.specs.Passes.{classes_for, in_every_list, raised_to, raise_each, bind}
 use Rattle.cfa_walk.specs.Views.{Setting}
 use Rattle.cfa_walk.proofs.LastLemmas.{raise_each-last}
 
 -- ---- the classes of an outcome
 
 -- a class of a list is in it
-among : (classes : List (List ℕ)) (i : ℕ) (d : List ℕ) → i < length classes → is_among classes (get_or classes i d) ≡ true
+among : (classes : List (List ℕ)) (i : ℕ) (d : List ℕ) → i < length classes → is_listed classes (get_or classes i d) ≡ true
 among classes i d within =
     list_any_at (λ other. bytes_eq other (get_or classes i d)) classes i d within ((bytes_eq-Decides (get_or classes i d) (get_or classes i d)).1 refl)
 
-in_every : (instance : Instance) (outcome : Outcome) (class : List ℕ) → is_among (classes_for instance outcome) class ≡ true → in_every_list instance (outcome ∷ []) class ≡ true
+in_every : (instance : Instance) (outcome : Outcome) (class : List ℕ) → is_listed (classes_for instance outcome) class ≡ true → in_every_list instance (outcome ∷ []) class ≡ true
 in_every instance outcome class is = rw (is, in_every_list) refl
 
 -- one more class of the outcome's list is raised
@@ -36,8 +37,8 @@ pub outcome_one_more : (s : Setting) (st' : State) (instance : Instance) (outcom
     Keeps s st' (Raised everywhere copy status (Some source) ∷ raise_each instance (outcome ∷ []) status (take i classes) h) →
     Keeps s st' (raise_each instance (outcome ∷ []) status (take (i + 1) classes) h)
 outcome_one_more s st' instance outcome status classes i class copy source h are within here copies sources keeps =
-    let is : is_among (classes_for instance outcome) class ≡ true =
-    ap (λ (x : List (List ℕ)). is_among x class) (sym are) ∙ (ap (is_among classes) here ∙ among classes i class within) in
+    let is : is_listed (classes_for instance outcome) class ≡ true =
+    ap (λ (x : List (List ℕ)). is_listed x class) (sym are) ∙ (ap (is_listed classes) here ∙ among classes i class within) in
     let before : History = raise_each instance (outcome ∷ []) status (take i classes) h in
     subst (λ (k : History). Keeps s st' k)
     (ap (λ (x : List ℕ). Raised everywhere x status (Some source) ∷ before) copies
@@ -64,10 +65,10 @@ both_one_more s st' instance outcomes status to classes i class copy source h wi
 
 -- whether the lists of an instance that may be kept or repaired have a class
 module _ (i : Instance) (class : List ℕ) where
-  pub not_in_kept : is_among i.kept class ≡ false → in_every_list i (Kept ∷ (Repaired ∷ [])) class ≡ false
+  pub not_in_kept : is_listed i.kept class ≡ false → in_every_list i (Kept ∷ (Repaired ∷ [])) class ≡ false
   not_in_kept lacks = rw (lacks, in_every_list) refl
 
-  pub by_repaired : (b : Bool) → is_among i.kept class ≡ true → is_among i.repaired class ≡ b → in_every_list i (Kept ∷ (Repaired ∷ [])) class ≡ b
+  pub by_repaired : (b : Bool) → is_listed i.kept class ≡ true → is_listed i.repaired class ≡ b → in_every_list i (Kept ∷ (Repaired ∷ [])) class ≡ b
   by_repaired true has is = rw (has, in_every_list) (rw (is, in_every_list) refl)
   by_repaired false has is = rw (has, in_every_list) (rw (is, in_every_list) refl)
 

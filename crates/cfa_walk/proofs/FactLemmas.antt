@@ -17,11 +17,12 @@ use Rattle.cfa_served.specs.Served.{common_bundles_of}
 use Rattle.cfa_schema.specs.Sourced.{IsSourced}
 use Rattle.cfa_schema.specs.Valid.{Valid}
 use Rattle.cfa_tree.specs.Tree.{PromiseTree, SectionTree, BlockTree, bundle, body, PolicyTree}
+use Rattle.cfa_resolve.specs.Resolution.{is_listed}
 use Rattle.cfa_walk.specs.Facts.{HasCountedIds}
 use Rattle.cfa_walk.specs.Levels.{HasPlainNames}
 use Rattle.cfa_walk.specs.Numbered.{Numbered, numbered_as, numbered_from, numbered_in, name_of}
 use Rattle.cfa_walk.specs.Steps.{AreCounted}
-use Rattle.cfa_walk.specs.Views.{is_listed, joined_once, shared_names}
+use Rattle.cfa_walk.specs.Views.{joined_once, shared_names}
 
 -- ---- names
 

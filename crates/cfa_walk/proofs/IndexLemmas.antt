@@ -6,9 +6,9 @@ use Rattle.std.proofs.lemmas.Cmp.{nat_list_eq_equiv}
 use Rattle.std.proofs.lemmas.Iterator.Adapters.{position_from-zero}
 use Rattle.cfa_base.specs.Index.{place_of, same_pair, pair_place_of}
 use Rattle.cfa_resolve.specs.declared.instances.Instance.{Instance}
+use Rattle.cfa_resolve.specs.Resolution.{is_listed}
 use Rattle.cfa_walk.specs.History.{is_named}
 use Rattle.cfa_walk.specs.Logs.{name_of}
-use Rattle.cfa_walk.specs.Passes.{is_among}
 
 found_from : {X : Type 0} (test : X → Bool) (xs : List X) (i : ℕ) → is_some (position_from test i xs) ≡ list_any test xs
 found_from test [] i = refl
@@ -19,13 +19,13 @@ found_from test (x ∷ xs) i =
 pub same_bytes : (x y : List ℕ) → bytes_eq x y ≡ bytes_eq y x
 same_bytes x y = nat_list_eq_equiv.symm x y
 
-turned : (classes : List (List ℕ)) (class : List ℕ) → list_any (λ other. bytes_eq class other) classes ≡ is_among classes class
+turned : (classes : List (List ℕ)) (class : List ℕ) → list_any (λ other. bytes_eq class other) classes ≡ is_listed classes class
 turned [] class = refl
 turned (x ∷ xs) class =
     ap (λ (b : Bool). b || list_any (λ other. bytes_eq class other) xs) (same_bytes class x)
     ∙ ap (λ (b : Bool). bytes_eq x class || b) (turned xs class)
 
-pub class_among : (classes : List (List ℕ)) (class : List ℕ) → is_some (place_of classes class) ≡ is_among classes class
+pub class_among : (classes : List (List ℕ)) (class : List ℕ) → is_some (place_of classes class) ≡ is_listed classes class
 class_among classes class =
     ap is_some (position_from-zero (λ other. bytes_eq class other) classes)
     ∙ (found_from (λ other. bytes_eq class other) classes 0 ∙ turned classes class)
@@ -49,7 +49,7 @@ place_is path text instances =
 
 module _ (classes list : List (List ℕ)) (class text : List ℕ) (found : Option ℕ) (are : list ≡ classes) (same : text ≡ class) (is : found ≡ place_of list text) where
   -- whether a class is found is whether it is in the list
-  pub found_is : (b : Bool) → is_some found ≡ b → is_among classes class ≡ b
+  pub found_is : (b : Bool) → is_some found ≡ b → is_listed classes class ≡ b
   found_is b tested =
       sym (class_among classes class)
       ∙ (sym (ap (λ (x : List (List ℕ)). is_some (place_of x class)) are)

@@ -13,6 +13,7 @@ use Rattle.cfa_outcomes.specs.declared.outcomes.Outcome.{Outcome}
 use Rattle.cfa_resolve.specs.declared.instances.Instance.{Instance}
 use Rattle.cfa_tree.specs.Tree.{PolicyTree}
 use Rattle.cfa_vars.specs.declared.scoping.Datum.{Datum}
+use Rattle.cfa_resolve.specs.Resolution.{is_listed}
 use Rattle.cfa_walk.specs.declared.states.State.{State}
 use Rattle.cfa_walk.specs.History.{History, Home, Begun, Set, Raised, Reached, Listed, Told, everywhere, within, scope_in, globally, global_source, mark_in, is_named, visits_in}
 use Rattle.cfa_base.specs.TextMaps.{TextMap}
@@ -22,7 +23,7 @@ use Rattle.cfa_walk.specs.Kept.{Keeps, KeepsWaits, KeepsLog, wait_at}
 use Rattle.cfa_walk.specs.Logs.{Rows, logged_blames, first_log}
 use Rattle.cfa_walk.specs.Numbered.{Numbered}
 use Rattle.cfa_walk.specs.Passes.{most_visits}
-use Rattle.cfa_walk.specs.Views.{Setting, from_start, global_status, is_listed, shared_names, shared_in}
+use Rattle.cfa_walk.specs.Views.{Setting, from_start, global_status, shared_names, shared_in}
 use Rattle.cfa_walk.specs.Waits.{wait_of_call}
 use Rattle.cfa_walk.specs.Walks.{listed_instances, listings, unsettled_promises, own_unsettled, edits_unsettled}
 use Rattle.cfa_walk.proofs.SharedLemmas.{same_name, is_same, as_it_was}

@@ -6,6 +6,7 @@ use Rattle.cfa_classes.specs.declared.levels.Status.{Status}
 use Rattle.cfa_resolve.specs.declared.instances.Instance.{Instance}
 use Rattle.cfa_tree.specs.Tree.{PolicyTree}
 use Rattle.cfa_vars.specs.Scopes.{Table}
+use Rattle.cfa_resolve.specs.Resolution.{is_listed}
 use Rattle.cfa_walk.specs.declared.activations.Activation.{Activation}
 use Rattle.cfa_walk.specs.History.{History, Home, Raised, Reached, Listed, everywhere, scope_in, locally, local_source}
 use Rattle.cfa_walk.specs.Kept.{KeepsLocally, OwnScope}
@@ -13,7 +14,7 @@ use Rattle.cfa_walk.specs.declared.waits.Wait.{Wait}
 use Rattle.cfa_walk.specs.Numbered.{Numbered}
 use Rattle.cfa_walk.specs.Tellers.{worst_in}
 use Rattle.cfa_walk.specs.Waits.{waits_in}
-use Rattle.cfa_walk.specs.Views.{Setting, is_listed, shared_names}
+use Rattle.cfa_walk.specs.Views.{Setting, shared_names}
 
 -- ---- the scope of an activation
 

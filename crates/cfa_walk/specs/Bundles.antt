@@ -12,6 +12,7 @@ use Rattle.cfa_tree.specs.declared.blocks.Bundle.{Bundle}
 use Rattle.cfa_tree.specs.Plain.{plain_block}
 use Rattle.cfa_tree.specs.Tree.{BlockTree, PolicyTree}
 use Rattle.cfa_served.specs.Served.{bundle_of}
+use Rattle.cfa_resolve.specs.Resolution.{is_listed}
 use Rattle.cfa_walk.specs.declared.states.State.{State}
 use Rattle.cfa_walk.specs.History.{History, locally, local_source}
 use Rattle.cfa_walk.specs.Kept.{Keeps}
@@ -20,7 +21,7 @@ use Rattle.cfa_walk.specs.Numbered.{name_of}
 use Rattle.cfa_walk.specs.Builds.{BuiltOn}
 use Rattle.cfa_walk.specs.Passes.{Course, through_common, commons_from, common_passes, activation, all_calls, in_sequence, sequence_from}
 use Rattle.cfa_walk.specs.Tellers.{Teller, worst_in}
-use Rattle.cfa_walk.specs.Views.{Setting, is_listed, shared_names}
+use Rattle.cfa_walk.specs.Views.{Setting, shared_names}
 use Rattle.cfa_walk.specs.Waits.{waits_in}
 
 -- the types of promises of a common bundle

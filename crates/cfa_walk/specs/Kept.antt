@@ -11,6 +11,7 @@ use Rattle.cfa_outcomes.specs.declared.outcomes.Outcome.TheVariants.{Kept}
 use Rattle.cfa_outcomes.specs.Environments.{status_of, source_of, mark_of}
 use Rattle.cfa_tree.specs.Tree.{PolicyTree}
 use Rattle.cfa_vars.specs.Scopes.{Table}
+use Rattle.cfa_resolve.specs.Resolution.{is_listed}
 use Rattle.cfa_walk.specs.declared.states.State.{State}
 use Rattle.cfa_walk.specs.declared.activations.Activation.{Activation}
 use Rattle.cfa_walk.specs.declared.waits.Wait.{Wait}
@@ -20,7 +21,7 @@ use Rattle.cfa_walk.specs.Logs.{Rows}
 use Rattle.cfa_walk.specs.Tellers.{worst_in}
 use Rattle.cfa_walk.specs.Waits.{wait_of_call, waits_in}
 use Rattle.cfa_walk.specs.Walks.{listed_instances, listings, unsettled_promises}
-use Rattle.cfa_walk.specs.Views.{Setting, Home, global_status, is_listed, shared_names, shared_in}
+use Rattle.cfa_walk.specs.Views.{Setting, Home, global_status, shared_names, shared_in}
 
 abbrev pub first : {X Y : Type 0} → X × Y → X
 first pair = pair.0

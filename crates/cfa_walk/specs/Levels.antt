@@ -18,6 +18,7 @@ use Rattle.cfa_resolve.specs.declared.instances.Instance.{Instance}
 use Rattle.cfa_resolve.specs.declared.instances.Work.{Work}
 use Rattle.cfa_resolve.specs.declared.instances.Work.TheVariants.{Acts, Call, Report}
 use Rattle.cfa_tree.specs.Tree.{PolicyTree}
+use Rattle.cfa_resolve.specs.Resolution.{is_listed}
 use Rattle.cfa_walk.specs.declared.states.State.{State}
 use Rattle.cfa_walk.specs.declared.activations.Activation.{Activation}
 use Rattle.cfa_walk.specs.History.{History, Event, Begun, Set, Raised, Reached, Listed, Told}
@@ -26,7 +27,7 @@ use Rattle.cfa_walk.specs.Builds.{BuiltOn}
 use Rattle.cfa_walk.specs.Passes.{Course, goes, too_large}
 use Rattle.cfa_walk.specs.declared.tellers.Ending.{Ending}
 use Rattle.cfa_walk.specs.Tellers.{Teller, outcomes_in, worst_in, inner_path}
-use Rattle.cfa_walk.specs.Views.{Setting, Home, is_listed, shared_names}
+use Rattle.cfa_walk.specs.Views.{Setting, Home, shared_names}
 
 -- ---- courses
 

@@ -6,8 +6,6 @@
 --
 -- A promise with which more than 1,000,000 visits are counted does nothing, and the history ends as too large where it is reached.
 use Rattle.std.specs.Prelude.{ℕ, zero, suc, ◌+◌, Bool, true, false, List, [], ◌∷◌, length, nat_le, Option, Some, None}
-use Rattle.std.specs.List.{list_any}
-use Rattle.std.specs.Str.{bytes_eq}
 use Rattle.cfa_base.specs.declared.places.PromiseId.{PromiseId}
 use Rattle.cfa_tree.specs.Tree.{NamedTree, BlockTree, bundle, body}
 use Rattle.cfa_kinds.specs.declared.kinds.BundleType.{BundleType}
@@ -26,7 +24,7 @@ use Rattle.cfa_resolve.specs.declared.instances.Instance.{Instance}
 use Rattle.cfa_resolve.specs.declared.instances.Resolved.{Resolved}
 use Rattle.cfa_resolve.specs.declared.instances.Work.{Work}
 use Rattle.cfa_resolve.specs.declared.instances.Work.TheVariants.{Acts, Call, Report}
-use Rattle.cfa_resolve.specs.Resolution.{resolution, reached_at}
+use Rattle.cfa_resolve.specs.Resolution.{resolution, reached_at, is_listed}
 use Rattle.cfa_outcomes.specs.declared.outcomes.Outcome.{Outcome}
 use Rattle.cfa_outcomes.specs.declared.outcomes.Outcome.TheVariants.{Kept, Repaired, Failed}
 use Rattle.cfa_walk.specs.declared.states.TheConstants.{MOST_VISITS}
@@ -59,14 +57,11 @@ classes_for instance Kept = instance.kept
 classes_for instance Repaired = instance.repaired
 classes_for instance Failed = instance.failed
 
-abbrev pub is_among : List (List ℕ) → List ℕ → Bool
-is_among classes class = list_any (λ other. bytes_eq other class) classes
-
 -- whether the list of every outcome has the class
 abbrev pub in_every_list : Instance → List Outcome → List ℕ → Bool
 in_every_list instance [] class = true
 in_every_list instance (outcome ∷ others) class =
-    elim (is_among (classes_for instance outcome) class) [ true ↦ in_every_list instance others class | false ↦ false ]
+    elim (is_listed (classes_for instance outcome) class) [ true ↦ in_every_list instance others class | false ↦ false ]
 
 -- to the visit's status where every outcome's list has the class, else to Maybe
 abbrev pub raised_to : Status → (in_every : Bool) → Status

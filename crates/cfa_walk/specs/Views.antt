@@ -1,9 +1,7 @@
 -- What a promise reads in a history: the variables of its own scope and of the bundles that may be referred to from everywhere,
 -- which are the common bundles and those of the sequence, and the statuses of classes, global and of its own activation. The
 -- classes of the context are Yes everywhere.
-use Rattle.std.specs.Prelude.{ℕ, Bool, List, [], ◌∷◌, ◌++◌, map, Option, Some, None, if◌then◌else◌}
-use Rattle.std.specs.List.{list_any}
-use Rattle.std.specs.Str.{bytes_eq}
+use Rattle.std.specs.Prelude.{ℕ, List, [], ◌∷◌, ◌++◌, map, Option, Some, None, if◌then◌else◌}
 use Rattle.cfa_base.specs.declared.places.PromiseId.{PromiseId}
 use Rattle.cfa_tree.specs.Tree.{ExprTree, PolicyTree}
 use Rattle.cfa_classes.specs.declared.levels.Status.{Status}
@@ -12,6 +10,7 @@ use Rattle.cfa_classes.specs.Status.{greater, value_of}
 use Rattle.cfa_served.specs.Control.{sequence_of}
 use Rattle.cfa_served.specs.Served.{common_bundles_of}
 use Rattle.cfa_vars.specs.Scopes.{Table, InScope}
+use Rattle.cfa_resolve.specs.Resolution.{is_listed}
 pub use Rattle.cfa_walk.specs.History.{Home}
 use Rattle.cfa_walk.specs.History.{History, scope_in, globally, locally, source_in}
 use Rattle.cfa_walk.specs.Numbered.{name_of}
@@ -22,9 +21,6 @@ pub record Setting : Type 0 where
   pub classes : List (List ℕ)
 
 -- ---- variables
-
-abbrev pub is_listed : List (List ℕ) → List ℕ → Bool
-is_listed names name = list_any (λ other. bytes_eq other name) names
 
 -- names, and those of others that aren't among them, each once
 abbrev pub joined_once : List (List ℕ) → List (List ℕ) → List (List ℕ)

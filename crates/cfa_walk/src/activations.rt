@@ -6,11 +6,12 @@ ghost use Rattle.cfa_vars.specs.declared.scoping.Datum.{Datum};
 ghost use Rattle.cfa_vars.specs.Named.{put};
 ghost use Rattle.cfa_vars.specs.Scopes.{Table, in_scope};
 ghost use Rattle.cfa_resolve.specs.declared.instances.Instance.{Instance};
+ghost use Rattle.cfa_resolve.specs.Resolution.{is_listed};
 ghost use Rattle.cfa_walk.specs.declared.states.State.{State};
 ghost use Rattle.cfa_walk.specs.History.{History, Begun, Set, Raised, Told, within, source_in};
 ghost use Rattle.cfa_walk.specs.Kept.{Keeps, KeepsLocally, Stands, IsSame, IsOf, IsFresh, IsUntouched, home_of, scope_at};
 ghost use Rattle.cfa_walk.specs.Tellers.{outcomes_in, worse, worst, inner_path};
-ghost use Rattle.cfa_walk.specs.Views.{Setting, scopes_in, guard_status, is_listed, shared_names};
+ghost use Rattle.cfa_walk.specs.Views.{Setting, scopes_in, guard_status, shared_names};
 
 use crate::states::State;
 use crate::tellers::Ending;

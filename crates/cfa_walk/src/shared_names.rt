@@ -2,30 +2,21 @@
 ghost use Rattle.std.specs.Prelude.{◌≡◌, [], ◌∷◌, ◌++◌, IfOk, OnOk, map, if◌then◌else◌};
 ghost use Rattle.cfa_schema.specs.Seen.{tree_of};
 ghost use Rattle.cfa_served.specs.Served.{common_bundles_of};
+ghost use Rattle.cfa_resolve.specs.Resolution.{is_listed};
 ghost use Rattle.cfa_walk.specs.Numbered.{name_of};
-ghost use Rattle.cfa_walk.specs.Views.{is_listed, joined_once, shared_names};
+ghost use Rattle.cfa_walk.specs.Views.{joined_once, shared_names};
 
 use cfa_base::{Name, Names, NoMemory};
+use cfa_resolve::is_listed;
 use cfa_schema::Checked;
 use std::alloc::Global;
-
-fn is_listed(names: &Names, name: &Name) -> bool
-    ensures { result ≡ is_listed names.now name.now }
-{
-    for other in names.as_slice() {
-        if other.as_str() == name.as_str() {
-            return true;
-        }
-    }
-    false
-}
 
 // Adds a name that isn't there yet.
 fn add_name(alloc: Global, names: &mut Names, name: &Name) -> Result<(), NoMemory>
     ensures { OnOk result (names.new
         ≡ (if is_listed names.old name.now then names.old else names.old ++ name.now ∷ [])) }
 {
-    if is_listed(names, name) {
+    if is_listed(names.as_slice(), name.as_str()) {
         return Ok(());
     }
     names.push(name.copy(alloc)?)

@@ -5,11 +5,12 @@ ghost use Rattle.std.specs.List.{filter_map};
 ghost use Rattle.std.specs.Str.{bytes_eq};
 ghost use Rattle.cfa_schema.specs.Seen.{tree_of};
 ghost use Rattle.cfa_vars.specs.Scopes.{Table};
+ghost use Rattle.cfa_resolve.specs.Resolution.{is_listed};
 ghost use Rattle.cfa_walk.specs.History.{History, Raised, Listed, everywhere};
 ghost use Rattle.cfa_outcomes.specs.Environments.{mark_of, source_of};
 ghost use Rattle.cfa_walk.specs.Kept.{Keeps, first, wait_at};
 ghost use Rattle.cfa_walk.specs.Logs.{first_log, logged_blames, logged_visit};
-ghost use Rattle.cfa_walk.specs.Views.{Setting, is_listed, shared_names};
+ghost use Rattle.cfa_walk.specs.Views.{Setting, shared_names};
 ghost use Rattle.cfa_walk.specs.Waits.{is_call, is_call_to, is_unvisited, waits_in};
 ghost use Rattle.cfa_walk.specs.Walks.{blame_edit};
 

@@ -1,6 +1,6 @@
 use Rattle.std.proofs.Common.{◌≡◌, drop}
-use Rattle.cfa_walk.specs.Views.{is_listed}
-use Rattle.cfa_walk.proofs.shared_names.is_listed.Given as goal
+use Rattle.cfa_resolve.specs.Resolution.{is_listed}
+use Rattle.cfa_resolve.proofs.combinations.is_listed.Given as goal
 
 abbrev pub invariant-loop-other : goal.invariant-loop-other
 invariant-loop-other l = is_listed (drop l.other-index l.names) l.name ≡ is_listed l.names l.name
