@@ -13,6 +13,7 @@ mod logs;
 mod numbered;
 mod passing;
 mod register;
+mod scenes;
 mod shared_names;
 mod states;
 mod tellers;

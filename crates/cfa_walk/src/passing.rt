@@ -14,6 +14,7 @@ use crate::defining::{pass_over, reach_classes, reach_vars};
 use crate::ending::{raise_ending, visit_status};
 use crate::facts::ids_are_counted;
 use crate::numbered::{Numbered, numbered_in};
+use crate::scenes::Scene;
 use crate::states::State;
 use crate::tellers::Teller;
 use cfa_base::{Name, Patterns};
@@ -22,16 +23,6 @@ use cfa_kinds::PromiseType;
 use cfa_outcomes::Outcome;
 use cfa_output::Stop;
 use cfa_resolve::{Data, Instance, Work};
-use cfa_schema::Checked;
-use std::alloc::Global;
-
-/// A policy, and how deep calls may go.
-#[derive(Clone, Copy)]
-pub(crate) struct Scene<'a> {
-    pub alloc: Global,
-    pub checked: &'a Checked,
-    pub depth: usize,
-}
 
 // Goes through the bundle of a call, and answers its worst outcome.
 #[cycle(passes)]
@@ -138,9 +129,8 @@ fn visit<S, O, T: Teller<S, O>, P: Patterns>(
     requires at { instance.now.path ≡ activation.old.path }
     ensures ends { Ends T.teller T.agrees T.behind T.faults (tree_of scene.now.checked.now)
         (visit_level scene.now.depth guard instance.now)
-        (teller.old, (site.old, out.old)) (teller.new, (site.new, out.new))
-        state.old state.new activation.old activation.new
-        (P.shown pats.old) (P.shown pats.new) result }
+        (teller.old, (site.old, out.old)) (teller.new, (site.new, out.new)) state.old state.new
+        activation.old activation.new (P.shown pats.old) (P.shown pats.new) result }
     ensures path { OnOk result (activation.new.path ≡ activation.old.path) }
 {
     let mark = state.environment.done(&instance.path, &instance.text);
@@ -148,13 +138,8 @@ fn visit<S, O, T: Teller<S, O>, P: Patterns>(
     if status == Status::No {
         return Ok(());
     }
-    state.list(
-        scene.alloc,
-        instance,
-        status,
-        mark,
-        activation.waits.as_ref(),
-    )?;
+    let waits = activation.waits.as_ref();
+    state.list(scene.alloc, instance, status, mark, waits)?;
     if teller.visit(scene.alloc, instance, status, site, out)? {
         return Ok(());
     }
@@ -183,9 +168,8 @@ fn visit_each<S, O, T: Teller<S, O>, P: Patterns>(
     requires at { All (IsAt activation.old.path) instances.now }
     ensures ends { Ends T.teller T.agrees T.behind T.faults (tree_of scene.now.checked.now)
         (instances_level scene.now.depth guard instances.now)
-        (teller.old, (site.old, out.old)) (teller.new, (site.new, out.new))
-        state.old state.new activation.old activation.new
-        (P.shown pats.old) (P.shown pats.new) result }
+        (teller.old, (site.old, out.old)) (teller.new, (site.new, out.new)) state.old state.new
+        activation.old activation.new (P.shown pats.old) (P.shown pats.new) result }
     ensures path { OnOk result (activation.new.path ≡ activation.old.path) }
 {
     for instance in instances {
@@ -216,23 +200,15 @@ fn reach_instances<S, O, T: Teller<S, O>, P: Patterns>(
     requires set { guard ≢ Status.No }
     ensures ends { Ends T.teller T.agrees T.behind T.faults (tree_of scene.now.checked.now)
         (acting_level scene.now.depth (seen_numbered promise.now) guard)
-        (teller.old, (site.old, out.old)) (teller.new, (site.new, out.new))
-        state.old state.new activation.old activation.new
-        (P.shown pats.old) (P.shown pats.new) result }
+        (teller.old, (site.old, out.old)) (teller.new, (site.new, out.new)) state.old state.new
+        activation.old activation.new (P.shown pats.old) (P.shown pats.new) result }
     ensures path { OnOk result (activation.new.path ≡ activation.old.path) }
 {
     let (alloc, checked) = (scene.alloc, scene.checked);
     let instances = count_instances(alloc, checked, promise, guard, state, activation, pats)?;
+    let listed = instances.as_slice();
     visit_each(
-        scene,
-        instances.as_slice(),
-        guard,
-        state,
-        activation,
-        teller,
-        site,
-        out,
-        pats,
+        scene, listed, guard, state, activation, teller, site, out, pats,
     )
 }
 
@@ -253,9 +229,8 @@ fn reach<S, O, T: Teller<S, O>, P: Patterns>(
     requires id { IsCounted promise.now.id }
     ensures ends { Ends T.teller T.agrees T.behind T.faults (tree_of scene.now.checked.now)
         (reach_level scene.now.depth (seen_numbered promise.now))
-        (teller.old, (site.old, out.old)) (teller.new, (site.new, out.new))
-        state.old state.new activation.old activation.new
-        (P.shown pats.old) (P.shown pats.new) result }
+        (teller.old, (site.old, out.old)) (teller.new, (site.new, out.new)) state.old state.new
+        activation.old activation.new (P.shown pats.old) (P.shown pats.new) result }
     ensures path { OnOk result (activation.new.path ≡ activation.old.path) }
 {
     let guard = guard_status(state, activation, &promise.promise.guard);
@@ -295,9 +270,8 @@ fn reach_type<S, O, T: Teller<S, O>, P: Patterns>(
     requires ids { AreCounted (map seen_numbered promises.now) }
     ensures ends { Ends T.teller T.agrees T.behind T.faults (tree_of scene.now.checked.now)
         (type_level scene.now.depth (map seen_numbered promises.now) promise_type)
-        (teller.old, (site.old, out.old)) (teller.new, (site.new, out.new))
-        state.old state.new activation.old activation.new
-        (P.shown pats.old) (P.shown pats.new) result }
+        (teller.old, (site.old, out.old)) (teller.new, (site.new, out.new)) state.old state.new
+        activation.old activation.new (P.shown pats.old) (P.shown pats.new) result }
     ensures path { OnOk result (activation.new.path ≡ activation.old.path) }
 {
     for promise in promises {
@@ -325,9 +299,8 @@ fn pass<S, O, T: Teller<S, O>, P: Patterns>(
     requires ids { AreCounted (map seen_numbered promises.now) }
     ensures ends { Ends T.teller T.agrees T.behind T.faults (tree_of scene.now.checked.now)
         (pass_level scene.now.depth (map seen_numbered promises.now))
-        (teller.old, (site.old, out.old)) (teller.new, (site.new, out.new))
-        state.old state.new activation.old activation.new
-        (P.shown pats.old) (P.shown pats.new) result }
+        (teller.old, (site.old, out.old)) (teller.new, (site.new, out.new)) state.old state.new
+        activation.old activation.new (P.shown pats.old) (P.shown pats.new) result }
     ensures path { OnOk result (activation.new.path ≡ activation.old.path) }
 {
     let types = [
@@ -338,17 +311,9 @@ fn pass<S, O, T: Teller<S, O>, P: Patterns>(
         PromiseType::Services,
         PromiseType::Reports,
     ];
-    for promise_type in types {
+    for kind in types {
         reach_type(
-            scene,
-            promises,
-            promise_type,
-            state,
-            activation,
-            teller,
-            site,
-            out,
-            pats,
+            scene, promises, kind, state, activation, teller, site, out, pats,
         )?;
     }
     Ok(())
@@ -371,9 +336,8 @@ pub(crate) fn go_through<S, O, T: Teller<S, O>, P: Patterns>(
     requires ids { AreCounted (map seen_numbered promises.now) }
     ensures ends { Ends T.teller T.agrees T.behind T.faults (tree_of scene.now.checked.now)
         (passes_level scene.now.depth (map seen_numbered promises.now))
-        (teller.old, (site.old, out.old)) (teller.new, (site.new, out.new))
-        state.old state.new activation.old activation.new
-        (P.shown pats.old) (P.shown pats.new) result }
+        (teller.old, (site.old, out.old)) (teller.new, (site.new, out.new)) state.old state.new
+        activation.old activation.new (P.shown pats.old) (P.shown pats.new) result }
     ensures path { OnOk result (activation.new.path ≡ activation.old.path) }
 {
     pass(scene, promises, state, activation, teller, site, out, pats)?;

@@ -68,23 +68,23 @@ pub go_through-returns-clause-path : goal.go_through-returns-clause-path
 go_through-returns-clause-path g t c =
     path_then _ _ _ c.pass-3.result c.pass-3.ensures.path (c.in_ok-pass-2.ensures.path ∙ c.in_ok-pass.ensures.path)
 
-pub pass-loop-promise_type-init : goal.pass-loop-promise_type-init
-pass-loop-promise_type-init g t c =
+pub pass-loop-kind-init : goal.pass-loop-kind-init
+pass-loop-kind-init g t c =
     let policy = tree_of c.args.scene.now.checked.now in
     let ps = map seen_numbered c.args.promises.now in
     (loop_begins g.T.Teller.teller g.T.Teller.agrees g.T.Teller.behind g.T.Teller.faults policy (λ (x : PromiseType). type_level c.args.scene.now.depth ps x) (c.args.teller.now, (c.args.site.now, c.args.out.now)) c.args.state.now c.args.activation.now (g.P.Patterns.shown c.args.pats.now), (refl, refl))
 
-pub pass-loop-promise_type-preserved : goal.pass-loop-promise_type-preserved
-pass-loop-promise_type-preserved g t c =
+pub pass-loop-kind-preserved : goal.pass-loop-kind-preserved
+pass-loop-kind-preserved g t c =
     let policy = tree_of c.args.scene.now.checked.now in
     let ps = map seen_numbered c.args.promises.now in
     let types = agent_types in
-    let i = c.loop-promise_type.promise_type-index in
+    let i = c.loop-kind.kind-index in
     let type = get_or types i Vars in
-    let one : take (i + 1) types ≡ take i types ++ type ∷ [] = take_more types i Vars c.loop-promise_type-test.true in (
-      loop_goes_on g.T.Teller.teller g.T.Teller.agrees g.T.Teller.behind g.T.Teller.faults policy (λ (x : PromiseType). type_level c.args.scene.now.depth ps x) (take (i + 1) types) (take i types) type (c.args.teller.now, (c.args.site.now, c.args.out.now)) (c.loop-promise_type.teller, (c.loop-promise_type.site, c.loop-promise_type.out)) (c.reach_type.new.teller, (c.reach_type.new.site, c.reach_type.new.out)) c.args.state.now c.loop-promise_type.state c.reach_type.new.state c.args.activation.now c.loop-promise_type.activation c.reach_type.new.activation (g.P.Patterns.shown c.args.pats.now) (g.P.Patterns.shown c.loop-promise_type.pats) (g.P.Patterns.shown c.reach_type.new.pats) (Ok tt)
-          one c.loop-promise_type.invariant.0 c.in_ok-reach_type.ensures.ends,
-      (c.in_ok-reach_type.ensures.path ∙ c.loop-promise_type.invariant.1.0, c.loop-promise_type.invariant.1.1),
+    let one : take (i + 1) types ≡ take i types ++ type ∷ [] = take_more types i Vars c.loop-kind-test.true in (
+      loop_goes_on g.T.Teller.teller g.T.Teller.agrees g.T.Teller.behind g.T.Teller.faults policy (λ (x : PromiseType). type_level c.args.scene.now.depth ps x) (take (i + 1) types) (take i types) type (c.args.teller.now, (c.args.site.now, c.args.out.now)) (c.loop-kind.teller, (c.loop-kind.site, c.loop-kind.out)) (c.reach_type.new.teller, (c.reach_type.new.site, c.reach_type.new.out)) c.args.state.now c.loop-kind.state c.reach_type.new.state c.args.activation.now c.loop-kind.activation c.reach_type.new.activation (g.P.Patterns.shown c.args.pats.now) (g.P.Patterns.shown c.loop-kind.pats) (g.P.Patterns.shown c.reach_type.new.pats) (Ok tt)
+          one c.loop-kind.invariant.0 c.in_ok-reach_type.ensures.ends,
+      (c.in_ok-reach_type.ensures.path ∙ c.loop-kind.invariant.1.0, c.loop-kind.invariant.1.1),
     )
 
 pub pass-returns-in_err-reach_type-clause-ends : goal.pass-returns-in_err-reach_type-clause-ends
@@ -92,16 +92,16 @@ pass-returns-in_err-reach_type-clause-ends g t c =
     let policy = tree_of c.args.scene.now.checked.now in
     let ps = map seen_numbered c.args.promises.now in
     let types = agent_types in
-    let i = c.loop-promise_type.promise_type-index in
+    let i = c.loop-kind.kind-index in
     let type = get_or types i Vars in
-    let one : take (i + 1) types ≡ take i types ++ type ∷ [] = take_more types i Vars c.loop-promise_type-test.true in
+    let one : take (i + 1) types ≡ take i types ++ type ∷ [] = take_more types i Vars c.loop-kind-test.true in
     let stop = c.in_err-reach_type.field-0.0 in
     on_stop (λ result. Ends g.T.Teller.teller g.T.Teller.agrees g.T.Teller.behind g.T.Teller.faults policy (pass_level c.args.scene.now.depth ps) (c.args.teller.now, (c.args.site.now, c.args.out.now)) (c.reach_type.new.teller, (c.reach_type.new.site, c.reach_type.new.out)) c.args.state.now c.reach_type.new.state c.args.activation.now c.reach_type.new.activation (g.P.Patterns.shown c.args.pats.now) (g.P.Patterns.shown c.reach_type.new.pats) result)
     c.from_residual.result c.in_err-reach_type.field-0.0 c.from_residual.ensures.1
     (loop_stops g.T.Teller.teller g.T.Teller.agrees g.T.Teller.behind g.T.Teller.faults policy (λ (x : PromiseType). type_level c.args.scene.now.depth ps x) (type_keeps c.args.scene.now.depth ps) agent_types (take (i + 1) types) (drop (i + 1) types) (c.args.teller.now, (c.args.site.now, c.args.out.now)) (c.reach_type.new.teller, (c.reach_type.new.site, c.reach_type.new.out)) c.args.state.now c.reach_type.new.state c.args.activation.now c.reach_type.new.activation (g.P.Patterns.shown c.args.pats.now) (g.P.Patterns.shown c.reach_type.new.pats) stop
     (sym (take-append-drop (i + 1) types))
-    (loop_goes_on g.T.Teller.teller g.T.Teller.agrees g.T.Teller.behind g.T.Teller.faults policy (λ (x : PromiseType). type_level c.args.scene.now.depth ps x) (take (i + 1) types) (take i types) type (c.args.teller.now, (c.args.site.now, c.args.out.now)) (c.loop-promise_type.teller, (c.loop-promise_type.site, c.loop-promise_type.out)) (c.reach_type.new.teller, (c.reach_type.new.site, c.reach_type.new.out)) c.args.state.now c.loop-promise_type.state c.reach_type.new.state c.args.activation.now c.loop-promise_type.activation c.reach_type.new.activation (g.P.Patterns.shown c.args.pats.now) (g.P.Patterns.shown c.loop-promise_type.pats) (g.P.Patterns.shown c.reach_type.new.pats) (Err stop)
-    one c.loop-promise_type.invariant.0 c.in_err-reach_type.ensures.ends))
+    (loop_goes_on g.T.Teller.teller g.T.Teller.agrees g.T.Teller.behind g.T.Teller.faults policy (λ (x : PromiseType). type_level c.args.scene.now.depth ps x) (take (i + 1) types) (take i types) type (c.args.teller.now, (c.args.site.now, c.args.out.now)) (c.loop-kind.teller, (c.loop-kind.site, c.loop-kind.out)) (c.reach_type.new.teller, (c.reach_type.new.site, c.reach_type.new.out)) c.args.state.now c.loop-kind.state c.reach_type.new.state c.args.activation.now c.loop-kind.activation c.reach_type.new.activation (g.P.Patterns.shown c.args.pats.now) (g.P.Patterns.shown c.loop-kind.pats) (g.P.Patterns.shown c.reach_type.new.pats) (Err stop)
+    one c.loop-kind.invariant.0 c.in_err-reach_type.ensures.ends))
 
 pub pass-returns-in_err-reach_type-clause-path : goal.pass-returns-in_err-reach_type-clause-path
 pass-returns-in_err-reach_type-clause-path g t c =
@@ -111,12 +111,12 @@ pub pass-returns-clause-ends : goal.pass-returns-clause-ends
 pass-returns-clause-ends g t c =
     let policy = tree_of c.args.scene.now.checked.now in
     let ps = map seen_numbered c.args.promises.now in
-    subst (λ (x : List PromiseType). Ends g.T.Teller.teller g.T.Teller.agrees g.T.Teller.behind g.T.Teller.faults policy (types_level c.args.scene.now.depth ps x) (c.args.teller.now, (c.args.site.now, c.args.out.now)) (c.loop-promise_type.teller, (c.loop-promise_type.site, c.loop-promise_type.out)) c.args.state.now c.loop-promise_type.state c.args.activation.now c.loop-promise_type.activation (g.P.Patterns.shown c.args.pats.now) (g.P.Patterns.shown c.loop-promise_type.pats) (Ok tt))
-    (take_all c.loop-promise_type.promise_type-index agent_types c.loop-promise_type-test.false) c.loop-promise_type.invariant.0
+    subst (λ (x : List PromiseType). Ends g.T.Teller.teller g.T.Teller.agrees g.T.Teller.behind g.T.Teller.faults policy (types_level c.args.scene.now.depth ps x) (c.args.teller.now, (c.args.site.now, c.args.out.now)) (c.loop-kind.teller, (c.loop-kind.site, c.loop-kind.out)) c.args.state.now c.loop-kind.state c.args.activation.now c.loop-kind.activation (g.P.Patterns.shown c.args.pats.now) (g.P.Patterns.shown c.loop-kind.pats) (Ok tt))
+    (take_all c.loop-kind.kind-index agent_types c.loop-kind-test.false) c.loop-kind.invariant.0
 
 pub pass-returns-clause-path : goal.pass-returns-clause-path
 pass-returns-clause-path g t c =
-    c.loop-promise_type.invariant.1.0
+    c.loop-kind.invariant.1.0
 
 pub reach_type-loop-promise-init : goal.reach_type-loop-promise-init
 reach_type-loop-promise-init g t c =
@@ -239,7 +239,7 @@ reach_instances-returns-clause-ends g t c =
     let p = seen_numbered c.args.promise.now in
     acting_ends g.T.Teller.teller g.T.Teller.agrees g.T.Teller.behind g.T.Teller.faults policy c.args.scene.now.depth p c.args.guard (c.args.teller.now, (c.args.site.now, c.args.out.now)) c.args.state.now c.count_instances.new.state c.args.activation.now c.count_instances.new.activation (g.met.T.Teller.steady (c.args.teller.now, (c.args.site.now, c.args.out.now))) (c.visit_each.new.teller, (c.visit_each.new.site, c.visit_each.new.out)) c.visit_each.new.state c.visit_each.new.activation
     c.in_ok-instances.instances (g.P.Patterns.shown c.args.pats.now) (g.P.Patterns.shown c.count_instances.new.pats) (g.P.Patterns.shown c.visit_each.new.pats) c.visit_each.result c.in_ok-instances.ensures.counted c.in_ok-instances.ensures.patterns
-    (subst (λ (x : List Instance). Ends g.T.Teller.teller g.T.Teller.agrees g.T.Teller.behind g.T.Teller.faults policy (instances_level c.args.scene.now.depth c.args.guard x) (c.args.teller.now, (c.args.site.now, c.args.out.now)) (c.visit_each.new.teller, (c.visit_each.new.site, c.visit_each.new.out)) c.count_instances.new.state c.visit_each.new.state c.count_instances.new.activation c.visit_each.new.activation (g.P.Patterns.shown c.count_instances.new.pats) (g.P.Patterns.shown c.visit_each.new.pats) c.visit_each.result) c.as_slice.ensures c.visit_each.ensures.ends)
+    (subst (λ (x : List Instance). Ends g.T.Teller.teller g.T.Teller.agrees g.T.Teller.behind g.T.Teller.faults policy (instances_level c.args.scene.now.depth c.args.guard x) (c.args.teller.now, (c.args.site.now, c.args.out.now)) (c.visit_each.new.teller, (c.visit_each.new.site, c.visit_each.new.out)) c.count_instances.new.state c.visit_each.new.state c.count_instances.new.activation c.visit_each.new.activation (g.P.Patterns.shown c.count_instances.new.pats) (g.P.Patterns.shown c.visit_each.new.pats) c.visit_each.result) c.as_slice-listed.ensures c.visit_each.ensures.ends)
 
 pub reach_instances-returns-clause-path : goal.reach_instances-returns-clause-path
 reach_instances-returns-clause-path g t c =
@@ -333,7 +333,7 @@ visit-returns-in_err-visit-clause-path g t c =
 pub visit-returns-then-branch-clause-ends : goal.visit-returns-then-branch-clause-ends
 visit-returns-then-branch-clause-ends g t c =
     let policy = tree_of c.args.scene.now.checked.now in
-    skipped g.T.Teller.teller g.T.Teller.agrees g.T.Teller.behind g.T.Teller.faults policy c.args.scene.now.depth c.args.guard c.args.instance.now c.args.state.now c.args.activation.now c.done-mark.result c.visit_status-status.result c.done-mark.ensures c.visit_status-status.ensures (c.args.teller.now, (c.args.site.now, c.args.out.now)) (statuses_differ c.visit_status-status.result No c.if-eq.ensures) c.requires.at c.list.new.self (λ s h waits. c.in_ok-list.ensures s h (c.as_ref.ensures.value ∙ waits)) (c.visit.new.self, (c.visit.new.site, c.visit.new.out)) (g.P.Patterns.shown c.args.pats.now) (subst (λ (b : Bool). HasVisited g.T.Teller.teller g.T.Teller.agrees g.T.Teller.behind (c.args.teller.now, (c.args.site.now, c.args.out.now)) (c.visit.new.self, (c.visit.new.site, c.visit.new.out)) c.args.instance.now c.visit_status-status.result b) c.if-branch.true c.in_ok-visit.ensures.visited) c.in_ok-visit.ensures.later
+    skipped g.T.Teller.teller g.T.Teller.agrees g.T.Teller.behind g.T.Teller.faults policy c.args.scene.now.depth c.args.guard c.args.instance.now c.args.state.now c.args.activation.now c.done-mark.result c.visit_status-status.result c.done-mark.ensures c.visit_status-status.ensures (c.args.teller.now, (c.args.site.now, c.args.out.now)) (statuses_differ c.visit_status-status.result No c.if-eq.ensures) c.requires.at c.list.new.self (λ s h waits. c.in_ok-list.ensures s h (c.as_ref-waits.ensures.value ∙ waits)) (c.visit.new.self, (c.visit.new.site, c.visit.new.out)) (g.P.Patterns.shown c.args.pats.now) (subst (λ (b : Bool). HasVisited g.T.Teller.teller g.T.Teller.agrees g.T.Teller.behind (c.args.teller.now, (c.args.site.now, c.args.out.now)) (c.visit.new.self, (c.visit.new.site, c.visit.new.out)) c.args.instance.now c.visit_status-status.result b) c.if-branch.true c.in_ok-visit.ensures.visited) c.in_ok-visit.ensures.later
 
 pub visit-returns-then-branch-clause-path : goal.visit-returns-then-branch-clause-path
 visit-returns-then-branch-clause-path g t c =
@@ -344,7 +344,7 @@ visit-returns-in_err-called-clause-ends g t c =
     let policy = tree_of c.args.scene.now.checked.now in
     on_stop (λ result. Ends g.T.Teller.teller g.T.Teller.agrees g.T.Teller.behind g.T.Teller.faults policy (visit_level c.args.scene.now.depth c.args.guard c.args.instance.now) (c.args.teller.now, (c.args.site.now, c.args.out.now)) (c.call.new.teller, (c.call.new.site, c.call.new.out)) c.args.state.now c.call.new.state c.args.activation.now c.args.activation.now (g.P.Patterns.shown c.args.pats.now) (g.P.Patterns.shown c.call.new.pats) result)
     c.from_residual-in_err-called.result c.in_err-called.field-0.0 c.from_residual-in_err-called.ensures.1
-    (call_stops g.T.Teller.teller g.T.Teller.agrees g.T.Teller.behind g.T.Teller.faults policy c.args.scene.now.depth c.args.guard c.args.instance.now c.args.state.now c.args.activation.now c.done-mark.result c.visit_status-status.result c.done-mark.ensures c.visit_status-status.ensures (c.args.teller.now, (c.args.site.now, c.args.out.now)) (statuses_differ c.visit_status-status.result No c.if-eq.ensures) c.requires.at c.list.new.self (λ s h waits. c.in_ok-list.ensures s h (c.as_ref.ensures.value ∙ waits)) (c.visit.new.self, (c.visit.new.site, c.visit.new.out)) (subst (λ (b : Bool). HasVisited g.T.Teller.teller g.T.Teller.agrees g.T.Teller.behind (c.args.teller.now, (c.args.site.now, c.args.out.now)) (c.visit.new.self, (c.visit.new.site, c.visit.new.out)) c.args.instance.now c.visit_status-status.result b) c.if-branch.false c.in_ok-visit.ensures.visited) c.in_ok-visit.ensures.later (c.call.new.teller, (c.call.new.site, c.call.new.out)) c.call.new.state (g.P.Patterns.shown c.args.pats.now) (g.P.Patterns.shown c.call.new.pats) c.in_err-called.field-0.0 c.in_err-called.ensures)
+    (call_stops g.T.Teller.teller g.T.Teller.agrees g.T.Teller.behind g.T.Teller.faults policy c.args.scene.now.depth c.args.guard c.args.instance.now c.args.state.now c.args.activation.now c.done-mark.result c.visit_status-status.result c.done-mark.ensures c.visit_status-status.ensures (c.args.teller.now, (c.args.site.now, c.args.out.now)) (statuses_differ c.visit_status-status.result No c.if-eq.ensures) c.requires.at c.list.new.self (λ s h waits. c.in_ok-list.ensures s h (c.as_ref-waits.ensures.value ∙ waits)) (c.visit.new.self, (c.visit.new.site, c.visit.new.out)) (subst (λ (b : Bool). HasVisited g.T.Teller.teller g.T.Teller.agrees g.T.Teller.behind (c.args.teller.now, (c.args.site.now, c.args.out.now)) (c.visit.new.self, (c.visit.new.site, c.visit.new.out)) c.args.instance.now c.visit_status-status.result b) c.if-branch.false c.in_ok-visit.ensures.visited) c.in_ok-visit.ensures.later (c.call.new.teller, (c.call.new.site, c.call.new.out)) c.call.new.state (g.P.Patterns.shown c.args.pats.now) (g.P.Patterns.shown c.call.new.pats) c.in_err-called.field-0.0 c.in_err-called.ensures)
 
 pub visit-returns-in_err-called-clause-path : goal.visit-returns-in_err-called-clause-path
 visit-returns-in_err-called-clause-path g t c =
@@ -355,7 +355,7 @@ visit-returns-in_err-ending-clause-ends g t c =
     let policy = tree_of c.args.scene.now.checked.now in
     on_stop (λ result. Ends g.T.Teller.teller g.T.Teller.agrees g.T.Teller.behind g.T.Teller.faults policy (visit_level c.args.scene.now.depth c.args.guard c.args.instance.now) (c.args.teller.now, (c.args.site.now, c.args.out.now)) (c.tell.new.self, (c.tell.new.site, c.tell.new.out)) c.args.state.now c.call.new.state c.args.activation.now c.args.activation.now (g.P.Patterns.shown c.args.pats.now) (g.P.Patterns.shown c.call.new.pats) result)
     c.from_residual-in_err-ending.result c.in_err-ending.field-0.0 c.from_residual-in_err-ending.ensures.1
-    (tell_stops g.T.Teller.teller g.T.Teller.agrees g.T.Teller.behind g.T.Teller.faults policy c.args.scene.now.depth c.args.guard c.args.instance.now c.args.state.now c.args.activation.now c.done-mark.result c.visit_status-status.result c.done-mark.ensures c.visit_status-status.ensures (c.args.teller.now, (c.args.site.now, c.args.out.now)) (statuses_differ c.visit_status-status.result No c.if-eq.ensures) c.requires.at c.list.new.self (λ s h waits. c.in_ok-list.ensures s h (c.as_ref.ensures.value ∙ waits)) (c.visit.new.self, (c.visit.new.site, c.visit.new.out)) (subst (λ (b : Bool). HasVisited g.T.Teller.teller g.T.Teller.agrees g.T.Teller.behind (c.args.teller.now, (c.args.site.now, c.args.out.now)) (c.visit.new.self, (c.visit.new.site, c.visit.new.out)) c.args.instance.now c.visit_status-status.result b) c.if-branch.false c.in_ok-visit.ensures.visited) c.in_ok-visit.ensures.later (c.call.new.teller, (c.call.new.site, c.call.new.out)) c.call.new.state (g.P.Patterns.shown c.args.pats.now) (g.P.Patterns.shown c.call.new.pats) c.in_ok-called.called c.in_ok-called.ensures (c.tell.new.self, (c.tell.new.site, c.tell.new.out)) c.args.activation.now c.in_err-ending.field-0.0 c.in_err-ending.ensures.stopped c.in_err-ending.ensures.own)
+    (tell_stops g.T.Teller.teller g.T.Teller.agrees g.T.Teller.behind g.T.Teller.faults policy c.args.scene.now.depth c.args.guard c.args.instance.now c.args.state.now c.args.activation.now c.done-mark.result c.visit_status-status.result c.done-mark.ensures c.visit_status-status.ensures (c.args.teller.now, (c.args.site.now, c.args.out.now)) (statuses_differ c.visit_status-status.result No c.if-eq.ensures) c.requires.at c.list.new.self (λ s h waits. c.in_ok-list.ensures s h (c.as_ref-waits.ensures.value ∙ waits)) (c.visit.new.self, (c.visit.new.site, c.visit.new.out)) (subst (λ (b : Bool). HasVisited g.T.Teller.teller g.T.Teller.agrees g.T.Teller.behind (c.args.teller.now, (c.args.site.now, c.args.out.now)) (c.visit.new.self, (c.visit.new.site, c.visit.new.out)) c.args.instance.now c.visit_status-status.result b) c.if-branch.false c.in_ok-visit.ensures.visited) c.in_ok-visit.ensures.later (c.call.new.teller, (c.call.new.site, c.call.new.out)) c.call.new.state (g.P.Patterns.shown c.args.pats.now) (g.P.Patterns.shown c.call.new.pats) c.in_ok-called.called c.in_ok-called.ensures (c.tell.new.self, (c.tell.new.site, c.tell.new.out)) c.args.activation.now c.in_err-ending.field-0.0 c.in_err-ending.ensures.stopped c.in_err-ending.ensures.own)
 
 pub visit-returns-in_err-ending-clause-path : goal.visit-returns-in_err-ending-clause-path
 visit-returns-in_err-ending-clause-path g t c =
@@ -366,7 +366,7 @@ visit-returns-in_err-raise_ending-clause-ends g t c =
     let policy = tree_of c.args.scene.now.checked.now in
     on_stop (λ result. Ends g.T.Teller.teller g.T.Teller.agrees g.T.Teller.behind g.T.Teller.faults policy (visit_level c.args.scene.now.depth c.args.guard c.args.instance.now) (c.args.teller.now, (c.args.site.now, c.args.out.now)) (c.tell.new.self, (c.tell.new.site, c.tell.new.out)) c.args.state.now c.raise_ending.new.state c.args.activation.now c.note.new.self (g.P.Patterns.shown c.args.pats.now) (g.P.Patterns.shown c.call.new.pats) result)
     c.from_residual-in_err-raise_ending.result Memory c.from_residual-in_err-raise_ending.ensures.1
-    (raise_stops g.T.Teller.teller g.T.Teller.agrees g.T.Teller.behind g.T.Teller.faults policy c.args.scene.now.depth c.args.guard c.args.instance.now c.args.state.now c.args.activation.now c.done-mark.result c.visit_status-status.result c.done-mark.ensures c.visit_status-status.ensures (c.args.teller.now, (c.args.site.now, c.args.out.now)) (statuses_differ c.visit_status-status.result No c.if-eq.ensures) c.requires.at c.list.new.self (λ s h waits. c.in_ok-list.ensures s h (c.as_ref.ensures.value ∙ waits)) (c.visit.new.self, (c.visit.new.site, c.visit.new.out)) (subst (λ (b : Bool). HasVisited g.T.Teller.teller g.T.Teller.agrees g.T.Teller.behind (c.args.teller.now, (c.args.site.now, c.args.out.now)) (c.visit.new.self, (c.visit.new.site, c.visit.new.out)) c.args.instance.now c.visit_status-status.result b) c.if-branch.false c.in_ok-visit.ensures.visited) c.in_ok-visit.ensures.later (c.call.new.teller, (c.call.new.site, c.call.new.out)) c.call.new.state (g.P.Patterns.shown c.args.pats.now) (g.P.Patterns.shown c.call.new.pats) c.in_ok-called.called c.in_ok-called.ensures (c.tell.new.self, (c.tell.new.site, c.tell.new.out)) c.in_ok-ending.ending c.in_ok-ending.ensures.told c.in_ok-ending.ensures.later c.raise_ending.new.state c.note.new.self)
+    (raise_stops g.T.Teller.teller g.T.Teller.agrees g.T.Teller.behind g.T.Teller.faults policy c.args.scene.now.depth c.args.guard c.args.instance.now c.args.state.now c.args.activation.now c.done-mark.result c.visit_status-status.result c.done-mark.ensures c.visit_status-status.ensures (c.args.teller.now, (c.args.site.now, c.args.out.now)) (statuses_differ c.visit_status-status.result No c.if-eq.ensures) c.requires.at c.list.new.self (λ s h waits. c.in_ok-list.ensures s h (c.as_ref-waits.ensures.value ∙ waits)) (c.visit.new.self, (c.visit.new.site, c.visit.new.out)) (subst (λ (b : Bool). HasVisited g.T.Teller.teller g.T.Teller.agrees g.T.Teller.behind (c.args.teller.now, (c.args.site.now, c.args.out.now)) (c.visit.new.self, (c.visit.new.site, c.visit.new.out)) c.args.instance.now c.visit_status-status.result b) c.if-branch.false c.in_ok-visit.ensures.visited) c.in_ok-visit.ensures.later (c.call.new.teller, (c.call.new.site, c.call.new.out)) c.call.new.state (g.P.Patterns.shown c.args.pats.now) (g.P.Patterns.shown c.call.new.pats) c.in_ok-called.called c.in_ok-called.ensures (c.tell.new.self, (c.tell.new.site, c.tell.new.out)) c.in_ok-ending.ending c.in_ok-ending.ensures.told c.in_ok-ending.ensures.later c.raise_ending.new.state c.note.new.self)
 
 pub visit-returns-in_err-raise_ending-clause-path : goal.visit-returns-in_err-raise_ending-clause-path
 visit-returns-in_err-raise_ending-clause-path g t c =
@@ -375,7 +375,7 @@ visit-returns-in_err-raise_ending-clause-path g t c =
 pub visit-returns-clause-ends : goal.visit-returns-clause-ends
 visit-returns-clause-ends g t c =
     let policy = tree_of c.args.scene.now.checked.now in
-    visit_done g.T.Teller.teller g.T.Teller.agrees g.T.Teller.behind g.T.Teller.faults policy c.args.scene.now.depth c.args.guard c.args.instance.now c.args.state.now c.args.activation.now c.done-mark.result c.visit_status-status.result c.done-mark.ensures c.visit_status-status.ensures (c.args.teller.now, (c.args.site.now, c.args.out.now)) (statuses_differ c.visit_status-status.result No c.if-eq.ensures) c.requires.at c.list.new.self (λ s h waits. c.in_ok-list.ensures s h (c.as_ref.ensures.value ∙ waits)) (c.visit.new.self, (c.visit.new.site, c.visit.new.out)) (subst (λ (b : Bool). HasVisited g.T.Teller.teller g.T.Teller.agrees g.T.Teller.behind (c.args.teller.now, (c.args.site.now, c.args.out.now)) (c.visit.new.self, (c.visit.new.site, c.visit.new.out)) c.args.instance.now c.visit_status-status.result b) c.if-branch.false c.in_ok-visit.ensures.visited) c.in_ok-visit.ensures.later (c.call.new.teller, (c.call.new.site, c.call.new.out)) c.call.new.state (g.P.Patterns.shown c.args.pats.now) (g.P.Patterns.shown c.call.new.pats) c.in_ok-called.called c.in_ok-called.ensures (c.tell.new.self, (c.tell.new.site, c.tell.new.out)) c.in_ok-ending.ending c.in_ok-ending.ensures.told c.in_ok-ending.ensures.later (g.met.T.Teller.steady (c.tell.new.self, (c.tell.new.site, c.tell.new.out))) c.raise_ending.new.state c.note.new.self c.note.ensures.same c.note.ensures.keeps c.in_ok-raise_ending.ensures
+    visit_done g.T.Teller.teller g.T.Teller.agrees g.T.Teller.behind g.T.Teller.faults policy c.args.scene.now.depth c.args.guard c.args.instance.now c.args.state.now c.args.activation.now c.done-mark.result c.visit_status-status.result c.done-mark.ensures c.visit_status-status.ensures (c.args.teller.now, (c.args.site.now, c.args.out.now)) (statuses_differ c.visit_status-status.result No c.if-eq.ensures) c.requires.at c.list.new.self (λ s h waits. c.in_ok-list.ensures s h (c.as_ref-waits.ensures.value ∙ waits)) (c.visit.new.self, (c.visit.new.site, c.visit.new.out)) (subst (λ (b : Bool). HasVisited g.T.Teller.teller g.T.Teller.agrees g.T.Teller.behind (c.args.teller.now, (c.args.site.now, c.args.out.now)) (c.visit.new.self, (c.visit.new.site, c.visit.new.out)) c.args.instance.now c.visit_status-status.result b) c.if-branch.false c.in_ok-visit.ensures.visited) c.in_ok-visit.ensures.later (c.call.new.teller, (c.call.new.site, c.call.new.out)) c.call.new.state (g.P.Patterns.shown c.args.pats.now) (g.P.Patterns.shown c.call.new.pats) c.in_ok-called.called c.in_ok-called.ensures (c.tell.new.self, (c.tell.new.site, c.tell.new.out)) c.in_ok-ending.ending c.in_ok-ending.ensures.told c.in_ok-ending.ensures.later (g.met.T.Teller.steady (c.tell.new.self, (c.tell.new.site, c.tell.new.out))) c.raise_ending.new.state c.note.new.self c.note.ensures.same c.note.ensures.keeps c.in_ok-raise_ending.ensures
 
 pub visit-returns-clause-path : goal.visit-returns-clause-path
 visit-returns-clause-path g t c =
@@ -518,7 +518,7 @@ reach-reach_instances-requires g t c κs within =
 
 pub reach_instances-visit_each-requires : goal.reach_instances-visit_each-requires
 reach_instances-visit_each-requires g t c κs within =
-    (search rules, (within.0, (within.1.0, (within.1.1.0, (within.1.1.1, (c.requires.names, subst (λ (x : List ℕ). All (IsAt x) c.as_slice.result.now) (sym c.in_ok-instances.ensures.path) (subst (λ (x : List Instance). All (IsAt c.args.activation.now.path) x) (sym c.as_slice.ensures) c.in_ok-instances.ensures.at)))))))
+    (search rules, (within.0, (within.1.0, (within.1.1.0, (within.1.1.1, (c.requires.names, subst (λ (x : List ℕ). All (IsAt x) c.as_slice-listed.result.now) (sym c.in_ok-instances.ensures.path) (subst (λ (x : List Instance). All (IsAt c.args.activation.now.path) x) (sym c.as_slice-listed.ensures) c.in_ok-instances.ensures.at)))))))
 
 pub reach_type-reach-requires : goal.reach_type-reach-requires
 reach_type-reach-requires g t c κs within =
@@ -549,8 +549,8 @@ pub reach_instances-count_instances-requires-clause-id : goal.reach_instances-co
 reach_instances-count_instances-requires-clause-id g t c =
     c.requires.id
 
-pub pass-loop-promise_type-smaller : goal.pass-loop-promise_type-smaller
-pass-loop-promise_type-smaller g t c =
+pub pass-loop-kind-smaller : goal.pass-loop-kind-smaller
+pass-loop-kind-smaller g t c =
     search rules
 
 pub reach_type-loop-promise-smaller : goal.reach_type-loop-promise-smaller

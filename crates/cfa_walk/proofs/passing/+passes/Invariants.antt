@@ -52,11 +52,11 @@ invariant-reach_type-loop-promise g l =
     (g.P.Patterns.shown l.initial.pats) (g.P.Patterns.shown l.pats) (Ok tt)
     × (l.activation.path ≡ l.initial.activation.path)
 
-abbrev pub invariant-pass-loop-promise_type : goal.invariant-pass-loop-promise_type
-invariant-pass-loop-promise_type g l =
+abbrev pub invariant-pass-loop-kind : goal.invariant-pass-loop-kind
+invariant-pass-loop-kind g l =
     Ends g.T.Teller.teller g.T.Teller.agrees g.T.Teller.behind g.T.Teller.faults (tree_of l.scene.checked.now)
-    (types_level l.scene.depth (map seen_numbered l.promises) (take l.promise_type-index l.promise_type-items))
+    (types_level l.scene.depth (map seen_numbered l.promises) (take l.kind-index l.kind-items))
     (l.initial.teller, (l.initial.site, l.initial.out)) (l.teller, (l.site, l.out))
     l.initial.state l.state l.initial.activation l.activation
     (g.P.Patterns.shown l.initial.pats) (g.P.Patterns.shown l.pats) (Ok tt)
-    × ((l.activation.path ≡ l.initial.activation.path) × (l.promise_type-items ≡ agent_types))
+    × ((l.activation.path ≡ l.initial.activation.path) × (l.kind-items ≡ agent_types))
