@@ -19,13 +19,16 @@ use cfa_served::{
 use cfa_tree::{Block, Body, Bundle, Policy, Promise};
 use std::alloc::Global;
 
-/// A policy that is valid, with its bundles and bodies by their names. Only `check` makes one.
+/// A policy that is valid, with its bundles and bodies by their names, and the minutes that it gives for all promises, which
+/// each of them asks for. Only `check` makes one.
 #[derive(Drop)]
 pub struct Checked {
     policy: Policy,
     index: Index,
+    minutes: u64,
     ghost valid: { ∥ Valid (plain_policy policy) × IsSourced (plain_policy policy) ∥₁ },
     ghost indexed: { IsIndex index (plain_policy policy) } by { Prim.hlevel props },
+    ghost timed: { minutes ≡ minutes_of (plain_policy policy) },
 }
 
 impl Checked {
@@ -37,7 +40,13 @@ impl Checked {
         requires indexed { IsIndex index (plain_policy policy) }
         ensures { tree_of result ≡ plain_policy policy }
     {
-        Checked { policy, index }
+        let control = index.body(policy.blocks.as_slice(), BodyType::Agent, "control");
+        let minutes = agent_minutes(control);
+        Checked {
+            policy,
+            index,
+            minutes,
+        }
     }
 
     /// The policy, without taking memory.
@@ -107,10 +116,11 @@ impl Checked {
     {
         common_bundles(alloc, self.policy.blocks.as_slice())
     }
+
     /// The minutes that `body agent control` gives for all promises, 1 where they are missing; without taking memory.
     pub fn minutes(&self) -> u64
         ensures { result ≡ minutes_of (tree_of self.now) }
     {
-        agent_minutes(self.body(BodyType::Agent, "control"))
+        self.minutes
     }
 }
