@@ -44,7 +44,7 @@ fn marks_instances(rt: HostRuntime) -> Result<(), Fail> {
     let mut environment = environment_of(rt.alloc(), &[])?;
     for ((path, text, to), marks) in rows {
         let path = Name::from_text(rt.alloc(), path)?;
-        environment.mark(path, Name::from_text(rt.alloc(), text)?, to)?;
+        environment.mark(&path, Name::from_text(rt.alloc(), text)?, to)?;
         assert!(rt; marks_of(rt.alloc(), &environment, call)? == marks);
     }
     Ok(())

@@ -124,13 +124,14 @@ impl Environment {
         self.marks.get(path, text)
     }
 
-    /// Gives an instance the greater of its mark and `to`. After want of memory the environment is as it was.
-    pub fn mark(&mut self, path: Name, text: Name, to: Status) -> Result<(), NoMemory>
-        ensures ok { OnOk result (self.new ≡ with_mark self.old path text to) }
+    /// Gives an instance the greater of its mark and `to`. The path is copied where none of its instances has a mark yet.
+    /// After want of memory the environment is as it was.
+    pub fn mark(&mut self, path: &Name, text: Name, to: Status) -> Result<(), NoMemory>
+        ensures ok { OnOk result (self.new ≡ with_mark self.old path.now text to) }
         ensures mark { OnOk result
-            (mark_of self.new path text ≡ greater (mark_of self.old path text) to) }
+            (mark_of self.new path.now text ≡ greater (mark_of self.old path.now text) to) }
         ensures others { OnOk result ((other_path other_text : List ℕ) →
-            ¬ ((other_path ≡ path) × (other_text ≡ text)) →
+            ¬ ((other_path ≡ path.now) × (other_text ≡ text)) →
             mark_of self.new other_path other_text ≡ mark_of self.old other_path other_text) }
         ensures classes { OnOk result ((class : List ℕ) →
             status_of self.new class ≡ status_of self.old class) }

@@ -49,23 +49,24 @@ impl Marks {
         }
     }
 
-    // Gives a mark the greater of what it was and `to`.
+    // Gives a mark the greater of what it was and `to`. Copies the path where it has no mark yet.
     pub fn raise(
         &mut self,
         alloc: Global,
-        path: Name,
+        path: &Name,
         text: Name,
         to: Status,
     ) -> Result<(), NoMemory>
-        ensures ok { OnOk result (self.new ≡ marked self.old path text to) }
+        ensures ok { OnOk result (self.new ≡ marked self.old path.now text to) }
         ensures err { OnErr result (self.new ≡ self.old) }
     {
         match self.rows.get_mut(path.as_str()) {
             Some(texts) => texts.raise(text, to),
             None => {
+                let key = path.copy(alloc)?;
                 let mut texts = TextMarks::new(alloc);
                 texts.raise(text, to)?;
-                self.rows.insert(path.into_string(), texts)?;
+                self.rows.insert(key.into_string(), texts)?;
                 Ok(())
             }
         }

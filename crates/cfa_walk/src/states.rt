@@ -222,9 +222,8 @@ impl State {
         let is_first = is_unvisited(mark);
         keep_wait(alloc, &mut self.calls, instance, is_first, waits)?;
         log_visit(alloc, &mut self.log, instance, status, is_first, waits)?;
-        let path = instance.path.copy(alloc)?;
         let text = instance.text.copy(alloc)?;
-        self.environment.mark(path, text, status)?;
+        self.environment.mark(&instance.path, text, status)?;
         Ok(())
     }
 

@@ -9,7 +9,7 @@ use Rattle.cfa_outcomes.proofs.marking.Marks.raise.Goals as goal
 pub returns-in-Some-clause-ok : goal.returns-in-Some-clause-ok
 returns-in-Some-clause-ok c =
     on_ok_weaker c.raise.result (λ raises.
-    marked-written c.self.inside.rows (c.get_mut.follows.lender c.raise.new.self) c.args.self.now c.as_str.result.now c.args.path c.args.text c.args.to c.in-Some.texts.now c.raise.new.self
+    marked-written c.self.inside.rows (c.get_mut.follows.lender c.raise.new.self) c.args.self.now c.as_str.result.now c.args.path.now c.args.text c.args.to c.in-Some.texts.now c.raise.new.self
     c.self.view_is c.as_str.ensures c.in-Some.ensures.value (c.get_mut.follows.holds c.raise.new.self) raises)
     c.raise.ensures.ok
 
@@ -22,7 +22,7 @@ returns-in-Some-clause-err c =
 
 pub returns-in_ok-insert-in-None-clause-ok : goal.returns-in_ok-insert-in-None-clause-ok
 returns-in_ok-insert-in-None-clause-ok c =
-    marked-added c.get_mut.follows.lender-at-none c.insert.new.self c.args.self.now c.into_string.result c.as_str.result.now c.args.path c.args.text c.args.to c.raise-in-None.new.self
-    (ap (λ m. text_map string_bytes m.entries) c.get_mut.follows.holds-at-none ∙ c.self.view_is) c.as_str.ensures c.into_string.ensures
+    marked-added c.get_mut.follows.lender-at-none c.insert.new.self c.args.self.now c.into_string.result c.as_str.result.now c.args.path.now c.args.text c.args.to c.raise-in-None.new.self
+    (ap (λ m. text_map string_bytes m.entries) c.get_mut.follows.holds-at-none ∙ c.self.view_is) c.as_str.ensures (c.into_string.ensures ∙ c.in_ok-key-in-None.ensures)
     (rw c.get_mut.follows.holds-at-none c.in-None.ensures.value) c.in_ok-insert-in-None.ensures.updates
     (c.in_ok-raise-in-None.ensures.ok ∙ ap (λ r. raised r c.args.text c.args.to) c.new-texts.ensures)

@@ -1,4 +1,4 @@
-use Rattle.std.proofs.Common.{◌≡◌, ◌∙◌, ◌∷◌, Option, ap, sym, subst}
+use Rattle.std.proofs.Common.{◌≡◌, ◌∙◌, ◌∷◌, Option, ap, refl, sym, subst}
 use Rattle.std.specs.Prelude.{option_copied}
 use Rattle.cfa_walk.specs.History.{Listed}
 use Rattle.cfa_walk.specs.Logs.{Rows}
@@ -17,7 +17,7 @@ returns c =
     let first : c.is_unvisited-is_first.result ≡ is_first h instance =
     c.is_unvisited-is_first.ensures ∙ ap is_unvisited (c.requires ∙ keeps.1.1.0 instance.path instance.text) in
     keeps_listed s st c.mark.new.self h keeps instance c.args.status c.keep_wait.new.calls c.log_visit.new.log
-    c.in_ok-path.path c.in_ok-text.text c.in_ok-path.ensures c.in_ok-text.ensures marked.mark marked.others marked.classes marked.sources
+    instance.path c.in_ok-text.text refl c.in_ok-text.ensures marked.mark marked.others marked.classes marked.sources
     (waits_listed s h instance c.args.status st.calls c.keep_wait.new.calls c.is_unvisited-is_first.result (option_copied c.args.waits) first waits keeps.1.1.1.1.1.0 c.in_ok-keep_wait.ensures)
     (subst (λ (x : Option Rows). KeepsLog s x (Listed instance c.args.status ∷ h)) (sym c.in_ok-log_visit.ensures)
     (log_listed s h instance c.args.status st.log c.is_unvisited-is_first.result (option_copied c.args.waits) first waits keeps.1.1.1.1.1.1))
