@@ -1,11 +1,9 @@
 -- Worked rows of runs: what they write, put and count.
-use Rattle.std.proofs.Common.{◌≡◌, ℕ, List, [], ◌∷◌, Some, None, codes, refl, ap}
-use Rattle.std.specs.Prelude.{map}
+use Rattle.std.proofs.Common.{◌≡◌, ℕ, List, [], ◌∷◌, codes, refl, ap}
 use Rattle.std.specs.Fmt.{digits}
-use Rattle.cfa_base.specs.declared.places.Place.{Place}
 use Rattle.cfa_base.specs.Escapes.{escaped, escape_of}
 use Rattle.cfa_tree.specs.ClassTexts.{expression_of}
-use Rattle.cfa_tree.specs.Tree.{ExprTree, ValueTree, text, list, value_trees, AttributeTree, PromiseTree, SectionTree, NamedTree, BlockTree, bundle, body, PolicyTree}
+use Rattle.cfa_tree.specs.Tree.{PolicyTree}
 use Rattle.cfa_kinds.specs.Kinds.{bundle_type, promise_type, files_attribute, outcome_attribute, methods_attribute, services_attribute, vars_attribute, classes_attribute, delete_attribute, copy_from_attribute, perms_attribute, classes_body_attribute, action_attribute}
 use Rattle.cfa_kinds.specs.Forms.{is_boolean}
 use Rattle.cfa_kinds.specs.Functions.{function_named}
@@ -24,6 +22,7 @@ use Rattle.cfa_resolve.specs.FileActs.{file_acts, service_act, outcome_classes}
 use Rattle.cfa_resolve.specs.KeyTexts.{mode_text, key_text}
 use Rattle.cfa_resolve.specs.Instances.{made_instance}
 use Rattle.cfa_resolve.specs.Resolution.{resolution, made}
+use Rattle.cfa_resolve.specs.lemmas.Written.{promise, section, a_bundle, created}
 use Rattle.cfa_walk.specs.Views.{Setting, shared_names, shared_in}
 use Rattle.cfa_defines.specs.VarsPromises.{setting_choices, data_set}
 use Rattle.cfa_defines.specs.ClassPromises.{raises_of}
@@ -44,42 +43,6 @@ use Rattle.cfa_agent.specs.Marks.{closed_in, marks_of}
 use Rattle.cfa_agent.specs.Runs.{Start, run_of, log_of, lines_of, tally_of}
 
 -- ---- policies
-
-abbrev here : Place
-here = record { file = 0; line = 4; col = 5 }
-
-abbrev named : List ℕ → NamedTree
-named name = record { name = name; place = here }
-
-abbrev quoted : List ℕ → ValueTree
-quoted content = text content here
-
-abbrev says : List ℕ → ValueTree → AttributeTree
-says name value = record { name = name; value = value; place = here }
-
-abbrev items : List (List ℕ) → ValueTree
-items contents = list (value_trees (map quoted contents)) here
-
--- a promise under a guard
-abbrev under : ExprTree → List ℕ → List AttributeTree → PromiseTree
-under guard promiser attributes =
-    record { guard = Some guard; promiser = promiser; promisee = None; attributes = attributes; place = here }
-
-abbrev promise : List ℕ → List AttributeTree → PromiseTree
-promise promiser attributes =
-    record { guard = None; promiser = promiser; promisee = None; attributes = attributes; place = here }
-
-abbrev section : List ℕ → List PromiseTree → SectionTree
-section kind promises = record { kind = kind; promises = promises; place = here }
-
-abbrev a_bundle : (kind name : List ℕ) → List SectionTree → BlockTree
-a_bundle kind name sections = bundle (named kind) (named name) [] sections here
-
-abbrev a_body : (kind name : List ℕ) → List AttributeTree → BlockTree
-a_body kind name attributes = body (named kind) (named name) (named (codes "x") ∷ []) attributes here
-
-abbrev created : AttributeTree
-created = says (codes "create") (quoted (codes "true"))
 
 abbrev empty : World
 empty = record { nodes = finite.empty; services = finite.empty; locks = finite.empty; journal = [] }

@@ -1,7 +1,6 @@
 -- Worked rows of what promises resolve to.
 use Rattle.std.proofs.Common.{◌≡◌, ℕ, List, [], ◌∷◌, true, Some, None, codes, refl}
 use Rattle.std.specs.Prelude.{map}
-use Rattle.cfa_base.specs.declared.places.Place.{Place}
 use Rattle.cfa_base.specs.declared.places.PromiseId.{PromiseId}
 use Rattle.cfa_tree.specs.Tree.{ValueTree, text, word, list_reference, list, call, value_trees, AttributeTree, NamedTree, BlockTree, body, PolicyTree}
 use Rattle.cfa_classes.specs.declared.levels.Status.TheVariants.{No}
@@ -16,6 +15,7 @@ use Rattle.cfa_resolve.specs.declared.instances.Work.{Work}
 use Rattle.cfa_resolve.specs.declared.instances.Work.TheVariants.{Acts, Report}
 use Rattle.cfa_resolve.specs.Instances.{Reached}
 use Rattle.cfa_resolve.specs.Resolution.{resolution}
+use Rattle.cfa_resolve.specs.lemmas.Written.{here, named, quoted, says}
 use Rattle.std.specs.Fmt.{digits}
 use Rattle.cfa_base.specs.Escapes.{escaped, escape_of}
 use Rattle.cfa_kinds.specs.Kinds.{files_attribute, outcome_attribute, methods_attribute, services_attribute, delete_attribute, copy_from_attribute, perms_attribute, classes_body_attribute, action_attribute}
@@ -36,18 +36,6 @@ use Rattle.cfa_resolve.specs.Instances.{made_instance}
 use Rattle.cfa_resolve.specs.Resolution.{made}
 
 -- ---- a policy of bodies
-
-abbrev here : Place
-here = record { file = 0; line = 4; col = 5 }
-
-abbrev named : List ℕ → NamedTree
-named name = record { name = name; place = here }
-
-abbrev quoted : List ℕ → ValueTree
-quoted content = text content here
-
-abbrev says : List ℕ → ValueTree → AttributeTree
-says name value = record { name = name; value = value; place = here }
 
 abbrev a_body : (type name : List ℕ) → List NamedTree → List AttributeTree → BlockTree
 a_body type name params attributes = body (named type) (named name) params attributes here

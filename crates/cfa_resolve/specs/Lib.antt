@@ -7,3 +7,4 @@ pub mod SeenReached
 pub mod Viewed
 pub mod Refused
 pub mod Laws
+pub mod lemmas

@@ -1,11 +1,9 @@
 -- Worked rows of runs: what is visited, and how it ends.
-use Rattle.std.proofs.Common.{◌≡◌, ℕ, List, [], ◌∷◌, Some, None, codes, refl}
-use Rattle.std.specs.Prelude.{map}
+use Rattle.std.proofs.Common.{◌≡◌, ℕ, List, [], ◌∷◌, codes, refl}
 use Rattle.std.specs.Fmt.{digits}
-use Rattle.cfa_base.specs.declared.places.Place.{Place}
 use Rattle.cfa_base.specs.Escapes.{escaped, escape_of}
 use Rattle.cfa_tree.specs.ClassTexts.{expression_of}
-use Rattle.cfa_tree.specs.Tree.{ExprTree, class, negated, ValueTree, text, word, list, call, value_trees, AttributeTree, PromiseTree, SectionTree, NamedTree, BlockTree, bundle, body, PolicyTree}
+use Rattle.cfa_tree.specs.Tree.{class, negated, text, word, call, value_trees, AttributeTree, bundle, PolicyTree}
 use Rattle.cfa_classes.specs.declared.levels.Status.{Status}
 use Rattle.cfa_classes.specs.declared.levels.Status.TheVariants.{Maybe, Yes}
 use Rattle.cfa_kinds.specs.Kinds.{bundle_type, promise_type, files_attribute, outcome_attribute, methods_attribute, services_attribute, vars_attribute, classes_attribute, delete_attribute, copy_from_attribute, perms_attribute, classes_body_attribute, action_attribute}
@@ -29,6 +27,7 @@ use Rattle.cfa_resolve.specs.FileActs.{file_acts, service_act, outcome_classes}
 use Rattle.cfa_resolve.specs.KeyTexts.{mode_text, key_text}
 use Rattle.cfa_resolve.specs.Instances.{made_instance}
 use Rattle.cfa_resolve.specs.Resolution.{resolution, made}
+use Rattle.cfa_resolve.specs.lemmas.Written.{here, quoted, says, items, under, promise, section, a_bundle, a_body, created}
 use Rattle.cfa_outcomes.specs.declared.outcomes.Outcome.{Outcome}
 use Rattle.cfa_outcomes.specs.declared.outcomes.Outcome.TheVariants.{Kept, Repaired}
 use Rattle.cfa_walk.specs.History.{History, Begun, Set, Raised, Reached, Listed, Told, visits_in}
@@ -39,42 +38,6 @@ use Rattle.cfa_walk.specs.Tellers.{Teller, all_kept, open_walk, one_each, worst_
 use Rattle.cfa_walk.specs.Passes.{Course, goes, too_large, run, common_passes, passes, calls_of, reach, visit, told}
 
 -- ---- policies
-
-abbrev here : Place
-here = record { file = 0; line = 4; col = 5 }
-
-abbrev named : List ℕ → NamedTree
-named name = record { name = name; place = here }
-
-abbrev quoted : List ℕ → ValueTree
-quoted content = text content here
-
-abbrev says : List ℕ → ValueTree → AttributeTree
-says name value = record { name = name; value = value; place = here }
-
-abbrev items : List (List ℕ) → ValueTree
-items contents = list (value_trees (map quoted contents)) here
-
--- a promise under a guard
-abbrev under : ExprTree → List ℕ → List AttributeTree → PromiseTree
-under guard promiser attributes =
-    record { guard = Some guard; promiser = promiser; promisee = None; attributes = attributes; place = here }
-
-abbrev promise : List ℕ → List AttributeTree → PromiseTree
-promise promiser attributes =
-    record { guard = None; promiser = promiser; promisee = None; attributes = attributes; place = here }
-
-abbrev section : List ℕ → List PromiseTree → SectionTree
-section kind promises = record { kind = kind; promises = promises; place = here }
-
-abbrev a_bundle : (kind name : List ℕ) → List SectionTree → BlockTree
-a_bundle kind name sections = bundle (named kind) (named name) [] sections here
-
-abbrev a_body : (kind name : List ℕ) → List AttributeTree → BlockTree
-a_body kind name attributes = body (named kind) (named name) (named (codes "x") ∷ []) attributes here
-
-abbrev created : AttributeTree
-created = says (codes "create") (quoted (codes "true"))
 
 -- `both(x)`, and `if_repaired(x)`
 abbrev outcome_bodies : PolicyTree

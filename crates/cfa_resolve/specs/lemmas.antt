@@ -1,0 +1,2 @@
+-- What the proofs of this crate and of those above cite besides. No contract names it.
+pub mod Written
