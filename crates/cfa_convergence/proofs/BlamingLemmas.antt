@@ -41,7 +41,7 @@ use Rattle.cfa_laws.specs.Sources.{IsFirst, RaiseHasFirst, IsMaybe, RaisesHaveFi
 use Rattle.cfa_convergence.proofs.BlameLemmas.{greater_real, EditsAreBlamed, AreBlamed, HasBlame, IsWaiting, waits_listed, has_listed, has_told, has_set, has_begun, has_raised, has_reached}
 use Rattle.cfa_convergence.proofs.ContainmentLemmas.{Any}
 use Rattle.cfa_convergence.proofs.DepthLemmas.{depth, depth_inner, deeper_apart}
-use Rattle.cfa_convergence.proofs.FirstLemmas.{guard_is, maybe_first}
+use Rattle.cfa_laws.specs.lemmas.MaybeClasses.{guard_is, maybe_first}
 use Rattle.cfa_convergence.proofs.LevelLemmas.{IsCall, Steps, CallsKeep, visit_level, reach_level, calls_level}
 use Rattle.cfa_convergence.proofs.NameLemmas.{same_text, is_itself, true_both}
 use Rattle.cfa_convergence.proofs.PlainLemmas.{Known_at, known_types, Known_common, known_commons}

@@ -27,7 +27,8 @@ use Rattle.cfa_convergence.proofs.AlwaysLemmas.{Always}
 use Rattle.cfa_convergence.proofs.EffectLemmas.{raised_if, each_global, each_local, each_scope, each_mark, within_kept, within_repaired, within_report}
 use Rattle.cfa_convergence.proofs.OrderLemmas.{Placed, placed_ahead, placed_ended, placed_visited, placed_acted, placed_raised, ahead_same, ahead_raised}
 use Rattle.cfa_convergence.proofs.QuietLemmas.{Quiet}
-use Rattle.cfa_convergence.proofs.WithinLemmas.{within_lesser, within_if, within_up, within_lift}
+use Rattle.cfa_laws.specs.lemmas.Within.{within_lesser}
+use Rattle.cfa_convergence.proofs.WithinLemmas.{within_if, within_up, within_lift}
 
 -- a fact of the histories to which both go
 abbrev pub Both : Course → Course → (History → History → Type 0) → Type 0

@@ -44,7 +44,8 @@ use Rattle.cfa_convergence.proofs.LevelLemmas.{Steps, CallsKeep, instances_level
 use Rattle.cfa_convergence.proofs.NameLemmas.{same_text}
 use Rattle.cfa_convergence.proofs.PlainLemmas.{known_types}
 use Rattle.cfa_convergence.proofs.QuietLemmas.{either_way, Quiet, quiet_same, quiet_then}
-use Rattle.cfa_convergence.proofs.WithinLemmas.{within_greater, within_visit, value_within, maybe_guard}
+use Rattle.cfa_laws.specs.lemmas.Within.{within_greater, value_within}
+use Rattle.cfa_convergence.proofs.WithinLemmas.{within_visit, maybe_guard}
 
 -- ---- what was settled before
 

@@ -12,7 +12,7 @@ use Rattle.cfa_walk.specs.History.{History, everywhere, Raised, scope_in, global
 use Rattle.cfa_walk.specs.Passes.{raise_each, raised_to, in_every_list}
 use Rattle.cfa_laws.specs.Statuses.{Within, no_maybe, no_no, yes_maybe, yes_yes}
 use Rattle.cfa_convergence.proofs.NameLemmas.{is_text}
-use Rattle.cfa_convergence.proofs.WithinLemmas.{within_greater}
+use Rattle.cfa_laws.specs.lemmas.Within.{within_greater}
 
 abbrev pub raised_if : Bool → Status → Status → Status
 raised_if true s g = greater s g

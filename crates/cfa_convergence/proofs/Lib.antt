@@ -19,7 +19,6 @@ pub mod KnownLemmas
 pub mod RealLemmas
 pub mod RerunLemmas
 pub mod SettleLemmas
-pub mod FirstLemmas
 pub mod SourceLemmas
 pub mod BlameLemmas
 pub mod BlamingLemmas

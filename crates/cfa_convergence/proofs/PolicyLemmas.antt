@@ -1,13 +1,13 @@
 -- A policy that was checked is known: the names of its bundles are words, and a value of `usebundle` names a bundle that is there.
 use Rattle.std.proofs.Common.{◌≡◌, ◌≢◌, ◌∙◌, ℕ, ◌+◌, ◌<◌, ◌≤◌, ◌^◌, Bool, true, false, List, [], ◌∷◌, ◌++◌, length, map, codes, All, Option, Some, None, inl, refl, ap, sym, subst, arith}
-use Rattle.std.specs.Prelude.{IsTrue, find, if◌then◌else◌, ◌||◌}
+use Rattle.std.specs.Prelude.{IsTrue, find, if◌then◌else◌}
 use Rattle.std.specs.List.{AllByRecursion as Each, Contains, cons_option, filter_map, flat_map, list_all}
 use Rattle.std.specs.Str.{bytes_eq}
 use Rattle.std.proofs.Math.Bool.{Bool-set}
 use Rattle.std.proofs.Math.Bridge.{le_prop}
 use Rattle.std.proofs.lemmas.Bool.{false≢true, and_parts}
 use Rattle.std.proofs.lemmas.List.{map-append}
-use Rattle.std.proofs.lemmas.List.Elements.{All-append, All-cons, All-contains, All-contains_itself, All-head, All-nil, All-tail, All-weaker, Contains-append_left, Contains-append_right}
+use Rattle.std.proofs.lemmas.List.Elements.{All-cons, All-contains, All-contains_itself, All-head, All-nil, All-tail, All-weaker, Contains-append_left, Contains-append_right}
 use Rattle.std.proofs.lemmas.Option.{none-some, same_Some}
 use Rattle.std.proofs.lemmas.Slice.Eq.{bytes_eq-Decides}
 use Rattle.cfa_base.specs.declared.limits.TheConstants.{MOST_SOURCE_BYTES}
@@ -28,16 +28,14 @@ use Rattle.cfa_values.specs.Definitions.{BundleHead, bundle_named}
 use Rattle.cfa_values.specs.Scope.{in_bundle}
 use Rattle.cfa_values.specs.Values.{Setting, is_known, value_count, text_scope, named_by_text, method_refusals, repeated}
 use Rattle.cfa_served.specs.Checked.{promises_of, worded_promises_of, ids_from, ids_in_block, promise_ids_of}
-use Rattle.cfa_served.specs.Control.{control_of, sequence_of}
+use Rattle.cfa_served.specs.Control.{control_of}
 use Rattle.cfa_schema.specs.Defined.{bundle_head, definitions_of}
 use Rattle.cfa_schema.specs.Laws.{Stands, in_promise, by_word, by_call, NamesBundle, by_name, by_text, NothingIsRefused, AgentBundleIsThere, IsWord, HasWordName, WordsLackNewlines, NamesAreWords, NamedBundleStands, CommonBundlesStand, CommonNamesAreWords, SequenceNamesAreWords, IsCounted, IdsAreCounted}
 use Rattle.cfa_served.specs.Served.{common_bundles_of}
 use Rattle.cfa_schema.specs.Sourced.{IsSourced}
 use Rattle.cfa_schema.specs.Valid.{Valid, refusals, repeated_bodies_after, body_name, bundle_name, default_refusals, block_refusals, bundle_by, other_type}
-use Rattle.cfa_resolve.specs.Resolution.{is_listed}
-use Rattle.cfa_walk.specs.Levels.{HasPlainNames}
 use Rattle.cfa_walk.specs.Numbered.{Numbered, numbered_as, numbered_from, numbered_in, name_of}
-use Rattle.cfa_walk.specs.Views.{joined_once, shared_names}
+use Rattle.cfa_walk.specs.lemmas.PlainNames.{plain_names}
 use Rattle.cfa_convergence.specs.Policies.{IsKnown, IsKnownCommon, HasKnown}
 use Rattle.cfa_convergence.proofs.PlaceLemmas.{none_left, none_right}
 
@@ -86,44 +84,6 @@ word_lacks c none (b ∷ bs) is =
 
 plain_word : (name : List ℕ) → IsWord name → IsPlain name
 plain_word name is = record { no_semicolon = word_lacks 59 refl name is; no_newline = word_lacks 10 refl name is }
-
--- ---- shared scopes
-
-joined_by : (b : Bool) (names : List (List ℕ)) (name : List ℕ) → All IsWord names → IsWord name → All IsWord (if b then names else names ++ name ∷ [])
-joined_by true names name words is = words
-joined_by false names name words is = All-append IsWord names (name ∷ []) words (All-cons IsWord name [] is (All-nil IsWord))
-
-joined_words : (names more : List (List ℕ)) → All IsWord names → All IsWord more → All IsWord (joined_once names more)
-joined_words names [] words rest = words
-joined_words names (name ∷ more) words rest =
-    joined_words (if is_listed names name then names else names ++ name ∷ []) more
-    (joined_by (is_listed names name) names name words (All-head IsWord name more rest)) (All-tail IsWord name more rest)
-
-named_words : (blocks : List BlockTree) → All HasWordName blocks → All IsWord (map name_of blocks)
-named_words [] words = All-nil IsWord
-named_words (bundle type_name named params sections place ∷ blocks) words =
-    All-cons IsWord named.name (map name_of blocks) (All-head HasWordName _ blocks words) (named_words blocks (All-tail HasWordName _ blocks words))
-named_words (body type_name named params attributes place ∷ blocks) words =
-    All-cons IsWord named.name (map name_of blocks) (All-head HasWordName _ blocks words) (named_words blocks (All-tail HasWordName _ blocks words))
-
-lacks_by : (b rest : Bool) → (b ≡ true → ⊥) → rest ≡ false → (b || rest) ≡ false
-lacks_by true rest never more = absurd (never refl)
-lacks_by false rest never more = more
-
-not_listed : WordsLackNewlines → (names : List (List ℕ)) (path : List ℕ) → All IsWord names → Contains path 10 → is_listed names path ≡ false
-not_listed lack [] path words newline = refl
-not_listed lack (name ∷ names) path words newline =
-    lacks_by (bytes_eq name path) (is_listed names path)
-    (λ same. lack name (All-head IsWord name names words) (subst (λ (p : List ℕ). Contains p 10) (sym ((bytes_eq-Decides name path).0 same)) newline))
-    (not_listed lack names path (All-tail IsWord name names words) newline)
-
-plain_names : (policy : PolicyTree) → WordsLackNewlines → CommonNamesAreWords → SequenceNamesAreWords → Valid policy → IsSourced policy → HasPlainNames policy
-unfolding shared_names
-plain_names policy lack common sequence valid sourced = λ path newline.
-    not_listed lack (joined_once [] (map name_of (common_bundles_of policy) ++ sequence_of policy)) path
-    (joined_words [] (map name_of (common_bundles_of policy) ++ sequence_of policy) (All-nil IsWord)
-    (All-append IsWord (map name_of (common_bundles_of policy)) (sequence_of policy)
-    (named_words (common_bundles_of policy) (common policy sourced)) (sequence policy valid sourced))) newline
 
 -- ---- bundles that are named
 

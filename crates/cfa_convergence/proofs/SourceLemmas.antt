@@ -18,7 +18,7 @@ use Rattle.cfa_walk.specs.Passes.{handed, raise_event, raise_all}
 use Rattle.cfa_walk.specs.Views.{Setting, from_start, global_status, status_in, guard_status, source_of}
 use Rattle.cfa_walk.specs.Waits.{wait_on, wait_of_guard}
 use Rattle.cfa_laws.specs.Sources.{IsFirst, RaiseHasFirst}
-use Rattle.cfa_convergence.proofs.FirstLemmas.{lesser_maybe, greater_maybe, maybe_first}
+use Rattle.cfa_laws.specs.lemmas.MaybeClasses.{lesser_maybe, greater_maybe, maybe_first}
 
 -- there is one
 abbrev pub IsGiven : {X : Type 0} → Option X → Type 0

@@ -25,7 +25,7 @@ use Rattle.cfa_laws.specs.Statuses.{Within, no_no, no_maybe, yes_maybe, yes_yes,
 use Rattle.cfa_laws.proofs.WalkTypes.{Inside, Walk}
 use Rattle.cfa_laws.proofs.ListLemmas.{none_before, none_after}
 use Rattle.cfa_laws.proofs.TextLemmas.{is_text}
-use Rattle.cfa_laws.proofs.WithinLemmas.{within_lesser, within_greater}
+use Rattle.cfa_laws.specs.lemmas.Within.{within_lesser, within_greater}
 use Rattle.cfa_laws.proofs.GuardLemmas.{guard_first, guard_within}
 use Rattle.cfa_laws.proofs.RaiseLemmas.{raises_alike}
 

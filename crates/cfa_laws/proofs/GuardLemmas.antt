@@ -7,8 +7,8 @@ use Rattle.cfa_defines.specs.FirstMaybe.{first_maybe_of_guard}
 use Rattle.cfa_scripts.specs.EditBundles.{guard_under}
 use Rattle.cfa_laws.specs.Statuses.{Within, yes_yes, AllWithin}
 use Rattle.cfa_laws.specs.Sources.{IsFirst}
-use Rattle.cfa_laws.proofs.WithinLemmas.{value_within}
-use Rattle.cfa_laws.proofs.FirstLemmas.{maybe_first}
+use Rattle.cfa_laws.specs.lemmas.Within.{value_within}
+use Rattle.cfa_laws.specs.lemmas.MaybeClasses.{maybe_first}
 
 pub guard_first : (status : List ℕ → Status) (guard : Option ExprTree) → guard_under status guard ≡ Maybe → IsFirst status (first_maybe_of_guard guard status)
 guard_first status None e = absurd (cc)

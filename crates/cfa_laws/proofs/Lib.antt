@@ -1,6 +1,5 @@
 pub mod ListLemmas
 pub mod TextLemmas
-pub mod WithinLemmas
 pub mod SaidLemmas
 pub mod RaiseLemmas
 pub mod FirstLemmas

@@ -33,7 +33,8 @@ use Rattle.cfa_laws.specs.Sources.{IsFirst, RaiseHasFirst, IsMaybe, UnsettledAre
 use Rattle.cfa_laws.proofs.WalkTypes.{HandedRaise, Inside, Walk}
 use Rattle.cfa_laws.proofs.ListLemmas.{each_append}
 use Rattle.cfa_laws.proofs.TextLemmas.{same_text, is_text}
-use Rattle.cfa_laws.proofs.FirstLemmas.{lesser_maybe, greater_maybe, guard_is, raises_first}
+use Rattle.cfa_laws.specs.lemmas.MaybeClasses.{lesser_maybe, greater_maybe, guard_is}
+use Rattle.cfa_laws.proofs.FirstLemmas.{raises_first}
 use Rattle.cfa_laws.proofs.GuardLemmas.{guard_first}
 
 module _ (around : Around) where

@@ -23,7 +23,7 @@ use Rattle.cfa_defines.specs.Items.{items_or_none, items_written}
 use Rattle.cfa_defines.specs.ClassPromises.{said_of, text_said, given_said, answer_said, value_said, items_by, items_said, list_by, list_said, joined, all_said, one_said, opposite, expressed_by, expressed, named_said, raised_in, Raise, stops_all, raise_of, raises_from, raises_of}
 use Rattle.cfa_laws.specs.Statuses.{Within, no_no, yes_yes, RaisesAlike, RaisesLieTogether}
 use Rattle.cfa_laws.proofs.SaidLemmas.{Said, Told, tells, tells_nothing, halts, said, opposite_told, joined_told, told_stops, told_raise, opposite_said, joined_said, stops_said, raise_said, expression_said}
-use Rattle.cfa_laws.proofs.WithinLemmas.{within_swapped, within_lesser, within_greater, value_within}
+use Rattle.cfa_laws.specs.lemmas.Within.{within_swapped, within_lesser, within_greater, value_within}
 
 -- both tell a status, or both tell none for the same cause
 data ToldAlike : Told → Told → Type 0 where

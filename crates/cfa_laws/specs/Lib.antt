@@ -1,3 +1,4 @@
 pub mod Keys
 pub mod Sources
 pub mod Statuses
+pub mod lemmas

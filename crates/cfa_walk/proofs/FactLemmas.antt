@@ -1,28 +1,22 @@
 -- The names of shared scopes are words, and the ids of promises are counted.
-use Rattle.std.proofs.Common.{◌≡◌, ◌∙◌, ℕ, ◌+◌, Bool, true, false, List, [], ◌∷◌, ◌++◌, map, All, Option, Some, None, refl, ap, sym, subst}
-use Rattle.std.specs.Prelude.{◌||◌, if◌then◌else◌}
+use Rattle.std.proofs.Common.{◌≡◌, ◌∙◌, ℕ, ◌+◌, Bool, false, List, [], ◌∷◌, ◌++◌, map, All, Option, Some, None, refl, ap, sym, subst}
 use Rattle.std.specs.List.{Contains, cons_option, flat_map}
-use Rattle.std.specs.Str.{bytes_eq}
 use Rattle.std.proofs.Math.Bool.{Bool-set}
 use Rattle.std.proofs.Math.Bridge.{le_prop}
 use Rattle.std.proofs.lemmas.List.{map-append}
-use Rattle.std.proofs.lemmas.List.Elements.{All-append, All-cons, All-contains, All-contains_itself, All-head, All-nil, All-tail, All-weaker, Contains-append_left, Contains-append_right}
-use Rattle.std.proofs.lemmas.Slice.Eq.{bytes_eq-Decides}
+use Rattle.std.proofs.lemmas.List.Elements.{All-cons, All-contains, All-contains_itself, All-head, All-nil, All-tail, All-weaker, Contains-append_left, Contains-append_right}
 use Rattle.cfa_kinds.specs.declared.kinds.PromiseType.{PromiseType}
 use Rattle.cfa_kinds.specs.Kinds.{promise_type}
 use Rattle.cfa_served.specs.Checked.{promises_of, worded_promises_of, ids_from, ids_in_block, promise_ids_of}
-use Rattle.cfa_served.specs.Control.{sequence_of}
-use Rattle.cfa_schema.specs.Laws.{IsWord, HasWordName, IsCounted, WordsLackNewlines, CommonNamesAreWords, SequenceNamesAreWords, IdsAreCounted, NamedBundleStands}
-use Rattle.cfa_served.specs.Served.{common_bundles_of}
+use Rattle.cfa_schema.specs.Laws.{IsCounted, IdsAreCounted, NamedBundleStands}
 use Rattle.cfa_schema.specs.Sourced.{IsSourced}
-use Rattle.cfa_schema.specs.Valid.{Valid}
 use Rattle.cfa_tree.specs.Tree.{PromiseTree, SectionTree, BlockTree, bundle, body, PolicyTree}
 use Rattle.cfa_resolve.specs.Resolution.{is_listed}
 use Rattle.cfa_walk.specs.Facts.{HasCountedIds}
 use Rattle.cfa_walk.specs.Levels.{HasPlainNames}
-use Rattle.cfa_walk.specs.Numbered.{Numbered, numbered_as, numbered_from, numbered_in, name_of}
+use Rattle.cfa_walk.specs.Numbered.{Numbered, numbered_as, numbered_from, numbered_in}
 use Rattle.cfa_walk.specs.Steps.{AreCounted}
-use Rattle.cfa_walk.specs.Views.{joined_once, shared_names}
+use Rattle.cfa_walk.specs.Views.{shared_names}
 
 -- ---- names
 
@@ -31,42 +25,6 @@ all_left P xs ys all = All-weaker (Contains xs) P (λ x on. All-contains P (xs +
 
 all_right : {X : Type 0} (P : X → Type 0) (xs ys : List X) → All P (xs ++ ys) → All P ys
 all_right P xs ys all = All-weaker (Contains ys) P (λ x on. All-contains P (xs ++ ys) x all (Contains-append_right xs ys x on)) ys (All-contains_itself ys)
-
-joined_by : (b : Bool) (names : List (List ℕ)) (name : List ℕ) → All IsWord names → IsWord name → All IsWord (if b then names else names ++ name ∷ [])
-joined_by true names name words word = words
-joined_by false names name words word = All-append IsWord names (name ∷ []) words (All-cons IsWord name [] word (All-nil IsWord))
-
-joined_words : (names more : List (List ℕ)) → All IsWord names → All IsWord more → All IsWord (joined_once names more)
-joined_words names [] words rest = words
-joined_words names (name ∷ more) words rest =
-    joined_words (if is_listed names name then names else names ++ name ∷ []) more
-    (joined_by (is_listed names name) names name words (All-head IsWord name more rest)) (All-tail IsWord name more rest)
-
-named_words : (blocks : List BlockTree) → All HasWordName blocks → All IsWord (map name_of blocks)
-named_words [] words = All-nil IsWord
-named_words (bundle type_name named params sections place ∷ blocks) words =
-    All-cons IsWord named.name (map name_of blocks) (All-head HasWordName _ blocks words) (named_words blocks (All-tail HasWordName _ blocks words))
-named_words (body type_name named params attributes place ∷ blocks) words =
-    All-cons IsWord named.name (map name_of blocks) (All-head HasWordName _ blocks words) (named_words blocks (All-tail HasWordName _ blocks words))
-
-lacks_by : (b rest : Bool) → (b ≡ true → ⊥) → rest ≡ false → (b || rest) ≡ false
-lacks_by true rest never more = absurd (never refl)
-lacks_by false rest never more = more
-
-not_listed : WordsLackNewlines → (names : List (List ℕ)) (path : List ℕ) → All IsWord names → Contains path 10 → is_listed names path ≡ false
-not_listed lack [] path words newline = refl
-not_listed lack (name ∷ names) path words newline =
-    lacks_by (bytes_eq name path) (is_listed names path)
-    (λ same. lack name (All-head IsWord name names words) (subst (λ (p : List ℕ). Contains p 10) (sym ((bytes_eq-Decides name path).0 same)) newline))
-    (not_listed lack names path (All-tail IsWord name names words) newline)
-
-pub plain_names : (policy : PolicyTree) → WordsLackNewlines → CommonNamesAreWords → SequenceNamesAreWords → Valid policy → IsSourced policy → HasPlainNames policy
-unfolding shared_names
-plain_names policy lack common sequence valid sourced = λ path newline.
-    not_listed lack (joined_once [] (map name_of (common_bundles_of policy) ++ sequence_of policy)) path
-    (joined_words [] (map name_of (common_bundles_of policy) ++ sequence_of policy) (All-nil IsWord)
-    (All-append IsWord (map name_of (common_bundles_of policy)) (sequence_of policy)
-    (named_words (common_bundles_of policy) (common policy sourced)) (sequence policy valid sourced))) newline
 
 pub plain_names_prop : (policy : PolicyTree) → IsProp (HasPlainNames policy)
 plain_names_prop policy = λ x y i path newline. Bool-set (is_listed (shared_names policy) path) false (x path newline) (y path newline) i

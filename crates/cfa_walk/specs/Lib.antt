@@ -21,3 +21,4 @@ pub mod Ending
 pub mod Tellings
 pub mod Listed
 pub mod Walks
+pub mod lemmas

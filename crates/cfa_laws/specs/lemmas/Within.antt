@@ -36,7 +36,7 @@ within_greater yes_maybe yes_yes = yes_yes
 within_greater yes_yes q = yes_yes
 
 module _ (f g : List ℕ → Status) (within : (c : List ℕ) → Within (f c) (g c)) where
-  mutual
+  abbrev mutual
     pub value_within : (e : ExprTree) → Within (status_of e f) (status_of e g)
     value_within (class c) = within c
     value_within (negated e) = within_swapped (value_within e)
