@@ -151,6 +151,10 @@ text_in (items_said items) = []
 text_in (unresolved name) = []
 text_in (over has_many) = []
 
+abbrev pub text_or_empty : Option Said → List ℕ
+text_or_empty None = []
+text_or_empty (Some said) = text_in said
+
 abbrev pub items_in : Said → List (List ℕ)
 items_in (text_said content) = []
 items_in (items_said items) = items

@@ -9,4 +9,4 @@ mod sayings;
 pub use arguments::{bind, data_given, empty_text, name_given, whole_or_empty};
 pub use bodies::bodies_of;
 pub use hearing::{Bodies, Heard, hear};
-pub use sayings::{Said, Sayings, text_in};
+pub use sayings::{Said, Sayings, text_in, text_or_empty};

@@ -4,7 +4,7 @@ ghost use Rattle.cfa_functions.specs.Calls.{list_given, text_given};
 ghost use Rattle.cfa_tree.specs.Plain.{plain_attribute, plain_value};
 ghost use Rattle.cfa_vars.specs.Named.{thing_at};
 ghost use Rattle.cfa_vars.specs.Scopes.{in_scope};
-ghost use Rattle.cfa_bodies.specs.Bodies.{text_of_said, list_of_said, has_many_items, said_by, read_attribute, saying_of, text_in};
+ghost use Rattle.cfa_bodies.specs.Bodies.{text_of_said, list_of_said, has_many_items, said_by, read_attribute, saying_of, text_in, text_or_empty};
 
 use cfa_base::{Name, Names, NoMemory};
 use cfa_defines::has_many_items;
@@ -151,5 +151,15 @@ pub fn text_in(said: &Said) -> &str
         Said::Items(_) => "",
         Said::Unresolved(_) => "",
         Said::Over(_) => "",
+    }
+}
+
+/// What is said as a text, empty where none is or nothing is said.
+pub fn text_or_empty<'s>(said: Option<&'s Said>) -> &'s str
+    ensures { result.now ≡ text_or_empty (option_copied said.entry) }
+{
+    match said {
+        None => "",
+        Some(said) => text_in(said),
     }
 }

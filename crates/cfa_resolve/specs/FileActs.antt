@@ -30,7 +30,7 @@ use Rattle.cfa_edits.specs.Edits.{Lines, edited}
 use Rattle.cfa_scripts.specs.declared.scripting.Scripted.{Scripted}
 use Rattle.cfa_scripts.specs.declared.scripting.Scripted.TheVariants.{Script as a_script, Unresolved as no_script, TooMany as script_many, TooLong as script_long, BadPattern as bad_pattern, BadValue as bad_value}
 use Rattle.cfa_bodies.specs.declared.sayings.Said.{Said}
-use Rattle.cfa_bodies.specs.Bodies.{Sayings, Bodies, said_in, text_in, items_in, whole_or_empty}
+use Rattle.cfa_bodies.specs.Bodies.{Sayings, Bodies, said_in, text_in, items_in, whole_or_empty, text_or_empty}
 
 -- ---- values of their kinds
 
@@ -95,14 +95,10 @@ abbrev pub is_wrong_digest : Option Said → Bool
 is_wrong_digest None = false
 is_wrong_digest (Some said) = not (has_form Digest (text_in said))
 
-abbrev pub source_in : Option Said → List ℕ
-source_in None = []
-source_in (Some said) = text_in said
-
 abbrev pub copy_act : (path : List ℕ) → (is_directory : Bool) → Sayings → Act
 copy_act path is_directory sayings =
     if is_wrong_digest (thing_at sayings (codes "compare")) then Bust BadValue else (
-    if is_directory then Bust BadPath else copy_from path (path_of (source_in (thing_at sayings (codes "source")))))
+    if is_directory then Bust BadPath else copy_from path (path_of (text_or_empty (thing_at sayings (codes "source")))))
 
 abbrev pub copy_acts : (path : List ℕ) → (is_directory : Bool) → Option Sayings → List Act
 copy_acts path is_directory None = []

@@ -4,14 +4,14 @@ ghost use Rattle.std.specs.List.{cons_option};
 ghost use Rattle.cfa_acts.specs.Acts.{IsAct};
 ghost use Rattle.cfa_outside.specs.Paths.{path_of};
 ghost use Rattle.cfa_resolve.specs.Lengths.{IsShort};
-ghost use Rattle.cfa_resolve.specs.FileActs.{delete_by, or_false, delete_acts, create_by, create_acts, is_wrong_digest, source_in, copy_from, copy_act, copy_acts, content_acts, is_directory_form, path_part, placing_acts, acts_at, file_acts};
+ghost use Rattle.cfa_resolve.specs.FileActs.{delete_by, or_false, delete_acts, create_by, create_acts, is_wrong_digest, copy_from, copy_act, copy_acts, content_acts, is_directory_form, path_part, placing_acts, acts_at, file_acts};
 
 use crate::editing::edit_act;
 use crate::permissions::perms_act;
 use crate::values::truth;
 use cfa_acts::{Act, Reason};
 use cfa_base::{Bytes, Name, NoMemory};
-use cfa_bodies::{Bodies, Said, Sayings, text_in};
+use cfa_bodies::{Bodies, Said, Sayings, text_in, text_or_empty};
 use cfa_kinds::{Form, has_form};
 use cfa_outside::{Path, PathErr};
 use cfa_scripts::Scripted;
@@ -89,15 +89,6 @@ fn is_wrong_digest(said: Option<&Said>) -> bool
     }
 }
 
-fn source_in<'s>(said: Option<&'s Said>) -> &'s str
-    ensures { result.now ≡ source_in (option_copied said.entry) }
-{
-    match said {
-        None => "",
-        Some(said) => text_in(said),
-    }
-}
-
 /// The path that a text names, if it names one.
 fn read_path(alloc: Global, text: &str) -> Result<Option<Path>, NoMemory>
     ensures { IfOk result (λ path. path ≡ path_of text.now) }
@@ -134,7 +125,7 @@ fn copy_by(
     if is_directory {
         return Ok(Act::Bust(Reason::BadPath));
     }
-    let source = read_path(alloc, source_in(sayings.get("source")))?;
+    let source = read_path(alloc, text_or_empty(sayings.get("source")))?;
     copy_from(alloc, path, source)
 }
 

@@ -14,7 +14,7 @@ use Rattle.cfa_base.specs.declared.patterns.How.TheVariants.{Whole, Part}
 use Rattle.cfa_bodies.specs.declared.sayings.Said.{Said}
 use Rattle.cfa_bodies.specs.declared.hearing.Heard.{Heard}
 use Rattle.cfa_bodies.specs.declared.hearing.Heard.TheVariants.{Lacks as lacks_body, TooMany as many_in_body, TooLong as long_in_body, All as all_heard}
-use Rattle.cfa_bodies.specs.Bodies.{Bodies, bodies_of, said_in, text_in, heard}
+use Rattle.cfa_bodies.specs.Bodies.{Bodies, bodies_of, said_in, text_in, heard, text_or_empty}
 use Rattle.cfa_classes.specs.declared.levels.Status.{Status}
 use Rattle.cfa_classes.specs.declared.levels.Status.TheVariants.{No, Maybe, Yes}
 use Rattle.cfa_defines.specs.declared.combining.Combined.{Combined}
@@ -34,7 +34,7 @@ use Rattle.cfa_scripts.specs.declared.contributing.Contribution.{Contribution}
 use Rattle.cfa_scripts.specs.declared.contributing.Contribution.TheVariants.{Edit as an_edit, Unresolved as unresolved, TooMany as many, TooLong as long, BadPattern as bad_pattern, BadValue as bad_value}
 use Rattle.cfa_scripts.specs.declared.walking.Walk.{Walk}
 use Rattle.cfa_scripts.specs.Numbered.{Numbered, is_type, of_type}
-use Rattle.cfa_scripts.specs.EditPromises.{is_one_line, first_character, text_or_empty, is_right, is_word_said, pattern_read, pattern_if_given, unless_wrong, edit_with, delete_for, is_right_field, field_by, field_for, block_of, spot_for, insert_by, insert_for, replace_by, replace_for, edit_for, whole_text, contribution_by, contribution, edits_by, edits_of}
+use Rattle.cfa_scripts.specs.EditPromises.{is_one_line, first_character, is_right, is_word_said, pattern_read, pattern_if_given, unless_wrong, edit_with, delete_for, is_right_field, field_by, field_for, block_of, spot_for, insert_by, insert_for, replace_by, replace_for, edit_for, whole_text, contribution_by, contribution, edits_by, edits_of}
 use Rattle.cfa_scripts.specs.EditBundles.{Around, walk_at_first, scopes_at, statuses_at, guard_under, kept_by, guarded, reach, walked_from}
 use Rattle.cfa_scripts.specs.EditScripts.{edits_among, edit_in, in_order}
 use Rattle.cfa_scripts.proofs.FormLemmas.{number_bounds}

@@ -26,7 +26,7 @@ use Rattle.cfa_defines.specs.OwnTexts.{combined, own_reads}
 use Rattle.cfa_bodies.specs.declared.sayings.Said.{Said}
 use Rattle.cfa_bodies.specs.declared.hearing.Heard.{Heard}
 use Rattle.cfa_bodies.specs.declared.hearing.Heard.TheVariants.{Lacks as lacks_body, TooMany as many_in_body, TooLong as long_in_body, All as all_heard}
-use Rattle.cfa_bodies.specs.Bodies.{Bodies, bodies_of, said_in, text_in, heard}
+use Rattle.cfa_bodies.specs.Bodies.{Bodies, bodies_of, said_in, text_in, heard, text_or_empty}
 use Rattle.cfa_edits.specs.declared.edits.Edit.{Edit}
 use Rattle.cfa_edits.specs.declared.edits.Edit.TheVariants.{Delete, Field, Insert, Replace}
 use Rattle.cfa_edits.specs.declared.edits.Spot.{Spot}
@@ -37,10 +37,6 @@ use Rattle.cfa_scripts.specs.declared.contributing.Contribution.TheVariants.{Edi
 -- ---- what bodies say
 
 -- what is said as a text, empty where it isn't given
-abbrev pub text_or_empty : Option Said → List ℕ
-text_or_empty None = []
-text_or_empty (Some said) = text_in said
-
 -- of this form, if it is given
 abbrev pub is_right : Form → Option Said → Bool
 is_right form None = true

@@ -8,25 +8,16 @@ ghost use Rattle.cfa_base.specs.declared.patterns.How.TheVariants.{Whole, Part};
 ghost use Rattle.cfa_kinds.specs.declared.kinds.Form.TheVariants.{FieldNumber};
 ghost use Rattle.cfa_kinds.specs.declared.kinds.PromiseType.TheVariants.{FieldEdits, InsertLines, ReplacePatterns};
 ghost use Rattle.cfa_kinds.specs.Forms.{has_form};
-ghost use Rattle.cfa_scripts.specs.EditPromises.{text_or_empty, is_right, is_word_said, is_one_line, first_character, pattern_read, pattern_if_given, delete_for, is_right_field, field_by, field_for, block_of, spot_for, insert_by, insert_for, replace_by, replace_for, edit_for};
+ghost use Rattle.cfa_scripts.specs.EditPromises.{is_right, is_word_said, is_one_line, first_character, pattern_read, pattern_if_given, delete_for, is_right_field, field_by, field_for, block_of, spot_for, insert_by, insert_for, replace_by, replace_for, edit_for};
 ghost use Rattle.cfa_scripts.specs.ScriptBuilds.{IsBuiltAs, anchor_built, pattern_for};
 
 use crate::contributing::Contribution;
 use cfa_base::{How, Name, Names, NoMemory, Pattern, PatternErr, Patterns};
-use cfa_bodies::{Bodies, Said, text_in};
+use cfa_bodies::{Bodies, Said, text_in, text_or_empty};
 use cfa_edits::{Edit, Spot};
 use cfa_functions::CallErr;
 use cfa_kinds::{Form, PromiseType, has_form};
 use std::alloc::{AllocError, Global};
-
-fn text_or_empty<'s>(said: Option<&'s Said>) -> &'s str
-    ensures { result.now ≡ text_or_empty (option_copied said.entry) }
-{
-    match said {
-        None => "",
-        Some(said) => text_in(said),
-    }
-}
 
 fn is_right(form: Form, said: Option<&Said>) -> bool
     ensures { result ≡ is_right form (option_copied said.entry) }
