@@ -4,18 +4,12 @@ use Rattle.std.proofs.Common.{◌≡◌, refl, Bool, true, false, ◌⊎◌, inl
 use Rattle.cfa_classes.specs.declared.levels.Status.{Status}
 use Rattle.cfa_classes.specs.declared.levels.Status.TheVariants.{No, Maybe, Yes}
 use Rattle.cfa_classes.specs.Status.{lesser, greater}
-use Rattle.cfa_walk.specs.Passes.{never_yes, visit_status}
+use Rattle.cfa_walk.specs.Passes.{visit_status}
 use Rattle.cfa_laws.specs.Statuses.{Within, no_no, no_maybe, yes_maybe, yes_yes}
-use Rattle.cfa_laws.specs.lemmas.Within.{within_lesser, within_greater}
-
-pub within_never : {r w : Status} → Within r w → Within (never_yes r) (never_yes w)
-within_never no_no = yes_yes
-within_never no_maybe = yes_maybe
-within_never yes_maybe = no_maybe
-within_never yes_yes = no_no
+use Rattle.cfa_laws.specs.lemmas.Within.{within_swapped, within_lesser, within_greater}
 
 pub within_visit : {r w s v m n : Status} → Within r w → Within s v → Within m n → Within (visit_status r s m) (visit_status w v n)
-within_visit p q o = within_lesser p (within_lesser q (within_never o))
+within_visit p q o = within_lesser p (within_lesser q (within_swapped o))
 
 -- ---- the walk alone
 

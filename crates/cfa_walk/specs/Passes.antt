@@ -15,7 +15,7 @@ use Rattle.cfa_kinds.specs.declared.kinds.PromiseType.TheVariants as promises
 use Rattle.cfa_kinds.specs.Kinds.{bundle_type}
 use Rattle.cfa_classes.specs.declared.levels.Status.{Status}
 use Rattle.cfa_classes.specs.declared.levels.Status.TheVariants.{No, Maybe, Yes}
-use Rattle.cfa_classes.specs.Status.{lesser}
+use Rattle.cfa_classes.specs.Status.{swapped, lesser}
 use Rattle.cfa_served.specs.Control.{sequence_of}
 use Rattle.cfa_served.specs.Served.{bundle_of, common_bundles_of}
 use Rattle.cfa_vars.specs.declared.scoping.Datum.{Datum}
@@ -109,15 +109,10 @@ visited teller activate instance No h = goes h
 visited teller activate instance Maybe h = unless_skipped teller activate instance Maybe (teller.skips h instance) (Listed instance Maybe ∷ h)
 visited teller activate instance Yes h = unless_skipped teller activate instance Yes (teller.skips h instance) (Listed instance Yes ∷ h)
 
--- Yes where the instance was never listed, Maybe where it was with Maybe, No where it was with Yes
-abbrev pub never_yes : Status → Status
-never_yes No = Yes
-never_yes Maybe = Maybe
-never_yes Yes = No
-
--- the least of what the guard, the activation and earlier visits allow
+-- the least of what the guard, the activation and earlier visits allow: they allow Yes where the instance was never listed, Maybe
+-- where it was with Maybe, No where it was with Yes
 abbrev pub visit_status : (guard activation mark : Status) → Status
-visit_status guard activation mark = lesser guard (lesser activation (never_yes mark))
+visit_status guard activation mark = lesser guard (lesser activation (swapped mark))
 
 unfoldable pub visit : Teller → Calls → (guard activation : Status) → Instance → History → Course
 visit teller activate guard activation instance h =

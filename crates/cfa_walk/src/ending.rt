@@ -139,10 +139,5 @@ pub(crate) fn raise_ending(
 pub(crate) fn visit_status(guard: Status, activation: Status, mark: Status) -> Status
     ensures { result ≡ visit_status guard activation mark }
 {
-    let never_yes = match mark {
-        Status::No => Status::Yes,
-        Status::Maybe => Status::Maybe,
-        Status::Yes => Status::No,
-    };
-    guard.lesser(activation.lesser(never_yes))
+    guard.lesser(activation.lesser(mark.swapped()))
 }
