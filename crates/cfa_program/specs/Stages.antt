@@ -15,7 +15,7 @@ use Rattle.cfa_output.specs.declared.ends.Stop.{Stop}
 use Rattle.cfa_output.specs.declared.ends.Stop.TheVariants.{Outside, Memory, Visits, Pattern}
 use Rattle.cfa_output.specs.declared.ends.Failure.{Failure}
 use Rattle.cfa_output.specs.declared.ends.Failure.TheVariants.{Refused, Stopped}
-use Rattle.cfa_output.specs.Ends.{IfRefused}
+use Rattle.cfa_output.specs.Ends.{IfRefused, Tells}
 use Rattle.cfa_output.specs.declared.items.End.TheVariants.{Yes}
 use Rattle.cfa_output.specs.Lines.{words_line, moment_line, stop_line, journal_bad_line, journal_long_line}
 use Rattle.cfa_output.specs.Puts.{PutsShort}
@@ -100,11 +100,6 @@ pub record BytesRead (name : List ℕ) (inputs inputs' : Shown Library) (result 
   pub bytes : IfOk result (λ bytes. IfSome inputs.told (λ library. bytes_of library.texts name ≡ Some bytes))
   pub inputs_are : ReadUpTo (IsNamed name) (stopped_by result) inputs inputs'
   pub no_pattern : text_too_big (stopped_by result) ≡ None
-
--- a line is told, unless memory ended
-abbrev pub Tells : (line : List ℕ) → Result (List ℕ) Stop → Type 0
-Tells line (Ok told) = told ≡ line
-Tells line (Err stop) = stop ≡ Memory
 
 -- why a journal is refused was told
 abbrev pub JournalTells : (name : List ℕ) → JournalErr → Result (List ℕ) Stop → Type 0

@@ -1,5 +1,5 @@
 -- Of the code alone: what holds between the steps of a reading.
-use Rattle.std.specs.Prelude.{ℕ, ◌≡◌, ◌+◌, ◌<◌, ⊤, List, ◌∷◌, length, map, codes, Option, Some, None, Result, Ok, Err, IfOk, IfErr, OnOk, IfSome}
+use Rattle.std.specs.Prelude.{ℕ, ◌≡◌, ◌+◌, ◌<◌, ⊤, List, ◌∷◌, length, map, codes, Option, Some, None, Result, Err, IfOk, IfErr, OnOk, IfSome}
 use Rattle.std.specs.declared.alloc.Global.{Global}
 use Rattle.std.specs.declared.vec.Vec.{Vec}
 use Rattle.cfa_base.specs.declared.places.Place.{Place}
@@ -20,7 +20,7 @@ use Rattle.cfa_outside.specs.Inputs.{Library}
 use Rattle.cfa_output.specs.declared.ends.Stop.{Stop}
 use Rattle.cfa_output.specs.declared.ends.Stop.TheVariants.{Outside, Memory, Visits, Pattern}
 use Rattle.cfa_output.specs.declared.ends.Failure.{Failure}
-use Rattle.cfa_output.specs.Ends.{IfRefused}
+use Rattle.cfa_output.specs.Ends.{IfRefused, Tells}
 use Rattle.cfa_output.specs.Lines.{source_long_line}
 use Rattle.cfa_schema.specs.declared.checked.Checked.{Checked}
 use Rattle.cfa_schema.specs.Sourced.{AreRead}
@@ -48,11 +48,6 @@ NoObject (Some Visits) = ⊥
 NoObject (Some (Pattern text)) = ⊤
 
 -- ---- lines
-
--- a line is told, unless memory ended
-abbrev pub Tells : (line : List ℕ) → Result (List ℕ) Stop → Type 0
-Tells line (Ok told) = told ≡ line
-Tells line (Err stop) = stop ≡ Memory
 
 abbrev pub LexTells : (name : List ℕ) → LexErr → Result (List ℕ) Stop → Type 0
 LexTells name TooLong result = Tells (source_long_line name) result
