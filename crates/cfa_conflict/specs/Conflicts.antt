@@ -12,7 +12,7 @@
 -- order of first visits: its restart, then what it waits for, then what disturbs it, by the other instance in the order of
 -- first visits, by the other's act and by its own. The first of them is the verdict; where there is none the policy is accepted.
 use Rattle.std.specs.Prelude.{ℕ, ◌+◌, Bool, true, false, ◌&&◌, ◌==◌, if◌then◌else◌, List, [], ◌∷◌, ◌++◌, length, map, codes, Option, Some, None}
-use Rattle.std.specs.List.{flat_map, filter, list_any}
+use Rattle.std.specs.List.{flat_map, filter, find, list_any}
 use Rattle.cfa_base.specs.Escapes.{escaped}
 use Rattle.cfa_acts.specs.declared.acts.Act.{Act}
 use Rattle.cfa_acts.specs.declared.acts.Act.TheVariants.{Create, MakeDir, Delete, Content, Copy, Edit, Perms, Start, Stop, Enable, Disable, Restart, Bust}
@@ -79,8 +79,7 @@ is_live kept instance = has_acts instance.work && is_visited kept instance
 
 -- the first visit of the instance at a place
 abbrev pub first_visit : List Visit → (place : ℕ) → Option Visit
-first_visit [] place = None
-first_visit (visit ∷ visits) place = if visit.instance == place then Some visit else first_visit visits place
+first_visit visits place = find (λ visit. visit.instance == place) visits
 
 abbrev pub has_visit : List Visit → (place : ℕ) → Bool
 has_visit visits place = list_any (λ visit. visit.instance == place) visits
