@@ -8,13 +8,13 @@ use Rattle.cfa_kinds.specs.declared.kinds.PromiseType.{PromiseType}
 use Rattle.cfa_outcomes.specs.declared.outcomes.Outcome.{Outcome}
 use Rattle.cfa_outcomes.specs.declared.outcomes.Outcome.TheVariants.{Kept}
 use Rattle.cfa_resolve.specs.declared.instances.Instance.{Instance}
-use Rattle.cfa_resolve.specs.Resolution.{resolution, reached_at}
+use Rattle.cfa_resolve.specs.Resolution.{resolution}
 use Rattle.cfa_vars.specs.declared.scoping.Datum.{Datum}
 use Rattle.cfa_walk.specs.History.{History, Where, everywhere, within, Begun, Set, Raised, Reached, Listed, Told}
 use Rattle.cfa_walk.specs.Numbered.{Numbered}
 use Rattle.cfa_walk.specs.Passes.{Course, goes, too_large, then_on, told, visit_status, raised_to, in_every_list, classes_for, raise_each, raise_lists}
 use Rattle.cfa_walk.specs.Tellers.{inner_path}
-use Rattle.cfa_walk.specs.Views.{Setting, Home, scopes_in, global_status}
+use Rattle.cfa_walk.specs.Views.{Setting, Home, reached_in_history}
 use Rattle.cfa_convergence.specs.Conflicts.{HasActs}
 use Rattle.cfa_convergence.specs.Told.{Telling}
 use Rattle.cfa_convergence.proofs.LevelLemmas.{IsCall, IsReport, Steps}
@@ -69,7 +69,7 @@ module _ (R : History → History → Type 0) (same_R : (h : History) → R h h)
       (inner : (path : List ℕ) (i : Instance) → Fit path i → At path → At (inner_path i))
       (visit_is : (guard act mark : Status) → S act → (visit_status guard act mark ≡ No) ⊎ S (visit_status guard act mark))
       (fits : (home : Home) (p : Numbered) (type : PromiseType) (h : History) → Fine home p →
-      Each (Fit home.path) (resolution (reached_at s.policy p.id (scopes_in s h home) (global_status s h) home.path (type, p.promise))).instances)
+      Each (Fit home.path) (resolution (reached_in_history s h home type p)).instances)
       (maybe_S : S Maybe)
       (begun_R : (path : List ℕ) (given : List Datum) (h : History) → At path → R h (Begun path given ∷ h))
       (set_R : (path name : List ℕ) (datum : Datum) (h : History) → At path → R h (Set path name datum ∷ h))

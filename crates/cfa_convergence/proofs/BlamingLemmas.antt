@@ -18,7 +18,7 @@ use Rattle.cfa_outcomes.specs.declared.outcomes.Outcome.TheVariants.{Kept, Repai
 use Rattle.cfa_resolve.specs.declared.instances.Instance.{Instance}
 use Rattle.cfa_resolve.specs.declared.instances.Work.{Work}
 use Rattle.cfa_resolve.specs.declared.instances.Work.TheVariants.{Acts, Call, Report}
-use Rattle.cfa_resolve.specs.Resolution.{resolution, reached_at, is_acting}
+use Rattle.cfa_resolve.specs.Resolution.{resolution, is_acting}
 use Rattle.cfa_served.specs.Control.{sequence_of}
 use Rattle.cfa_served.specs.Served.{bundle_of, common_bundles_of}
 use Rattle.cfa_scripts.specs.declared.blaming.Unsettled.{Unsettled}
@@ -29,7 +29,7 @@ use Rattle.cfa_walk.specs.History.{History, Where, everywhere, within, Begun, Se
 use Rattle.cfa_walk.specs.Numbered.{Numbered, numbered_in, params_of, name_of, agent_types, common_types, of_type}
 use Rattle.cfa_walk.specs.Passes.{Course, goes, too_large, then_on, told, Calls, tell, worked, visited, visit_status, visit, instances_from, set_each, handed, raise_event, raise_all, most_visits, within_limit, sets_variable, bind, acting_reached, kept_by, guarded, reach, promises_from, types_from, passes, activation, called_by, calls_of, through_common, commons_from, common_passes, by_type, type_of_block, in_sequence, sequence_from, run}
 use Rattle.cfa_walk.specs.Tellers.{Teller, inner_path}
-use Rattle.cfa_walk.specs.Views.{Setting, Home, scopes_in, global_status, status_in, guard_status}
+use Rattle.cfa_walk.specs.Views.{Setting, Home, scopes_in, global_status, status_in, guard_status, reached_in_history}
 use Rattle.cfa_walk.specs.Waits.{wait_on, wait_of_guard, waits_in, wait_of_call}
 use Rattle.cfa_walk.specs.Walks.{blame_for, blame_edit, unsettled_edits}
 use Rattle.cfa_laws.specs.Keys.{IsResolved, InstancesAreKeyed, IsLine, KeysAreLines}
@@ -133,7 +133,7 @@ module _ (s : Setting) (tells : KeysTellWorks) (keyed : InstancesAreKeyed) (know
     steps_spare =
         steps_along Spares spares_same spares_then s either_way IsDeeper Any Any IsResolved Deep_known
         (λ path at. tt) (λ path i fit deep. let same : depth i.path ≡ depth path = ap depth fit.path in let less = depth_inner i in omega arith) (λ guard act mark ok. inr tt)
-        (λ home p type h fine. keyed (reached_at s.policy p.id (scopes_in s h home) (global_status s h) home.path (type, p.promise)) fine.0.plain)
+        (λ home p type h fine. keyed (reached_in_history s h home type p) fine.0.plain)
         tt spares_begun (λ path name datum h at p low. refl) (λ place cls status source h ok p low. refl) (λ cls status source h ok p low. refl)
         spares_reached (λ path i status h fit ok p low. refl)
         (λ path i status h fit has p low. refl) (λ path i h fit is p low. refl) (λ path i h fit is p low. refl)
@@ -167,8 +167,8 @@ module _ (s : Setting) (tells : KeysTellWorks) (keyed : InstancesAreKeyed) (know
   steps_wait =
       steps_along Waits waits_same waits_then s either_way Any Any Any Line_at Known_at
       (λ path at. tt) (λ path i fit at. tt) (λ guard act mark ok. inr tt)
-      (λ home p type h fine. each_and (IsResolved home.path) IsLine (resolution (reached_at s.policy p.id (scopes_in s h home) (global_status s h) home.path (type, p.promise))).instances
-      (keyed (reached_at s.policy p.id (scopes_in s h home) (global_status s h) home.path (type, p.promise)) fine.plain) (lines (reached_at s.policy p.id (scopes_in s h home) (global_status s h) home.path (type, p.promise)) fine.plain fine.calls))
+      (λ home p type h fine. each_and (IsResolved home.path) IsLine (resolution (reached_in_history s h home type p)).instances
+      (keyed (reached_in_history s h home type p) fine.plain) (lines (reached_in_history s h home type p) fine.plain fine.calls))
       tt
       (λ path given h at p w. record { call = w.call; line = w.line; inner = w.inner; visited = w.visited; waits = w.waits })
       (λ path name datum h at p w. record { call = w.call; line = w.line; inner = w.inner; visited = w.visited; waits = w.waits })
@@ -230,7 +230,7 @@ module _ (s : Setting) (tells : KeysTellWorks) (keyed : InstancesAreKeyed) (know
 
   edits_of : (home : Home) (p : Numbered) (h : History) → Has h → Each (λ (u : Unsettled). IsGiven (blame_edit (global_source h) u)) (unsettled_edits s h home p)
   edits_of home p h ok =
-      let r = reached_at s.policy p.id (scopes_in s h home) (global_status s h) home.path (p.type, p.promise) in
+      let r = reached_in_history s h home p.type p in
       go (resolution r).unsettled (is_acting p.type) (edits_given h ok.sourced (resolution r).unsettled (resolution_traced r))
     where
       go : (us : List Unsettled) (b : Bool) → Each (λ (u : Unsettled). IsGiven (blame_edit (global_source h) u)) us → Each (λ (u : Unsettled). IsGiven (blame_edit (global_source h) u)) (cond b us [])
@@ -331,7 +331,7 @@ module _ (s : Setting) (tells : KeysTellWorks) (keyed : InstancesAreKeyed) (know
     acting_has : (p : Numbered) → IsKnown p → (type : PromiseType) → p.type ≡ type → is_acting type ≡ true → (guard : Status) → (guard ≡ No → ⊥) → (h : History) → guard_status s h home.path p.promise.guard ≡ guard → Has h → (act ≡ Maybe → IsWaiting s h home.path) →
         Always (acting_reached s walk_tells calls home act p type guard h) Has
     acting_has p k type same acting guard some h read ok waiting =
-        let r = reached_at s.policy p.id (scopes_in s h home) (global_status s h) home.path (type, p.promise) in
+        let r = reached_in_history s h home type p in
         let visits = (resolution r).visits in
         let m : History = Reached home p guard false visits ∷ h in
         limited_has (nat_le (visits + visits_in h) most_visits) (instances_from walk_tells calls guard act (resolution r).instances m) m

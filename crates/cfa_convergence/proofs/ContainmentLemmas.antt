@@ -28,7 +28,7 @@ use Rattle.cfa_walk.specs.Levels.{HasPlainNames}
 use Rattle.cfa_walk.specs.Numbered.{Numbered, numbered_in, name_of, agent_types, of_type}
 use Rattle.cfa_walk.specs.Passes.{Course, goes, too_large, told, Calls, tell, worked, visited, visit_status, visit, instances_from, set_each, raise_all, most_visits, within_limit, reached, vars_reached, classes_reached, sets_variable, acting_reached, kept_by, guarded, reach, promises_from, types_from, passes, activation, calls_of}
 use Rattle.cfa_walk.specs.Tellers.{Teller}
-use Rattle.cfa_walk.specs.Views.{Setting, Home, shared_names, shared_in, scopes_in, global_status, status_in, guard_status}
+use Rattle.cfa_walk.specs.Views.{Setting, Home, shared_names, shared_in, scopes_in, global_status, status_in, guard_status, reached_in_history}
 use Rattle.cfa_walk.specs.Walks.{unsettled_edits}
 use Rattle.cfa_convergence.specs.Conflicts.{HasActs}
 use Rattle.cfa_convergence.specs.Contained.{unfailing, IsSettled, EditsAreSettled}
@@ -72,7 +72,7 @@ module _ (s : Setting) where
   steps_settle =
       steps_along (Settles s) settles_same settles_then s either_way Any Any Any Any_at Any_home
       (λ path at. tt) (λ path i fit at. tt) (λ guard act mark ok. inr tt)
-      (λ home p type h fine. each_made Any (λ i. tt) (resolution (reached_at s.policy p.id (scopes_in s h home) (global_status s h) home.path (type, p.promise))).instances)
+      (λ home p type h fine. each_made Any (λ i. tt) (resolution (reached_in_history s h home type p)).instances)
       tt (λ path given h at st. st) (λ path name datum h at st. st) (λ place class status source h ok st. st) (λ class status source h ok st. st)
       (λ home p guard is visits h fine st. st.2) (λ path i status h fit ok st. st)
       (λ path i status h fit has st. st) (λ path i h fit is st. st) (λ path i h fit is st. st)
@@ -349,7 +349,7 @@ module _ (s : Setting) (tells : KeysTellWorks) (keyed : InstancesAreKeyed) (toge
       settled_here : p.type ≡ type → is_acting type ≡ true → (gw : Status) → Within Yes gw → EditsAreSettled s b home p gw → (resolution (resolving (scopes_in s b home) (global_status s b))).unsettled ≡ []
       settled_here is acting gw v st =
           sym (cond-true (is_acting type) (resolution (resolving (scopes_in s b home) (global_status s b))).unsettled [] acting)
-          ∙ ap (λ t. cond (is_acting t) (resolution (reached_at s.policy p.id (scopes_in s b home) (global_status s b) home.path (t, p.promise))).unsettled []) (sym is) ∙ by_guard gw v st
+          ∙ ap (λ t. cond (is_acting t) (resolution (reached_in_history s b home t p)).unsettled []) (sym is) ∙ by_guard gw v st
         where
           by_guard : (g : Status) → Within Yes g → EditsAreSettled s b home p g → unsettled_edits s b home p ≡ []
           by_guard No w e = elim w [ ]

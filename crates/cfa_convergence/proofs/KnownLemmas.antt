@@ -7,14 +7,13 @@ use Rattle.cfa_kinds.specs.declared.kinds.PromiseType.{PromiseType}
 use Rattle.cfa_resolve.specs.declared.instances.Instance.{Instance}
 use Rattle.cfa_resolve.specs.declared.instances.Work.{Work}
 use Rattle.cfa_resolve.specs.declared.instances.Work.TheVariants.{Acts, Call, Report}
-use Rattle.cfa_resolve.specs.Resolution.{reached_at}
 use Rattle.cfa_served.specs.Control.{sequence_of}
 use Rattle.cfa_served.specs.Served.{common_bundles_of}
 use Rattle.cfa_tree.specs.Tree.{BlockTree}
 use Rattle.cfa_walk.specs.History.{History, Begun, Set, Raised, Reached, Listed, Told}
 use Rattle.cfa_walk.specs.Numbered.{numbered_in, name_of, common_types, of_type}
 use Rattle.cfa_walk.specs.Passes.{goes, visit_status, run}
-use Rattle.cfa_walk.specs.Views.{Setting, scopes_in, global_status}
+use Rattle.cfa_walk.specs.Views.{Setting, reached_in_history}
 use Rattle.cfa_convergence.specs.Conflicts.{HasActs, was_visited}
 use Rattle.cfa_convergence.specs.Contained.{with_acts, actuations}
 use Rattle.cfa_laws.specs.Keys.{IsKeyed, IsResolved, InstancesAreKeyed}
@@ -66,7 +65,7 @@ module _ (s : Setting) (tells : Telling) (keyed : InstancesAreKeyed) (known : Ha
       run_level s tells tells (Kept_along Stays_known (λ h t. t) (λ a b c r q t. q (r t))) Any Any IsReal IsResolved Known_at
       (steps_along Stays_known (λ h t. t) (λ a b c r q t. q (r t)) s tells Any Any IsReal IsResolved Known_at
       (λ path at. tt) (λ path i fit at. tt) (λ guard act mark ok. no_or_real (visit_status guard act mark))
-      (λ home p type h fine. keyed (reached_at s.policy p.id (scopes_in s h home) (global_status s h) home.path (type, p.promise)) fine.plain)
+      (λ home p type h fine. keyed (reached_in_history s h home type p) fine.plain)
       (λ e. cc) (λ path given h at t. t) (λ path name datum h at t. t) (λ place class status source h ok t. t) (λ class status source h ok t. t)
       (λ home p guard is visits h fine t. t) (λ path i status h fit ok t. (fit.key, ok, t))
       (λ path i status h fit has t. (fit.key, (λ acts. just_visited i status h), t))

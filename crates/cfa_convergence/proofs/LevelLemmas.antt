@@ -19,7 +19,7 @@ use Rattle.cfa_resolve.specs.declared.instances.Instance.{Instance}
 use Rattle.cfa_resolve.specs.declared.instances.Resolved.{Resolved}
 use Rattle.cfa_resolve.specs.declared.instances.Work.{Work}
 use Rattle.cfa_resolve.specs.declared.instances.Work.TheVariants.{Acts, Call, Report}
-use Rattle.cfa_resolve.specs.Resolution.{resolution, reached_at}
+use Rattle.cfa_resolve.specs.Resolution.{resolution}
 use Rattle.cfa_served.specs.Control.{sequence_of}
 use Rattle.cfa_served.specs.Served.{bundle_of, common_bundles_of}
 use Rattle.cfa_tree.specs.Tree.{NamedTree, BlockTree}
@@ -29,7 +29,7 @@ use Rattle.cfa_walk.specs.History.{History, Where, everywhere, within, Begun, Se
 use Rattle.cfa_walk.specs.Numbered.{Numbered, numbered_in, params_of, name_of, agent_types, common_types, is_type, of_type}
 use Rattle.cfa_walk.specs.Passes.{Course, goes, too_large, then_on, each, told, Calls, tell, worked, visited, visit_status, visit, instances_from, set_each, handed, raise_all, most_visits, within_limit, reached, vars_reached, classes_reached, sets_variable, bind, acting_reached, kept_by, guarded, reach, promises_from, types_from, passes, through, activation, called_by, calls_of, all_calls, through_common, commons_from, common_passes, by_type, type_of_block, in_sequence, sequence_from, run}
 use Rattle.cfa_walk.specs.Tellers.{inner_path}
-use Rattle.cfa_walk.specs.Views.{Setting, Home, scopes_in, global_status, status_in, guard_status}
+use Rattle.cfa_walk.specs.Views.{Setting, Home, scopes_in, status_in, guard_status, reached_in_history}
 use Rattle.cfa_convergence.specs.Conflicts.{HasActs}
 use Rattle.cfa_convergence.specs.Told.{Telling, teller_of}
 
@@ -56,7 +56,7 @@ pub record Steps
   pub inner : (path : List ℕ) (i : Instance) → Fit path i → At path → At (inner_path i)
   pub visit_is : (guard act mark : Status) → S act → (visit_status guard act mark ≡ No) ⊎ S (visit_status guard act mark)
   pub fits : (home : Home) (p : Numbered) (type : PromiseType) (h : History) → Fine home p →
-      Each (Fit home.path) (resolution (reached_at s.policy p.id (scopes_in s h home) (global_status s h) home.path (type, p.promise))).instances
+      Each (Fit home.path) (resolution (reached_in_history s h home type p)).instances
   pub begins : (path : List ℕ) (given : List Datum) (h : History) → At path → Q h (goes (Begun path given ∷ h)) (goes (Begun path given ∷ h))
   pub sets : (path name : List ℕ) (datum : Datum) (h : History) → At path → Q h (goes (Set path name datum ∷ h)) (goes (Set path name datum ∷ h))
   pub raises : (place : Where) (class : List ℕ) (status : Status) (source : Option PromiseId) (h : History) → Place place →
@@ -170,7 +170,7 @@ module _ (s : Setting) (tells others : Telling) (Q : History → Course → Cour
       acting_level : (p : Numbered) (type : PromiseType) (guard : Status) → Fine home p → (h : History) →
           Q h (acting_reached s (teller_of tells) activate home act p type guard h) (acting_reached s (teller_of others) other home act p type guard h)
       acting_level p type guard fine h =
-          let r : Resolved = resolution (reached_at s.policy p.id (scopes_in s h home) (global_status s h) home.path (type, p.promise)) in
+          let r : Resolved = resolution (reached_in_history s h home type p) in
           reached_level home p fine guard false r.visits (instances_from (teller_of tells) activate guard act r.instances) (instances_from (teller_of others) other guard act r.instances)
           (instances_level guard r.instances (k.fits home p type h fine)) h
 

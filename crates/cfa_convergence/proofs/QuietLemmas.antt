@@ -9,13 +9,12 @@ use Rattle.cfa_classes.specs.Status.{greater}
 use Rattle.cfa_outcomes.specs.declared.outcomes.Outcome.{Outcome}
 use Rattle.cfa_outcomes.specs.declared.outcomes.Outcome.TheVariants.{Kept, Repaired}
 use Rattle.cfa_resolve.specs.declared.instances.Instance.{Instance}
-use Rattle.cfa_resolve.specs.Resolution.{reached_at}
 use Rattle.cfa_vars.specs.declared.scoping.Datum.{Datum}
 use Rattle.cfa_vars.specs.Named.{put}
 use Rattle.cfa_walk.specs.History.{History, Where, everywhere, within, Begun, Set, Raised, Reached, Listed, Told, scope_in, globally, locally, mark_in}
 use Rattle.cfa_walk.specs.Numbered.{Numbered}
 use Rattle.cfa_walk.specs.Tellers.{inner_path}
-use Rattle.cfa_walk.specs.Views.{Setting, Home, scopes_in, global_status}
+use Rattle.cfa_walk.specs.Views.{Setting, Home, reached_in_history}
 use Rattle.cfa_laws.specs.Keys.{IsPlainId, IsResolved, InstancesAreKeyed}
 use Rattle.cfa_convergence.specs.Told.{Telling}
 use Rattle.cfa_convergence.proofs.AlwaysLemmas.{Kept_along, steps_along}
@@ -132,6 +131,6 @@ module _ (Open : List ℕ → Type 0) where
       steps_quiet =
           steps_along Quiet quiet_same quiet_then s either_way IsDeep IsDeepPlace (λ status. status ≡ Maybe) IsResolved Fine
           (λ path deep. deep) inner_deep maybe_visit
-          (λ home p type h fine. keyed (reached_at s.policy p.id (scopes_in s h home) (global_status s h) home.path (type, p.promise)) (plain home p fine))
+          (λ home p type h fine. keyed (reached_in_history s h home type p) (plain home p fine))
           refl quiet_begun quiet_set quiet_raised quiet_global (λ home p guard is visits h fine. quiet_reached home p guard is visits h) (λ path i status h fit is. quiet_listed i status h is)
           (λ path i status h fit has. quiet_told i (Kept ∷ Repaired ∷ []) (Listed i status ∷ h)) (λ path i h fit is. quiet_told i (Kept ∷ []) h) (λ path i h fit is. quiet_told i (Kept ∷ Repaired ∷ []) h)

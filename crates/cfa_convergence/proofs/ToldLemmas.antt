@@ -8,14 +8,14 @@ use Rattle.cfa_outcomes.specs.declared.outcomes.Outcome.TheVariants.{Kept}
 use Rattle.cfa_resolve.specs.declared.instances.Instance.{Instance}
 use Rattle.cfa_resolve.specs.declared.instances.Work.{Work}
 use Rattle.cfa_resolve.specs.declared.instances.Work.TheVariants.{Acts, Call, Report}
-use Rattle.cfa_resolve.specs.Resolution.{resolution, reached_at}
+use Rattle.cfa_resolve.specs.Resolution.{resolution}
 use Rattle.cfa_served.specs.Control.{sequence_of}
 use Rattle.cfa_served.specs.Served.{common_bundles_of}
 use Rattle.cfa_tree.specs.Tree.{BlockTree}
 use Rattle.cfa_walk.specs.History.{History, everywhere, Raised, Listed, Told}
 use Rattle.cfa_walk.specs.Numbered.{Numbered, numbered_in, name_of, common_types, of_type}
 use Rattle.cfa_walk.specs.Passes.{Course, goes, too_large, then_on, told, raised_to, in_every_list, classes_for, raise_each, raise_lists, run}
-use Rattle.cfa_walk.specs.Views.{Setting, Home, scopes_in, global_status}
+use Rattle.cfa_walk.specs.Views.{Setting, Home, reached_in_history}
 use Rattle.cfa_convergence.specs.Conflicts.{HasActs}
 use Rattle.cfa_convergence.specs.Told.{Telling, teller_of, TellAlike, outcomes_by, IsToldBy, RunsAreDetermined, RunsAreTold}
 use Rattle.cfa_convergence.proofs.LevelLemmas.{IsCall, IsReport, Steps, run_level}
@@ -79,7 +79,7 @@ module _ (s : Setting) (tells others : Telling) where
     placed = λ path at. tt;
     inner = λ path i fit at. tt;
     visit_is = λ guard act mark ok. inr tt;
-    fits = λ home p type h fine. each_made Any (λ i. tt) (resolution (reached_at s.policy p.id (scopes_in s h home) (global_status s h) home.path (type, p.promise))).instances;
+    fits = λ home p type h fine. each_made Any (λ i. tt) (resolution (reached_in_history s h home type p)).instances;
     begins = λ path given h at alike. (alike, refl);
     sets = λ path name datum h at alike. (alike, refl);
     raises = λ place class status source h ok alike. (alike, refl);
@@ -132,7 +132,7 @@ module _ (s : Setting) (tells : Telling) where
       run_level s tells tells (Kept_along Stays_told (λ h t. t) (λ a b c r q t. q (r t))) Any Any Any Any_at Any_home
       (steps_along Stays_told (λ h t. t) (λ a b c r q t. q (r t)) s tells Any Any Any Any_at Any_home
       (λ path at. tt) (λ path i fit at. tt) (λ guard act mark ok. inr tt)
-      (λ home p type h fine. each_made Any (λ i. tt) (resolution (reached_at s.policy p.id (scopes_in s h home) (global_status s h) home.path (type, p.promise))).instances)
+      (λ home p type h fine. each_made Any (λ i. tt) (resolution (reached_in_history s h home type p)).instances)
       tt (λ path given h at t. t) (λ path name datum h at t. t) (λ place class status source h ok t. t) (λ class status source h ok t. t)
       (λ home p guard is visits h fine t. t) (λ path i status h fit ok t. t)
       (λ path i status h fit has t. (of_acts (Listed i status ∷ h) i i.work has, t))

@@ -13,7 +13,7 @@ use Rattle.std.specs.Prelude.{◌+◌, nat_le}
 use Rattle.cfa_defines.specs.ClassPromises.{Raise, raises_of}
 use Rattle.cfa_defines.specs.FirstMaybe.{first_maybe_of_guard}
 use Rattle.cfa_defines.specs.VarsPromises.{setting_choices, count_choices, data_set}
-use Rattle.cfa_resolve.specs.Resolution.{resolution, reached_at}
+use Rattle.cfa_resolve.specs.Resolution.{resolution}
 use Rattle.cfa_outcomes.specs.declared.outcomes.Outcome.{Outcome}
 use Rattle.cfa_outcomes.specs.declared.outcomes.Outcome.TheVariants.{Kept}
 use Rattle.cfa_resolve.specs.declared.instances.Instance.{Instance}
@@ -26,7 +26,7 @@ use Rattle.cfa_walk.specs.History.{History, Where, Begun, Reached, Listed, Told,
 use Rattle.cfa_walk.specs.Numbered.{Numbered, numbered_in, params_of, agent_types, of_type}
 use Rattle.cfa_walk.specs.Passes.{most_visits, Course, goes, too_large, then_on, each, classes_for, raise_each, raise_lists, told, Calls, tell, worked, unless_skipped, visited, visit, visit_status, set_each, raise_all, within_limit, reached, vars_reached, classes_reached, bind, acting_reached, kept_by, guarded, reach, promises_from, types_from, passes, through, activation, called_by, calls_of}
 use Rattle.cfa_walk.specs.Tellers.{Teller, inner_path}
-use Rattle.cfa_walk.specs.Views.{Setting, Home, scopes_in, global_status, status_in, guard_status}
+use Rattle.cfa_walk.specs.Views.{Setting, Home, scopes_in, status_in, guard_status, reached_in_history}
 
 -- a text that was refused for its size is one that the call builds
 pub size_refused : (Builds : List ℕ → Type 0) (refused : Option (List ℕ)) (text : List ℕ) (pats pats' : Shown (List (List ℕ))) → refused ≡ Some text → SizeRefusal Builds refused pats pats' → Builds text
@@ -146,7 +146,7 @@ module _ (s : Setting) (content : List ℕ) where
 
     pub acting_kept : (p : Numbered) (type : PromiseType) (guard : Status) → KeepsBuilt (acting_reached s t activate home act p type guard)
     acting_kept p type guard h built =
-        let r : Resolved = resolution (reached_at s.policy p.id (scopes_in s h home) (global_status s h) home.path (type, p.promise)) in
+        let r : Resolved = resolution (reached_in_history s h home type p) in
         reached_kept home p guard false r.visits (each (visit t activate guard act) r.instances) (instances_kept guard r.instances) h built
 
     kept_by_kept : (p : Numbered) (type : PromiseType) (guard : Status) → KeepsBuilt (kept_by s t activate place home act p type guard)

@@ -36,7 +36,7 @@ use Rattle.cfa_walk.specs.Builds.{BuiltOn, BuiltWhere}
 use Rattle.cfa_walk.specs.Passes.{Course, within_limit, most_visits, calls_of, instances_from}
 use Rattle.cfa_walk.specs.Steps.{acting_level, instances_level, resolution_at, reached_event, Counts, IsAt}
 use Rattle.cfa_walk.specs.Tellers.{Teller}
-use Rattle.cfa_walk.specs.Views.{Setting, Home, scopes_in, global_status}
+use Rattle.cfa_walk.specs.Views.{Setting, Home, scopes_in, global_status, reached_in_history}
 use Rattle.cfa_base.specs.Patterns.{SizeRefusal}
 use Rattle.cfa_walk.proofs.BuiltLemmas.{size_refused, built_where, calls_kept, instances_kept, limited_kept}
 use Rattle.cfa_walk.proofs.LevelLemmas.{goes_weaker, patterns_then}
@@ -158,7 +158,7 @@ module _ (policy : PolicyTree) (p : Numbered) (scopes : InScope) (statuses : Sta
       ∙ ap (λ (x : PolicyTree). resolution (reached_at x p.id (scopes_in s h home) (global_status s h) home.path (p.type, p.promise))) (sym stands.0))))
 
   reached_is : (s : Setting) (home : Home) (status : Status) (h : History) → StandsAt policy s home status st a h →
-      seen_at policy p scopes statuses a.path ≡ reached_at s.policy p.id (scopes_in s h home) (global_status s h) home.path (p.type, p.promise)
+      seen_at policy p scopes statuses a.path ≡ reached_in_history s h home p.type p
   reached_is s home status h stands =
       let its : Home = home_of a in
       ap (λ (x : InScope). reached_at policy p.id x (status_in statuses) a.path (p.type, p.promise)) (sees s h stands.1.1.1)

@@ -6,18 +6,18 @@ use Rattle.cfa_classes.specs.declared.levels.Status.TheVariants.{No, Maybe, Yes}
 use Rattle.cfa_kinds.specs.declared.kinds.PromiseType.TheVariants as promises
 use Rattle.cfa_defines.specs.Builds.{BuiltBy}
 use Rattle.cfa_defines.specs.VarsPromises.{setting_choices}
-use Rattle.cfa_resolve.specs.Resolution.{IsBuiltFor, reached_at}
+use Rattle.cfa_resolve.specs.Resolution.{IsBuiltFor}
 use Rattle.cfa_walk.specs.History.{History, Home, Begun, Set, Raised, Reached, Listed, Told}
 use Rattle.cfa_walk.specs.Numbered.{Numbered}
 use Rattle.cfa_walk.specs.Passes.{Course, goes, too_large}
-use Rattle.cfa_walk.specs.Views.{Setting, scopes_in, global_status}
+use Rattle.cfa_walk.specs.Views.{Setting, scopes_in, reached_in_history}
 
 module _ (s : Setting) where
   -- of a promise: the calls of its expressions build some, and its edit bundle
   abbrev pub BuiltAt : History → Home → Numbered → (text : List ℕ) → Type 0
   BuiltAt h home p text =
       BuiltBy (scopes_in s h home) p.promise (setting_choices (scopes_in s h home) promises.Classes p.promise) text
-      ⊎ IsBuiltFor (reached_at s.policy p.id (scopes_in s h home) (global_status s h) home.path (p.type, p.promise)) text
+      ⊎ IsBuiltFor (reached_in_history s h home p.type p) text
 
   -- of a promise that is reached with this status of its guard
   abbrev pub BuiltWhere : (guard : Status) → History → Home → Numbered → (text : List ℕ) → Type 0

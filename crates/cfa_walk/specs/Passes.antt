@@ -24,13 +24,13 @@ use Rattle.cfa_resolve.specs.declared.instances.Instance.{Instance}
 use Rattle.cfa_resolve.specs.declared.instances.Resolved.{Resolved}
 use Rattle.cfa_resolve.specs.declared.instances.Work.{Work}
 use Rattle.cfa_resolve.specs.declared.instances.Work.TheVariants.{Acts, Call, Report}
-use Rattle.cfa_resolve.specs.Resolution.{resolution, reached_at, is_listed}
+use Rattle.cfa_resolve.specs.Resolution.{resolution, is_listed}
 use Rattle.cfa_outcomes.specs.declared.outcomes.Outcome.{Outcome}
 use Rattle.cfa_outcomes.specs.declared.outcomes.Outcome.TheVariants.{Kept, Repaired, Failed}
 use Rattle.cfa_walk.specs.declared.states.TheConstants.{MOST_VISITS}
 use Rattle.cfa_walk.specs.History.{History, Where, everywhere, within, Begun, Set, Raised, Reached, Listed, Told, mark_in, visits_in}
 use Rattle.cfa_walk.specs.Numbered.{Numbered, numbered_in, params_of, name_of, agent_types, common_types, of_type}
-use Rattle.cfa_walk.specs.Views.{Setting, Home, scopes_in, global_status, status_in, guard_status, source_of}
+use Rattle.cfa_walk.specs.Views.{Setting, Home, scopes_in, status_in, guard_status, source_of, reached_in_history}
 use Rattle.cfa_defines.specs.FirstMaybe.{first_maybe_of_guard}
 use Rattle.cfa_defines.specs.VarsPromises.{setting_choices, count_choices, data_set}
 use Rattle.cfa_defines.specs.ClassPromises.{Raise, raises_of}
@@ -190,7 +190,7 @@ module _ (s : Setting) (teller : Teller) where
   abbrev pub acting_reached : Calls → Home → (activation : Status) → Numbered → PromiseType → Status → History → Course
   acting_reached activate home activation p type guard h =
       instances_reached activate home activation p guard
-      (resolution (reached_at s.policy p.id (scopes_in s h home) (global_status s h) home.path (type, p.promise))) h
+      (resolution (reached_in_history s h home type p)) h
 
   -- a promise whose guard may hold; no agent bundle has others
   abbrev pub kept_by : Calls → Where → Home → (activation : Status) → Numbered → PromiseType → Status → History → Course

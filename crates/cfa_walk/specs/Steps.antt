@@ -3,7 +3,7 @@ use Rattle.std.specs.Prelude.{◌≡◌, ℕ, ◌+◌, nat_le, Bool, true, false
 use Rattle.cfa_base.specs.Shown.{Shown}
 use Rattle.cfa_schema.specs.Laws.{IsCounted}
 use Rattle.cfa_resolve.specs.declared.instances.Resolved.{Resolved}
-use Rattle.cfa_resolve.specs.Resolution.{resolution, reached_at}
+use Rattle.cfa_resolve.specs.Resolution.{resolution}
 use Rattle.cfa_walk.specs.declared.activations.Activation.{Activation}
 use Rattle.cfa_output.specs.declared.ends.Stop.{Stop}
 use Rattle.cfa_output.specs.declared.ends.Stop.TheVariants.{Outside, Memory, Visits, Pattern}
@@ -24,7 +24,7 @@ use Rattle.cfa_walk.specs.Numbered.{Numbered, of_type, agent_types, common_types
 use Rattle.cfa_walk.specs.Builds.{BuiltOn, BuiltWhere}
 use Rattle.cfa_walk.specs.Passes.{Course, goes, most_visits, reached, visit, instances_from, acting_reached, reach, promises_from, types_from, passes, calls_of, vars_reached, classes_reached, sets_variable}
 use Rattle.cfa_walk.specs.Tellers.{Teller, inner_path}
-use Rattle.cfa_walk.specs.Views.{Setting, Home, scopes_in, global_status}
+use Rattle.cfa_walk.specs.Views.{Setting, Home, scopes_in, reached_in_history}
 use Rattle.cfa_defines.specs.VarsPromises.{setting_choices}
 
 -- ---- promises
@@ -104,7 +104,7 @@ AreCounted ps = All (λ (p : Numbered). IsCounted p.id) ps
 -- what a promise resolves to, where it is reached
 abbrev pub resolution_at : Setting → Home → Numbered → History → Resolved
 resolution_at s home p h =
-    resolution (reached_at s.policy p.id (scopes_in s h home) (global_status s h) home.path (p.type, p.promise))
+    resolution (reached_in_history s h home p.type p)
 
 abbrev pub reached_event : Home → Numbered → (guard : Status) → Resolved → History → History
 reached_event home p guard resolved h = Reached home p guard false resolved.visits ∷ h

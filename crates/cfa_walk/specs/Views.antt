@@ -10,10 +10,12 @@ use Rattle.cfa_classes.specs.Status.{greater, value_of}
 use Rattle.cfa_served.specs.Control.{sequence_of}
 use Rattle.cfa_served.specs.Served.{common_bundles_of}
 use Rattle.cfa_vars.specs.Scopes.{Table, InScope}
-use Rattle.cfa_resolve.specs.Resolution.{is_listed}
+use Rattle.cfa_kinds.specs.declared.kinds.PromiseType.{PromiseType}
+use Rattle.cfa_resolve.specs.Instances.{Reached}
+use Rattle.cfa_resolve.specs.Resolution.{is_listed, reached_at}
 pub use Rattle.cfa_walk.specs.History.{Home}
 use Rattle.cfa_walk.specs.History.{History, scope_in, globally, locally, source_in}
-use Rattle.cfa_walk.specs.Numbered.{name_of}
+use Rattle.cfa_walk.specs.Numbered.{Numbered, name_of}
 
 -- a checked policy and the classes that are set from the start
 pub record Setting : Type 0 where
@@ -52,6 +54,13 @@ status_in s h path name = greater (global_status s h name) (locally h path name)
 abbrev pub guard_status : Setting → History → (path : List ℕ) → Option ExprTree → Status
 guard_status s h path None = Yes
 guard_status s h path (Some guard) = value_of guard (status_in s h path)
+
+-- ---- a promise that is reached
+
+-- a promise of this type, with what it reads
+abbrev pub reached_in_history : Setting → History → Home → PromiseType → Numbered → Reached
+reached_in_history s h home type p =
+    reached_at s.policy p.id (scopes_in s h home) (global_status s h) home.path (type, p.promise)
 
 -- ---- the class that a guard waits for
 

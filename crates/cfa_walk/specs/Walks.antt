@@ -8,7 +8,7 @@ use Rattle.cfa_classes.specs.declared.levels.Status.{Status}
 use Rattle.cfa_classes.specs.declared.levels.Status.TheVariants.{No, Maybe, Yes}
 use Rattle.cfa_scripts.specs.declared.blaming.Unsettled.{Unsettled}
 use Rattle.cfa_resolve.specs.declared.instances.Instance.{Instance}
-use Rattle.cfa_resolve.specs.Resolution.{resolution, reached_at, is_acting}
+use Rattle.cfa_resolve.specs.Resolution.{resolution, is_acting}
 use Rattle.cfa_walk.specs.declared.logs.Listing.{Listing}
 use Rattle.cfa_walk.specs.declared.waits.Wait.{Wait}
 use Rattle.cfa_walk.specs.declared.walks.Blame.{Blame}
@@ -16,7 +16,7 @@ use Rattle.cfa_walk.specs.declared.walks.Visit.{Visit}
 use Rattle.cfa_walk.specs.declared.walks.Walk.{Walk}
 use Rattle.cfa_walk.specs.History.{History, Home, Begun, Set, Raised, Reached, Listed, Told, is_named, global_source}
 use Rattle.cfa_walk.specs.Numbered.{Numbered}
-use Rattle.cfa_walk.specs.Views.{Setting, scopes_in, global_status}
+use Rattle.cfa_walk.specs.Views.{Setting, reached_in_history}
 use Rattle.cfa_walk.specs.Waits.{is_first, wait_on, wait_of_guard, waits_in}
 
 -- ---- instances
@@ -91,7 +91,7 @@ blame_edit source_of u = option_map (blame_for u.promise) (wait_on u.class (sour
 abbrev pub unsettled_edits : Setting → History → Home → Numbered → List Unsettled
 unsettled_edits s h home promise =
     if is_acting promise.type
-    then (resolution (reached_at s.policy promise.id (scopes_in s h home) (global_status s h) home.path (promise.type, promise.promise))).unsettled
+    then (resolution (reached_in_history s h home promise.type promise)).unsettled
     else []
 
 -- a promise whose guard isn't set doesn't walk its edit bundle
