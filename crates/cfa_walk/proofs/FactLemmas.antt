@@ -1,4 +1,4 @@
--- The names of shared scopes are words, and the ids of promises are counted.
+-- That shared names are plain is a proposition, and the ids of promises are counted.
 use Rattle.std.proofs.Common.{◌≡◌, ◌∙◌, ℕ, ◌+◌, Bool, false, List, [], ◌∷◌, ◌++◌, map, All, Option, Some, None, refl, ap, sym, subst}
 use Rattle.std.specs.List.{Contains, cons_option, flat_map}
 use Rattle.std.proofs.Math.Bool.{Bool-set}
@@ -18,7 +18,7 @@ use Rattle.cfa_walk.specs.Numbered.{Numbered, numbered_as, numbered_from, number
 use Rattle.cfa_walk.specs.Steps.{AreCounted}
 use Rattle.cfa_walk.specs.Views.{shared_names}
 
--- ---- names
+-- ---- lists and names
 
 all_left : {X : Type 0} (P : X → Type 0) (xs ys : List X) → All P (xs ++ ys) → All P xs
 all_left P xs ys all = All-weaker (Contains xs) P (λ x on. All-contains P (xs ++ ys) x all (Contains-append_left xs ys x on)) xs (All-contains_itself xs)
