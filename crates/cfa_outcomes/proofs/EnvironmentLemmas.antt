@@ -4,9 +4,9 @@ use Rattle.std.proofs.lemmas.Bool.{false≢true, false_from_ne_true}
 use Rattle.std.proofs.lemmas.List.Folds.{list_any_more}
 use Rattle.std.proofs.lemmas.Map.Steps.{set_value_same}
 use Rattle.std.proofs.lemmas.Slice.Eq.{bytes_eq-Decides}
-use Rattle.std.specs.HashMap as hash
 use Rattle.std.specs.Cmp.Lexicographic.{nat_list_cmp_total}
 use Rattle.std.specs.FinMap as finite
+use Rattle.std.specs.HashMap as hash
 use Rattle.std.specs.Option.{option_or}
 use Rattle.std.specs.Prelude.{String, IsSome}
 use Rattle.std.specs.Str.{bytes_eq}

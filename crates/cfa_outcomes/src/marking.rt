@@ -11,8 +11,8 @@ use std::alloc::Global;
 use std::collections::HashMap;
 use std::marker::Model;
 
-// By the hashes of paths, and of one path by those of texts. A look-up and a change cost as much as the path and the text
-// are long, however many there are.
+// By the hashes of paths, and of one path by those of texts. As a rule a look-up and a change cost what it takes to hash and
+// compare one path and one text, however many there are.
 #[derive(Drop)]
 pub struct Marks {
     rows: HashMap<String, TextMarks>,
