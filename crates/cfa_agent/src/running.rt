@@ -65,8 +65,8 @@ pub fn run<S: Site, O: Sink, P: Patterns>(
         (O.shown out.old) (O.shown out.new) tally) (S.shown site.old) (S.shown site.new)) }
     ensures calm { OnOk result ((O.shown out.new).faults ≡ (O.shown out.old).faults) }
     // A run is stopped by too many visits only where its definition has too many.
-    ensures too_large { IsErrOf result Stop.Visits → IfBothTold (λ before after.
-        IsTooLarge (run_of (setting_of checked.now context.now) (started moment locks before after)))
+    ensures too_large { IsErrOf result Stop.Visits → IfBothTold (λ before after. IsTooLarge
+        (run_of (setting_of checked.now context.now) (started moment locks before after)))
         (S.shown site.old) (S.shown site.new) }
     ensures stopped { IfErr result
         (StopsRun (S.shown site.old) (S.shown site.new) (O.shown out.old) (O.shown out.new)) }
