@@ -2,5 +2,4 @@ pub mod CalendarLemmas
 pub mod CalendarRows
 pub mod ClassRows
 pub mod DayLemmas
-pub mod Orders
 pub mod Turns

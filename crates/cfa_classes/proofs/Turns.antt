@@ -10,7 +10,7 @@ use Rattle.cfa_tree.specs.lemmas.Rows.{plain_expr-And, plain_expr-Or}
 use Rattle.cfa_classes.specs.declared.levels.Status.{Status}
 use Rattle.cfa_classes.specs.declared.levels.Status.TheVariants.{No, Yes}
 use Rattle.cfa_classes.specs.Status.{lesser, greater, value_of, least_of, greatest_of}
-use Rattle.cfa_classes.proofs.Orders.{lesser_assoc, greater_assoc, lesser_Yes, greater_No}
+use Rattle.cfa_classes.specs.lemmas.Orders.{lesser_assoc, greater_assoc, lesser_Yes, greater_No}
 
 -- the expressions of some parts
 abbrev pub plain_parts : List Expr → ExprTrees

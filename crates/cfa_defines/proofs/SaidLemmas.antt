@@ -2,8 +2,8 @@
 use Rattle.std.proofs.Common.{◌≡◌, ◌∙◌, ℕ, List, [], ◌∷◌, ◌++◌, ap, sym, refl, Option, Some, None}
 use Rattle.std.specs.Option.{option_or}
 use Rattle.cfa_classes.specs.declared.levels.Status.{Status}
-use Rattle.cfa_classes.specs.declared.levels.Status.TheVariants.{No, Maybe, Yes}
 use Rattle.cfa_classes.specs.Status.{lesser, greater}
+use Rattle.cfa_classes.specs.lemmas.Orders.{lesser_assoc, greater_assoc, lesser_Yes, greater_No}
 use Rattle.cfa_defines.specs.declared.saying.Said.{Said}
 use Rattle.cfa_defines.specs.declared.saying.Said.TheVariants.{Says as says, NoExpression as no_expression, Stops as stops}
 use Rattle.cfa_defines.specs.declared.saying.Join.{Join}
@@ -11,35 +11,7 @@ use Rattle.cfa_defines.specs.declared.saying.Join.TheVariants.{All as of_all, On
 use Rattle.cfa_defines.specs.ClassPromises.{joined}
 use Rattle.cfa_defines.specs.Joining.{operation, together}
 
--- ---- the order of the statuses
-
-lesser_assoc : (a b c : Status) → lesser (lesser a b) c ≡ lesser a (lesser b c)
-lesser_assoc No b c = refl
-lesser_assoc Maybe No c = refl
-lesser_assoc Maybe Maybe No = refl
-lesser_assoc Maybe Maybe Maybe = refl
-lesser_assoc Maybe Maybe Yes = refl
-lesser_assoc Maybe Yes c = refl
-lesser_assoc Yes b c = refl
-
-greater_assoc : (a b c : Status) → greater (greater a b) c ≡ greater a (greater b c)
-greater_assoc No b c = refl
-greater_assoc Maybe No c = refl
-greater_assoc Maybe Maybe No = refl
-greater_assoc Maybe Maybe Maybe = refl
-greater_assoc Maybe Maybe Yes = refl
-greater_assoc Maybe Yes c = refl
-greater_assoc Yes b c = refl
-
-lesser_Yes : (a : Status) → lesser a Yes ≡ a
-lesser_Yes No = refl
-lesser_Yes Maybe = refl
-lesser_Yes Yes = refl
-
-greater_No : (a : Status) → greater a No ≡ a
-greater_No No = refl
-greater_No Maybe = refl
-greater_No Yes = refl
+-- ---- the first of several texts
 
 or_assoc : (f g h : Option (List ℕ)) → option_or (option_or f g) h ≡ option_or f (option_or g h)
 or_assoc None g h = refl
