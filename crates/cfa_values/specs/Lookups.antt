@@ -1,31 +1,16 @@
 -- Lemmas: an item of a list passes a test where there is a first that does.
-use Rattle.std.proofs.Common.{◌≡◌, ◌<◌, ◌+◌, ℕ, suc, Bool, true, false, cond, List, [], ◌∷◌, length, Option, Some, None, refl, sym, ◌∙◌, arith}
-use Rattle.std.specs.Prelude.{nat_lt, ◌||◌, not, is_some, is_none}
+use Rattle.std.proofs.Common.{◌≡◌, Bool, true, false, cond, List, length, Option, Some, None, refl, sym, ◌∙◌, arith}
+use Rattle.std.specs.Prelude.{nat_lt, not, is_some, is_none}
 use Rattle.std.specs.List.{position, position_or_len, list_any}
 use Rattle.std.proofs.lemmas.List.Sums.{prefix_len-le-length}
 use Rattle.std.proofs.lemmas.Bool.Decides.{nat_tests}
+use Rattle.cfa_vars.specs.lemmas.Names.{list_any-some, list_any-none}
 
 module _ {X : Type 0} (p : X → Bool) where
-  none_at_front : (t : Bool) (n m : ℕ) (rest : Bool) → cond (not t) (1 + n) 0 ≡ suc m → (n ≡ m → rest ≡ false) → (t || rest) ≡ false
-  none_at_front true n m rest h f = cc
-  none_at_front false n m rest h f = f (omega arith)
-
-  list_any-none : (xs : List X) → position_or_len p xs ≡ length xs → list_any p xs ≡ false
-  list_any-none [] h = refl
-  list_any-none (x ∷ xs) h = none_at_front (p x) (position_or_len p xs) (length xs) (list_any p xs) h (list_any-none xs)
-
-  some_at_front : (t : Bool) (n m : ℕ) (rest : Bool) → cond (not t) (1 + n) 0 < suc m → (n < m → rest ≡ true) → (t || rest) ≡ true
-  some_at_front true n m rest h f = refl
-  some_at_front false n m rest h f = f (omega arith)
-
-  list_any-some : (xs : List X) → position_or_len p xs < length xs → list_any p xs ≡ true
-  list_any-some [] h = absurd (omega arith)
-  list_any-some (x ∷ xs) h = some_at_front (p x) (position_or_len p xs) (length xs) (list_any p xs) h (list_any-some xs)
-
   by_place : (xs : List X) (b : Bool) → nat_lt (position_or_len p xs) (length xs) ≡ b →
       is_some (cond b (Some (position_or_len p xs)) None) ≡ list_any p xs
-  by_place xs true e = sym (list_any-some xs (grind (arith, nat_tests)))
-  by_place xs false e = sym (list_any-none xs (let most = prefix_len-le-length (λ x. not (p x)) xs in grind (arith, nat_tests)))
+  by_place xs true e = sym (list_any-some p xs (grind (arith, nat_tests)))
+  by_place xs false e = sym (list_any-none p xs (let most = prefix_len-le-length (λ x. not (p x)) xs in grind (arith, nat_tests)))
 
   pub has_position : (xs : List X) → is_some (position p xs) ≡ list_any p xs
   has_position xs = by_place xs _ refl

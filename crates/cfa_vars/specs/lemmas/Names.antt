@@ -1,4 +1,4 @@
--- The names that a text refers to, from its first reference on, and whether some byte of a name passes a test.
+-- The names that a text refers to, from its first reference on, and whether some item of a list passes a test.
 use Rattle.std.proofs.Common.{◌≡◌, ◌<◌, ◌+◌, ℕ, Bool, true, false, cond, not, ◌||◌, suc, List, [], ◌∷◌, ◌++◌, length, map, refl, arith, ap, sym, ◌∙◌}
 use Rattle.std.specs.List.{filter_map, position_or_len, list_any}
 use Rattle.std.proofs.lemmas.List.{append-nil}
