@@ -1,84 +1,22 @@
 -- The text of a script tells its edits: no field has a separator, so the parts of a text are its fields.
-use Rattle.std.proofs.Common.{◌≡◌, ◌≢◌, ℕ, ◌+◌, ◌*◌, ◌<◌, ◌≤◌, ◌%◌, Bool, true, false, ◌&&◌, List, [], ◌∷◌, ◌++◌, length, map, get_or, codes, refl, sym, ap, ap₂, ◌∙◌, arith, eqb, All, nat_eq}
+use Rattle.std.proofs.Common.{◌≡◌, ◌≢◌, ℕ, ◌+◌, ◌*◌, ◌<◌, ◌≤◌, true, false, List, [], ◌∷◌, ◌++◌, length, map, get_or, codes, refl, sym, ap, ap₂, ◌∙◌, arith, All}
 use Rattle.std.specs.Prelude.{encode_utf8}
 use Rattle.std.specs.Fmt.{decimal}
-use Rattle.std.specs.List.{join_with_byte, slice_split, list_all}
+use Rattle.std.specs.List.{join_with_byte}
 use Rattle.std.specs.Str.Parse.{digits_value}
-use Rattle.std.proofs.lemmas.Bool.{ne_eqb, true≢false}
-use Rattle.std.proofs.lemmas.Bool.Decides.{nat_tests}
-use Rattle.std.proofs.lemmas.Fmt.{decimal_is_IsNumeral, decimal_by_steps}
-use Rattle.std.proofs.lemmas.List.Elements.{All-nil, All-cons, All-head, All-tail, All-append, All-push, All-weaker}
-use Rattle.std.proofs.lemmas.List.Splits.{slice_split_none, slice_split_at}
+use Rattle.std.proofs.lemmas.Fmt.{decimal_is_IsNumeral}
+use Rattle.std.proofs.lemmas.List.Elements.{All-nil, All-cons, All-head, All-tail}
 use Rattle.std.proofs.lemmas.Str.{encode_same}
 use Rattle.cfa_base.specs.Escapes.{escaped, is_field_byte}
-use Rattle.cfa_base.specs.lemmas.Escapes.{fields_tell_texts, escaped-avoids}
+use Rattle.cfa_base.specs.lemmas.Escapes.{fields_tell_texts}
 use Rattle.cfa_base.specs.Patterns.{PatternText, pattern_of}
 use Rattle.cfa_edits.specs.Laws.{TextsTellScripts}
+use Rattle.cfa_edits.specs.lemmas.Parts.{Lacks, clash, joined_tells, lacks_joined, IsSeparator, lacks_word, lacks_escaped, all_escaped, lacks_decimal, all_tell, comma}
 use Rattle.cfa_edits.specs.Scripts.{IsSpot, IsEdit, spot_name, spot_pattern, block_text, edit_fields, edit_text, script_text}
 use Rattle.cfa_edits.specs.declared.edits.Edit.{Edit}
 use Rattle.cfa_edits.specs.declared.edits.Edit.TheVariants.{Delete, Field, Insert, Replace}
 use Rattle.cfa_edits.specs.declared.edits.Spot.{Spot}
 use Rattle.cfa_edits.specs.declared.edits.Spot.TheVariants.{Start, End, Before, After}
-
--- the byte stands nowhere in the text
-abbrev Lacks : ℕ → List ℕ → Type 0
-Lacks c text = All (λ b. b ≢ c) text
-
--- ---- joined texts
-cut : (c : ℕ) (text : List ℕ) → Lacks c text → All (λ b. eqb b c ≡ false) text
-cut c text none = All-weaker (λ b. b ≢ c) (λ b. eqb b c ≡ false) (λ b ne. ne_eqb b c ne) text none
-
-itself : (c : ℕ) → eqb c c ≡ true
-itself c = grind (arith, nat_tests)
-
--- the parts of joined texts are the texts
-split_joined : (c : ℕ) (text : List ℕ) (texts : List (List ℕ)) → All (Lacks c) (text ∷ texts) → slice_split (λ b. eqb b c) (join_with_byte c (text ∷ texts)) ≡ text ∷ texts
-split_joined c text [] all = slice_split_none (λ b. eqb b c) text (cut c text (All-head (Lacks c) text [] all))
-split_joined c text (next ∷ texts) all =
-    slice_split_at (λ b. eqb b c) text c (join_with_byte c (next ∷ texts)) (cut c text (All-head (Lacks c) text (next ∷ texts) all)) (itself c)
-    ∙ ap (λ parts. text ∷ parts) (split_joined c next texts (All-tail (Lacks c) text (next ∷ texts) all))
-
-joined_tells : (c : ℕ) (text other : List ℕ) (texts others : List (List ℕ)) → All (Lacks c) (text ∷ texts) → All (Lacks c) (other ∷ others)
-    → join_with_byte c (text ∷ texts) ≡ join_with_byte c (other ∷ others) → text ∷ texts ≡ other ∷ others
-joined_tells c text other texts others all all' same =
-    sym (split_joined c text texts all) ∙ ap (slice_split (λ b. eqb b c)) same ∙ split_joined c other others all'
-
--- a byte that no text has and that isn't the separator isn't in the joined texts
-lacks_joined : (c separator : ℕ) (texts : List (List ℕ)) → separator ≢ c → All (Lacks c) texts → Lacks c (join_with_byte separator texts)
-lacks_joined c separator [] ne all = All-nil (λ b. b ≢ c)
-lacks_joined c separator (text ∷ []) ne all = All-head (Lacks c) text [] all
-lacks_joined c separator (text ∷ next ∷ texts) ne all =
-    All-append (λ b. b ≢ c) text (separator ∷ join_with_byte separator (next ∷ texts)) (All-head (Lacks c) text (next ∷ texts) all)
-    (All-cons (λ b. b ≢ c) separator (join_with_byte separator (next ∷ texts)) ne (lacks_joined c separator (next ∷ texts) ne (All-tail (Lacks c) text (next ∷ texts) all)))
-
--- ---- bytes that no field has
-pub record IsSeparator (c : ℕ) : Type 0 where
-  pub low : c < 65
-  pub none : is_field_byte c ≡ false
-  pub no_digit : (d : ℕ) → d < 10 → 48 + d ≢ c
-
-differs : (b c : ℕ) → is_field_byte c ≡ false → is_field_byte b ≡ true → b ≢ c
-differs b c none field same = true≢false (sym field ∙ ap is_field_byte same ∙ none)
-
-and_both : (x y : Bool) → (x && y) ≡ true → (x ≡ true) × (y ≡ true)
-and_both true y e = (refl, e)
-and_both false y e = absurd cc
-
-lacks_word : (c : ℕ) (word : List ℕ) → is_field_byte c ≡ false → list_all is_field_byte word ≡ true → Lacks c word
-lacks_word c [] none all = All-nil (λ b. b ≢ c)
-lacks_word c (b ∷ word) none all =
-    let both = and_both (is_field_byte b) (list_all is_field_byte word) all in
-    All-cons (λ x. x ≢ c) b word (differs b c none both.0) (lacks_word c word none both.1)
-
-lacks_escaped : (c : ℕ) (text : List ℕ) → IsSeparator c → Lacks c (escaped text)
-lacks_escaped c text s = escaped-avoids c text s.low s.none
-
-lacks_decimal : (c n : ℕ) → IsSeparator c → n ≤ 999 → Lacks c (decimal n)
-lacks_decimal c n s small =
-    decimal_by_steps (λ m ds. Lacks c ds)
-    (λ d lt. All-cons (λ b. b ≢ c) (48 + d) [] (s.no_digit d lt) (All-nil (λ b. b ≢ c)))
-    (λ m ds ge all. All-push (λ b. b ≢ c) ds (48 + m % 10) all (s.no_digit (m % 10) (omega arith)))
-    n (omega arith)
 
 -- ---- fields of an edit
 lacks_spot : (c : ℕ) (spot : Spot) → is_field_byte c ≡ false → Lacks c (spot_name spot)
@@ -88,10 +26,6 @@ lacks_spot c (Before pattern true) none = lacks_word c (codes "before-first") no
 lacks_spot c (Before pattern false) none = lacks_word c (codes "before-last") none refl
 lacks_spot c (After pattern true) none = lacks_word c (codes "after-first") none refl
 lacks_spot c (After pattern false) none = lacks_word c (codes "after-last") none refl
-
-all_escaped : (c : ℕ) (block : List (List ℕ)) → IsSeparator c → All (Lacks c) (map escaped block)
-all_escaped c [] s = All-nil (Lacks c)
-all_escaped c (line ∷ block) s = All-cons (Lacks c) (escaped line) (map escaped block) (lacks_escaped c line s) (all_escaped c block s)
 
 all_two : (c : ℕ) (x y : List ℕ) → Lacks c x → Lacks c y → All (Lacks c) (x ∷ y ∷ [])
 all_two c x y h i = All-cons (Lacks c) x (y ∷ []) h (All-cons (Lacks c) y [] i (All-nil (Lacks c)))
@@ -106,7 +40,7 @@ fields_lack c (Delete pattern) s ne is =
 fields_lack c (Field pattern separator number value) s ne is =
     All-cons (Lacks c) (codes "f") (escaped pattern.text ∷ escaped (encode_utf8 separator) ∷ decimal number ∷ escaped value ∷ []) (lacks_word c (codes "f") s.none refl)
     (all_four c (escaped pattern.text) (escaped (encode_utf8 separator)) (decimal number) (escaped value)
-    (lacks_escaped c pattern.text s) (lacks_escaped c (encode_utf8 separator) s) (lacks_decimal c number s is.2) (lacks_escaped c value s))
+    (lacks_escaped c pattern.text s) (lacks_escaped c (encode_utf8 separator) s) (let few : number ≤ 999 = is.2 in lacks_decimal c number s (omega arith)) (lacks_escaped c value s))
 fields_lack c (Insert block spot) s ne is =
     all_four c (codes "i") (spot_name spot) (escaped (spot_pattern spot)) (block_text block)
     (lacks_word c (codes "i") s.none refl) (lacks_spot c spot s.none) (lacks_escaped c (spot_pattern spot) s)
@@ -117,9 +51,6 @@ fields_lack c (Replace pattern value true) s ne is =
 fields_lack c (Replace pattern value false) s ne is =
     all_four c (codes "r") (codes "first") (escaped pattern.text) (escaped value)
     (lacks_word c (codes "r") s.none refl) (lacks_word c (codes "first") s.none refl) (lacks_escaped c pattern.text s) (lacks_escaped c value s)
-
-clash : (m n : ℕ) → nat_eq m n ≡ false → m ≡ n → ⊥
-clash m n differ e = grind (arith, nat_tests)
 
 -- tells the names of spots, and the kinds of edits, apart
 abbrev sign : List ℕ → ℕ
@@ -169,15 +100,6 @@ spots_tell (After p false) (Before q true) is is' names patterns = absurd (clash
 spots_tell (After p false) (Before q false) is is' names patterns = absurd (clash (sign (spot_name (After p false))) (sign (spot_name (Before q false))) refl (ap sign names))
 spots_tell (After p false) (After q true) is is' names patterns = absurd (clash (sign (spot_name (After p false))) (sign (spot_name (After q true))) refl (ap sign names))
 
-blocks_tell : (block other : List (List ℕ)) → map escaped block ≡ map escaped other → block ≡ other
-blocks_tell [] [] e = refl
-blocks_tell [] (y ∷ ys) e = absurd cc
-blocks_tell (x ∷ xs) [] e = absurd cc
-blocks_tell (x ∷ xs) (y ∷ ys) e =
-    let heads : escaped x ≡ escaped y = cc in
-    let tails : map escaped xs ≡ map escaped ys = cc in
-    ap₂ (λ z zs. z ∷ zs) (fields_tell_texts x y heads) (blocks_tell xs ys tails)
-
 plus : IsSeparator 43
 plus = record { low = omega arith; none = refl; no_digit = λ d lt. λ e. omega arith }
 
@@ -185,7 +107,7 @@ block_texts_tell : (block other : List (List ℕ)) → 0 < length block → 0 < 
 block_texts_tell [] other is is' e = absurd (omega arith)
 block_texts_tell (x ∷ xs) [] is is' e = absurd (omega arith)
 block_texts_tell (x ∷ xs) (y ∷ ys) is is' e =
-    blocks_tell (x ∷ xs) (y ∷ ys)
+    all_tell (x ∷ xs) (y ∷ ys)
     (joined_tells 43 (escaped x) (escaped y) (map escaped xs) (map escaped ys) (all_escaped 43 (x ∷ xs) plus) (all_escaped 43 (y ∷ ys) plus) e)
 
 decimals_tell : (m n : ℕ) → m ≤ 999 → n ≤ 999 → decimal m ≡ decimal n → m ≡ n
@@ -240,9 +162,6 @@ some_fields (Replace pattern value all) = (_, _, refl)
 
 colon : IsSeparator 58
 colon = record { low = omega arith; none = refl; no_digit = λ d lt. λ e. omega arith }
-
-comma : IsSeparator 44
-comma = record { low = omega arith; none = refl; no_digit = λ d lt. λ e. omega arith }
 
 edits_tell : (edit other : Edit) → IsEdit edit → IsEdit other → edit_text edit ≡ edit_text other → edit ≡ other
 edits_tell edit other is is' e =

@@ -3,3 +3,4 @@ pub mod Scripts
 pub mod Answers
 pub mod Steps
 pub mod Laws
+pub mod lemmas
