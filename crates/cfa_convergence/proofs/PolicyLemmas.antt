@@ -1,14 +1,13 @@
 -- A policy that was checked is known: the names of its bundles are words, and a value of `usebundle` names a bundle that is there.
 use Rattle.std.proofs.Common.{◌≡◌, ◌≢◌, ◌∙◌, ℕ, ◌+◌, ◌<◌, ◌≤◌, ◌^◌, Bool, true, false, List, [], ◌∷◌, ◌++◌, length, map, codes, All, Option, Some, None, inl, refl, ap, sym, subst, arith}
-use Rattle.std.specs.Prelude.{IsTrue, find, if◌then◌else◌}
-use Rattle.std.specs.List.{AllByRecursion as Each, Contains, cons_option, filter_map, flat_map, list_all}
+use Rattle.std.specs.Prelude.{IsTrue}
+use Rattle.std.specs.List.{AllByRecursion as Each, Contains, cons_option, filter_map, flat_map}
 use Rattle.std.specs.Str.{bytes_eq}
 use Rattle.std.proofs.Math.Bool.{Bool-set}
 use Rattle.std.proofs.Math.Bridge.{le_prop}
-use Rattle.std.proofs.lemmas.Bool.{false≢true, and_parts}
+use Rattle.std.proofs.lemmas.Bool.{false≢true}
 use Rattle.std.proofs.lemmas.List.{map-append}
 use Rattle.std.proofs.lemmas.List.Elements.{All-cons, All-contains, All-contains_itself, All-head, All-nil, All-tail, All-weaker, Contains-append_left, Contains-append_right}
-use Rattle.std.proofs.lemmas.Option.{none-some, same_Some}
 use Rattle.std.proofs.lemmas.Slice.Eq.{bytes_eq-Decides}
 use Rattle.cfa_base.specs.declared.limits.TheConstants.{MOST_SOURCE_BYTES}
 use Rattle.cfa_base.specs.declared.places.Place.{Place}
@@ -32,6 +31,7 @@ use Rattle.cfa_served.specs.Control.{control_of}
 use Rattle.cfa_schema.specs.Defined.{bundle_head, definitions_of}
 use Rattle.cfa_schema.specs.Laws.{Stands, in_promise, by_word, by_call, NamesBundle, by_name, by_text, NothingIsRefused, AgentBundleIsThere, IsWord, HasWordName, WordsLackNewlines, NamesAreWords, NamedBundleStands, CommonBundlesStand, CommonNamesAreWords, SequenceNamesAreWords, IsCounted, IdsAreCounted}
 use Rattle.cfa_served.specs.Served.{common_bundles_of}
+use Rattle.cfa_schema.specs.lemmas.Found.{word_bytes, first_here, behind_one, found, given}
 use Rattle.cfa_schema.specs.Sourced.{IsSourced}
 use Rattle.cfa_schema.specs.Valid.{Valid, refusals, repeated_bodies_after, body_name, bundle_name, default_refusals, block_refusals, bundle_by, other_type}
 use Rattle.cfa_walk.specs.Numbered.{Numbered, numbered_as, numbered_from, numbered_in, name_of}
@@ -40,12 +40,6 @@ use Rattle.cfa_convergence.specs.Policies.{IsKnown, IsKnownCommon, HasKnown}
 use Rattle.cfa_convergence.proofs.PlaceLemmas.{none_left, none_right}
 
 -- ---- lists
-
-first_here : {X : Type 0} (x : X) (xs : List X) → Contains (x ∷ xs) x
-first_here x xs = All-head (Contains (x ∷ xs)) x xs (All-contains_itself (x ∷ xs))
-
-behind_one : {X : Type 0} (x : X) (xs : List X) (y : X) → Contains xs y → Contains (x ∷ xs) y
-behind_one x xs y has = Contains-append_right (x ∷ []) xs y has
 
 each_both : {X : Type 0} (P : X → Type 0) (xs ys : List X) → Each P xs → Each P ys → Each P (xs ++ ys)
 each_both P [] ys p q = q
@@ -70,12 +64,6 @@ each_empty f xs x e has = All-contains (λ y. f y ≡ []) xs x (go xs e) has
 
 -- ---- words
 
-word_bytes : (bytes : List ℕ) → list_all is_word_byte bytes ≡ true → All (λ b. IsTrue (is_word_byte b)) bytes
-word_bytes [] h = All-nil (λ b. IsTrue (is_word_byte b))
-word_bytes (b ∷ bs) h =
-    let parts = and_parts (is_word_byte b) (list_all is_word_byte bs) h in
-    All-cons (λ b. IsTrue (is_word_byte b)) b bs parts.0 (word_bytes bs parts.1)
-
 -- a word lacks the bytes that are in none
 word_lacks : (c : ℕ) → is_word_byte c ≡ false → (name : List ℕ) → IsWord name → All (λ (byte : ℕ). byte ≢ c) name
 word_lacks c none [] is = All-nil (λ (byte : ℕ). byte ≢ c)
@@ -86,22 +74,6 @@ plain_word : (name : List ℕ) → IsWord name → IsPlain name
 plain_word name is = record { no_semicolon = word_lacks 59 refl name is; no_newline = word_lacks 10 refl name is }
 
 -- ---- bundles that are named
-
-record IsFound {X : Type 0} (test : X → Bool) (xs : List X) (x : X) : Type 0 where
-  passes : test x ≡ true
-  there : Contains xs x
-
-module _ {X : Type 0} (test : X → Bool) where
-  found_by : (x : X) (xs : List X) (y : X) (b : Bool) → test x ≡ b → (if b then Some x else find test xs) ≡ Some y → (find test xs ≡ Some y → IsFound test xs y) →
-      IsFound test (x ∷ xs) y
-  found_by x xs y true is e later = subst (IsFound test (x ∷ xs)) (same_Some x y e) (record { passes = is; there = first_here x xs })
-  found_by x xs y false is e later =
-      let more = later e in
-      record { passes = more.passes; there = behind_one x xs y more.there }
-
-  found : (xs : List X) (y : X) → find test xs ≡ Some y → IsFound test xs y
-  found [] y e = absurd (none-some y e)
-  found (x ∷ xs) y e = found_by x xs y (test x) refl e (found xs y)
 
 abbrev HasWordHead : BundleHead → Type 0
 HasWordHead b = IsWord b.name
@@ -133,24 +105,6 @@ named_is_word policy words sourced name b e =
     subst IsWord (sym ((bytes_eq-Decides name b.name).0 there.passes)) (All-contains HasWordHead (filter_map bundle_head policy) b (heads_are_words policy (words_in policy words sourced)) there.there)
 
 -- ---- values of `usebundle`
-
-record IsGiven (name : List ℕ) (attributes : List AttributeTree) (value : ValueTree) : Type 0 where
-  a : AttributeTree
-  is_attribute : Contains attributes a
-  named : a.name ≡ name
-  valued : a.value ≡ value
-
-given_by : (name : List ℕ) (a : AttributeTree) (rest : List AttributeTree) (value : ValueTree) (b : Bool) → bytes_eq a.name name ≡ b → (if b then Some a.value else value_of name rest) ≡ Some value →
-    (value_of name rest ≡ Some value → IsGiven name rest value) → IsGiven name (a ∷ rest) value
-given_by name a rest value true is e later =
-    record { a = a; is_attribute = first_here a rest; named = (bytes_eq-Decides a.name name).0 is; valued = same_Some a.value value e }
-given_by name a rest value false is e later =
-    let more = later e in
-    record { a = more.a; is_attribute = behind_one a rest more.a more.is_attribute; named = more.named; valued = more.valued }
-
-given : (name : List ℕ) (attributes : List AttributeTree) (value : ValueTree) → value_of name attributes ≡ Some value → IsGiven name attributes value
-given name [] value e = absurd (none-some value e)
-given name (a ∷ rest) value e = given_by name a rest value (bytes_eq a.name name) refl e (given name rest value)
 
 -- methods promises alone have it
 kind_of_call : PromiseType → Option Kind

@@ -23,12 +23,10 @@ use Rattle.cfa_schema.specs.Valid.{Valid, bundle_name, bundle_by, section_by, se
 use Rattle.cfa_schema.specs.Defined.{definitions_of}
 use Rattle.cfa_schema.specs.Laws.{ListedIdsAreFound, FoundIdsAreListed}
 use Rattle.cfa_served.specs.lemmas.Promises.{second, second_is, seconds_in}
+use Rattle.cfa_schema.specs.lemmas.Found.{first_here}
 use Rattle.cfa_schema.proofs.FactLemmas.{left_empty, right_empty, block_passes, names_pass}
 
 -- ---- an id that is found is in the list
-
-pub first_here : {X : Type 0} (x : X) (xs : List X) → Contains (x ∷ xs) x
-first_here x xs = All-head (Contains (x ∷ xs)) x xs (All-contains_itself (x ∷ xs))
 
 id_listed : (name : List ℕ) (first : ℕ) (ps : List PromiseTree) (n : ℕ) (p : PromiseTree) → slice_get ps n ≡ Some p → Contains (ids_from name first ps) (id_at name (first + n) p.place.line)
 id_listed name first [] n p e = cc

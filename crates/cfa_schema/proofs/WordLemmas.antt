@@ -1,12 +1,12 @@
 -- The names that a policy serves, where it was read from its files.
 use Rattle.std.proofs.Common.{◌≡◌, ◌∙◌, ℕ, ◌+◌, ◌≤◌, Bool, true, false, List, [], ◌∷◌, ◌++◌, length, map, All, Option, Some, None, refl, ap, sym, subst, arith}
 use Rattle.std.specs.Prelude.{IsTrue, codes, find, if◌then◌else◌}
-use Rattle.std.specs.List.{AllByRecursion, Contains, filter_map, flat_map, list_all}
+use Rattle.std.specs.List.{AllByRecursion, Contains, filter_map, flat_map}
 use Rattle.std.specs.Str.{bytes_eq}
 use Rattle.std.proofs.lemmas.Bool.{false≢true, and_parts}
 use Rattle.std.proofs.lemmas.Option.{none-some, option_and_then_some, same_Some}
 use Rattle.std.proofs.lemmas.Slice.Eq.{bytes_eq-Decides}
-use Rattle.std.proofs.lemmas.List.Elements.{All-append, All-cons, All-contains, All-contains_itself, All-filter, All-from_recursion, All-head, All-nil, All-tail, All-weaker, Contains-append_right}
+use Rattle.std.proofs.lemmas.List.Elements.{All-append, All-cons, All-contains, All-contains_itself, All-filter, All-from_recursion, All-head, All-nil, All-tail, All-weaker}
 use Rattle.cfa_base.specs.declared.limits.TheConstants.{MOST_SOURCE_BYTES}
 use Rattle.cfa_base.specs.declared.places.Place.{Place}
 use Rattle.cfa_base.specs.Lexing.{is_word_byte}
@@ -25,19 +25,13 @@ use Rattle.cfa_served.specs.Served.{is_bundle_of, if_bundle, bundle_of, is_commo
 use Rattle.cfa_schema.specs.Sourced.{IsSourced}
 use Rattle.cfa_schema.specs.Valid.{Valid}
 use Rattle.cfa_schema.specs.Laws.{of_body, IsWord, HasWordName, WordsLackNewlines, NamesAreWords, ParamsAreWords, LinesAreCounts, LinesAreFew, PromisesAreFew, NamedBundleStands, CommonBundlesStand, NamedBundleIsWord, CommonNamesAreWords, SequenceNamesAreWords, IsCounted, IdsAreCounted}
+use Rattle.cfa_schema.specs.lemmas.Found.{word_bytes, first_here, behind_one, IsFound, found, given}
 use Rattle.cfa_schema.proofs.ChainLemmas.{both}
 use Rattle.cfa_schema.proofs.FactLemmas.{left_empty, right_empty, nothing_is_refused}
-use Rattle.cfa_schema.proofs.IdLemmas.{first_here}
 use Rattle.cfa_schema.proofs.SizeLemmas.{sourced_has_few}
 use Rattle.cfa_schema.proofs.SoundLemmas.{HasWord, StandsWithin, AllStandWithin, IsSoundBlock, IsSoundBundle, last_line, sourced_is_sound}
 
 -- ---- words
-
-word_bytes : (bytes : List ℕ) → list_all is_word_byte bytes ≡ true → All (λ b. IsTrue (is_word_byte b)) bytes
-word_bytes [] h = All-nil (λ b. IsTrue (is_word_byte b))
-word_bytes (b ∷ bs) h =
-    let parts = and_parts (is_word_byte b) (list_all is_word_byte bs) h in
-    All-cons (λ b. IsTrue (is_word_byte b)) b bs parts.0 (word_bytes bs parts.1)
 
 pub words_lack_newlines : WordsLackNewlines
 words_lack_newlines [] is has = false≢true is
@@ -108,26 +102,6 @@ ids_are_counted policy read = blocks_counted policy (sourced_is_sound policy rea
 
 -- ---- what is found
 
-record IsFound {X : Type 0} (test : X → Bool) (xs : List X) (x : X) : Type 0 where
-  passes : test x ≡ true
-  there : Contains xs x
-
-behind_one : {X : Type 0} (x : X) (xs : List X) (y : X) → Contains xs y → Contains (x ∷ xs) y
-behind_one x xs y has = Contains-append_right (x ∷ []) xs y has
-
-module _ {X : Type 0} (test : X → Bool) where
-  found_by : (x : X) (xs : List X) (y : X) (b : Bool) → test x ≡ b → (if b then Some x else find test xs) ≡ Some y → (find test xs ≡ Some y → IsFound test xs y) →
-      IsFound test (x ∷ xs) y
-  found_by x xs y true is e later =
-      subst (IsFound test (x ∷ xs)) (same_Some x y e) (record { passes = is; there = first_here x xs })
-  found_by x xs y false is e later =
-      let more = later e in
-      record { passes = more.passes; there = behind_one x xs y more.there }
-
-  found : (xs : List X) (y : X) → find test xs ≡ Some y → IsFound test xs y
-  found [] y e = absurd (none-some y e)
-  found (x ∷ xs) y e = found_by x xs y (test x) refl e (found xs y)
-
 found_block : (policy : PolicyTree) (name : List ℕ) (block found : BlockTree) → IsFound (is_bundle_of name) policy found → if_bundle found ≡ Some block → IsFound (is_bundle_of name) policy block
 found_block policy name block (bundle type_name named params sections place) is e = subst (IsFound (is_bundle_of name) policy) (same_Some (bundle type_name named params sections place) block e) is
 found_block policy name block (body type_name named params attributes place) is e = absurd (none-some block e)
@@ -196,24 +170,6 @@ gives_behind b rest value g = record {
   named = g.named;
   valued = g.valued;
 }
-
-record IsGiven (name : List ℕ) (attributes : List AttributeTree) (value : ValueTree) : Type 0 where
-  a : AttributeTree
-  is_attribute : Contains attributes a
-  named : a.name ≡ name
-  valued : a.value ≡ value
-
-given_by : (name : List ℕ) (a : AttributeTree) (rest : List AttributeTree) (value : ValueTree) (b : Bool) → bytes_eq a.name name ≡ b → (if b then Some a.value else value_of name rest) ≡ Some value →
-    (value_of name rest ≡ Some value → IsGiven name rest value) → IsGiven name (a ∷ rest) value
-given_by name a rest value true is e later =
-    record { a = a; is_attribute = first_here a rest; named = (bytes_eq-Decides a.name name).0 is; valued = same_Some a.value value e }
-given_by name a rest value false is e later =
-    let more = later e in
-    record { a = more.a; is_attribute = behind_one a rest more.a more.is_attribute; named = more.named; valued = more.valued }
-
-given : (name : List ℕ) (attributes : List AttributeTree) (value : ValueTree) → value_of name attributes ≡ Some value → IsGiven name attributes value
-given name [] value e = absurd (none-some value e)
-given name (a ∷ rest) value e = given_by name a rest value (bytes_eq a.name name) refl e (given name rest value)
 
 gives_by : (type_name name : NamedTree) (params : List NamedTree) (attributes : List AttributeTree) (place : Place) (rest : PolicyTree) (value : ValueTree) (b : Bool) → is_control type_name name ≡ b →
     value_of (codes "bundlesequence") (if b then attributes else control_of rest) ≡ Some value →

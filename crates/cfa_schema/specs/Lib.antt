@@ -5,3 +5,4 @@ pub mod Laws
 pub mod Seen
 pub mod Sourced
 pub mod Valid
+pub mod lemmas
