@@ -1,25 +1,16 @@
 -- An instance is visited where the place of its name is found.
-use Rattle.std.proofs.Common.{◌≡◌, ℕ, ◌+◌, Bool, true, false, ◌||◌, ◌&&◌, cond, List, [], ◌∷◌, Some, refl, ap, ◌∙◌}
-use Rattle.std.specs.List.{list_any, position_from}
+use Rattle.std.proofs.Common.{◌≡◌, ℕ, ◌||◌, ◌&&◌, List, [], ◌∷◌, refl, ap, ◌∙◌}
+use Rattle.std.specs.List.{list_any}
 use Rattle.std.specs.Option.{is_some}
 use Rattle.std.specs.Str.{bytes_eq}
-use Rattle.std.proofs.lemmas.Cmp.{nat_list_eq_equiv}
 use Rattle.std.proofs.lemmas.Iterator.Adapters.{position_from-zero}
 use Rattle.cfa_base.specs.Index.{Text, same_pair, pair_place_of}
 use Rattle.cfa_resolve.specs.declared.instances.Instance.{Instance}
 use Rattle.cfa_walk.specs.declared.walks.Walk.{Walk}
 use Rattle.cfa_walk.specs.History.{is_named}
+use Rattle.cfa_walk.specs.lemmas.Found.{found_from, same_bytes}
 use Rattle.cfa_conflict.specs.Conflicts.{has_acts, is_live}
 use Rattle.cfa_conflict.specs.Names.{name_of, names_of}
-
-found_from : {X : Type 0} (test : X → Bool) (xs : List X) (i : ℕ) → is_some (position_from test i xs) ≡ list_any test xs
-found_from test [] i = refl
-found_from test (x ∷ xs) i =
-    elim (test x) as (λ b. is_some (cond b (Some i) (position_from test (i + 1) xs)) ≡ (b || list_any test xs))
-    [ true ↦ refl | false ↦ found_from test xs (i + 1) ]
-
-same_bytes : (x y : List ℕ) → bytes_eq x y ≡ bytes_eq y x
-same_bytes x y = nat_list_eq_equiv.symm x y
 
 same_name : (path text : List ℕ) (instance : Instance) → same_pair (path, text) (name_of instance) ≡ is_named path text instance
 same_name path text instance =

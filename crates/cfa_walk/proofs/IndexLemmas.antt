@@ -1,23 +1,14 @@
 -- What is found in an index of names, or of instances, is in the list.
-use Rattle.std.proofs.Common.{◌≡◌, ℕ, ◌+◌, Bool, true, false, ◌||◌, ◌&&◌, cond, List, [], ◌∷◌, map, Option, Some, is_some, position, refl, sym, ap, ◌∙◌}
+use Rattle.std.proofs.Common.{◌≡◌, ℕ, ◌+◌, Bool, ◌||◌, ◌&&◌, cond, List, [], ◌∷◌, map, Option, Some, is_some, position, refl, sym, ap, ◌∙◌}
 use Rattle.std.specs.List.{list_any, position_from}
 use Rattle.std.specs.Str.{bytes_eq}
-use Rattle.std.proofs.lemmas.Cmp.{nat_list_eq_equiv}
 use Rattle.std.proofs.lemmas.Iterator.Adapters.{position_from-zero}
 use Rattle.cfa_base.specs.Index.{place_of, same_pair, pair_place_of}
 use Rattle.cfa_resolve.specs.declared.instances.Instance.{Instance}
 use Rattle.cfa_resolve.specs.Resolution.{is_listed}
 use Rattle.cfa_walk.specs.History.{is_named}
 use Rattle.cfa_walk.specs.Logs.{name_of}
-
-found_from : {X : Type 0} (test : X → Bool) (xs : List X) (i : ℕ) → is_some (position_from test i xs) ≡ list_any test xs
-found_from test [] i = refl
-found_from test (x ∷ xs) i =
-    elim (test x) as (λ b. is_some (cond b (Some i) (position_from test (i + 1) xs)) ≡ (b || list_any test xs))
-    [ true ↦ refl | false ↦ found_from test xs (i + 1) ]
-
-pub same_bytes : (x y : List ℕ) → bytes_eq x y ≡ bytes_eq y x
-same_bytes x y = nat_list_eq_equiv.symm x y
+use Rattle.cfa_walk.specs.lemmas.Found.{found_from, same_bytes}
 
 turned : (classes : List (List ℕ)) (class : List ℕ) → list_any (λ other. bytes_eq class other) classes ≡ is_listed classes class
 turned [] class = refl

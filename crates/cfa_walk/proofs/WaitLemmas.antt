@@ -22,7 +22,7 @@ use Rattle.std.specs.Cmp.Lexicographic.{nat_list_cmp_total}
 use Rattle.std.proofs.lemmas.Map.Text.{is_eq-slice_cmp}
 use Rattle.cfa_base.specs.lemmas.TextMaps.{get-put}
 use Rattle.cfa_walk.proofs.SharedLemmas.{same_name}
-use Rattle.cfa_walk.proofs.IndexLemmas.{same_bytes}
+use Rattle.cfa_walk.specs.lemmas.Found.{same_bytes}
 
 and_false : (b : Bool) → (b && false) ≡ false
 and_false true = refl
