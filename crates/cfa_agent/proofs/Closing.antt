@@ -22,7 +22,8 @@ use Rattle.cfa_agent.specs.Actuations.{done_by, is_change, is_some_change, chang
 use Rattle.cfa_agent.specs.Recording.{opening, closing, closing_by, closing_failed}
 use Rattle.cfa_agent.specs.Actuating.{FaultsBy, DoesActs, done_met, mark_by, acted}
 use Rattle.cfa_agent.proofs.Acting.{some_made}
-use Rattle.cfa_agent.proofs.Logs.{some_weaker, adds_both}
+use Rattle.cfa_agent.specs.lemmas.Options.{some_weaker}
+use Rattle.cfa_agent.proofs.Logs.{adds_both}
 
 -- what is written before, between and behind
 three_parts : (run : List Entry) (open' : Entry) (changes refused last : List Entry) →

@@ -1,5 +1,5 @@
 -- Entries that are added to a log one after the other.
-use Rattle.std.proofs.Common.{◌≡◌, ◌≤◌, List, [], ◌∷◌, ◌++◌, Some, None, Option, option_map, Result, Ok, Err, IfSome, refl, sym, ap, subst, ◌∙◌, append-nil, append_assoc}
+use Rattle.std.proofs.Common.{◌≡◌, ◌≤◌, List, [], ◌∷◌, ◌++◌, Some, None, Option, option_map, Result, Ok, Err, refl, sym, ap, subst, ◌∙◌, append-nil, append_assoc}
 use Rattle.cfa_base.specs.Causes.{Rose}
 use Rattle.cfa_base.specs.Shown.{Shown, followed, Follows}
 use Rattle.cfa_outside.specs.declared.worlds.World.{World}
@@ -10,14 +10,6 @@ use Rattle.cfa_output.specs.declared.ends.Object.TheVariants.{Inputs, Site, Sink
 use Rattle.cfa_output.specs.declared.ends.Stop.{Stop}
 use Rattle.cfa_output.specs.declared.ends.Stop.TheVariants.{Outside, Memory, Visits, Pattern}
 use Rattle.cfa_agent.specs.Recording.{HasFault, StopsBySite, Writes}
-
-pub some_weaker : {A : Type 0} (o : Option A) (P Q : A → Type 0) → ((x : A) → o ≡ Some x → P x → Q x) → IfSome o P → IfSome o Q
-some_weaker None P Q f h = h
-some_weaker (Some x) P Q f h = f x refl h
-
-pub each_some : {A : Type 0} (o : Option A) (Q : A → Type 0) → ((x : A) → o ≡ Some x → Q x) → IfSome o Q
-each_some None Q f = tt
-each_some (Some x) Q f = f x refl
 
 -- ---- logs
 

@@ -9,3 +9,4 @@ pub mod WholeLogs
 pub mod Standing
 pub mod Ending
 pub mod Steady
+pub mod lemmas

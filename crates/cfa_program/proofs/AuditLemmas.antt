@@ -14,7 +14,8 @@ use Rattle.cfa_journal.specs.Audits.{runs_of}
 use Rattle.cfa_sources.specs.Sources.{Texts}
 use Rattle.cfa_program.specs.Audits.{audit_text, bytes_of, AuditsAs, RefusesJournal, too_long, bad_record}
 use Rattle.cfa_program.specs.Stages.{JournalTells}
-use Rattle.cfa_program.proofs.Told.{some_weaker, some_injective}
+use Rattle.cfa_agent.specs.lemmas.Options.{some_weaker}
+use Rattle.cfa_program.proofs.Told.{some_injective}
 
 -- ---- what was read
 

@@ -31,7 +31,8 @@ use Rattle.cfa_program.specs.Calls.{IsAnalysedIn, runs, judges, Does, RefusesReq
 use Rattle.cfa_program.specs.Done.{IsDone, IsPut, Stands, Puts, HasFault, refused_with, status_of}
 use Rattle.cfa_program.specs.Ends.{IsEnd, IsStop, IsNotDone, IsRun, IsAnalysed, IsObeying, AsksRun, AsksNoRun, AsksAnalysis, AsksToObey, AsksRefused, RefusesCall, of_words, of_moment, of_request, PutsRefusal, IsUnread, ReadsInTurn, PutsLast, StopsReading, StopsAtSite, AnalysisBuilt, RunBuilt, RefusesBefore, RefusesInRun, RefusesText, before_work, in_run, StopsAtPattern, stops_before, stops_in_run, StopsAtVisits, by_analysis, by_run}
 use Rattle.cfa_program.specs.Stages.{RunPerformed, RunsPolicy, Obeys, setting_in, task_of, IsAsked, OnlyRefused, Prepared, OneSetting, MayRun, PolicyRan, not_made, made, Performed, PutsEnd, PutsStop, status_of_stop, Called, not_prepared, ended, stopped_at_work}
-use Rattle.cfa_program.proofs.Told.{some_weaker, each_some, some_injective, untouched_both, both_weaker, both, adds_none, along, fault_along, fault_before}
+use Rattle.cfa_agent.specs.lemmas.Options.{some_weaker, each_some}
+use Rattle.cfa_program.proofs.Told.{some_injective, untouched_both, both_weaker, both, adds_none, along, fault_along, fault_before}
 use Rattle.cfa_program.proofs.WorkLemmas.{no_conflict, judged_by, judges_told, judged_done, judged_put, does_made, does_judged, made_accepted, cut_off_by, obeys_strict, text_done, text_put, IsNoSink, IsOfSite, work_stop, never_shown, untouched_at_stop, runs_by_site, patterns_by_stop, patterns_at_end, untouched_without_run, failed_runs, obeys_conflict}
 
 -- ---- statuses

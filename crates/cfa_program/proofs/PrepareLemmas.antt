@@ -14,7 +14,7 @@ use Rattle.cfa_sources.specs.Readings.{FailsNext}
 use Rattle.cfa_program.specs.declared.work.Work.{Work}
 use Rattle.cfa_program.specs.Ends.{RefusesCall, of_words, of_moment, of_request, IsNextOf, AsksNext}
 use Rattle.cfa_program.specs.Stages.{IsRefusalWith, RequestPrepared, Prepared}
-use Rattle.cfa_program.proofs.Told.{some_weaker}
+use Rattle.cfa_agent.specs.lemmas.Options.{some_weaker}
 
 abbrev is_none : Option Request → Type 0
 is_none None = Unit {0}

@@ -15,7 +15,7 @@ use Rattle.cfa_program.specs.declared.work.PolicyInContext.{PolicyInContext}
 use Rattle.cfa_program.specs.declared.work.PolicyRun.{PolicyRun}
 use Rattle.cfa_program.specs.Calls.{TakesPolicy, TakesRun}
 use Rattle.cfa_program.specs.Stages.{setting_in, PolicyPrepared, RunPrepared}
-use Rattle.cfa_program.proofs.Told.{some_weaker}
+use Rattle.cfa_agent.specs.lemmas.Options.{some_weaker}
 
 -- ---- a valid policy
 

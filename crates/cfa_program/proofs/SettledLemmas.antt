@@ -28,7 +28,8 @@ use Rattle.cfa_program.proofs.CallLemmas as calls
 use Rattle.cfa_program.proofs.CallLemmas.{one_request, no_end, stop_is, taken_at}
 use Rattle.cfa_program.proofs.EndLemmas.{put_behind, settled_by_line, moment_ends_otherwise, conflict_ends_otherwise}
 use Rattle.cfa_program.proofs.PrepareLemmas.{none_or_some}
-use Rattle.cfa_program.proofs.Told.{some_weaker, each_some, both, both_weaker, each_both}
+use Rattle.cfa_agent.specs.lemmas.Options.{some_weaker, each_some}
+use Rattle.cfa_program.proofs.Told.{both, both_weaker, each_both}
 
 -- what is run is neither judged nor shown
 run_not_judged : (texts : Texts) (moment : ℕ) (request : Request) (s t : Setting) (l m : Bool) → TakesRequest texts moment request (runs s l m) → TakesRequest texts moment request (judges t) → ⊥

@@ -1,19 +1,12 @@
 -- What holds of what an object of the outside tells.
-use Rattle.std.proofs.Common.{◌≡◌, ℕ, List, [], Some, None, Option, Result, Ok, Err, IsErrAnd, refl, sym, ap, subst, ◌∙◌, append-nil, IfSome}
+use Rattle.std.proofs.Common.{◌≡◌, ℕ, List, [], Some, None, Option, Result, Ok, Err, IsErrAnd, sym, ap, subst, ◌∙◌, append-nil, IfSome}
 use Rattle.cfa_base.specs.Causes.{Rose}
 use Rattle.cfa_base.specs.Shown.{Shown, followed, Follows, Untouched}
 use Rattle.cfa_outside.specs.Sinks.{adds_bytes}
 use Rattle.cfa_outside.specs.Sites.{Told, adds}
 use Rattle.cfa_agent.specs.Ran.{IfBothTold}
+use Rattle.cfa_agent.specs.lemmas.Options.{some_weaker, each_some}
 use Rattle.cfa_program.specs.Done.{HasFault}
-
-pub some_weaker : {A : Type 0} (o : Option A) (P Q : A → Type 0) → ((x : A) → o ≡ Some x → P x → Q x) → IfSome o P → IfSome o Q
-some_weaker None P Q f h = h
-some_weaker (Some x) P Q f h = f x refl h
-
-pub each_some : {A : Type 0} (o : Option A) (Q : A → Type 0) → ((x : A) → o ≡ Some x → Q x) → IfSome o Q
-each_some None Q f = tt
-each_some (Some x) Q f = f x refl
 
 abbrev pick : {A : Type 0} → A → Option A → A
 pick other None = other
