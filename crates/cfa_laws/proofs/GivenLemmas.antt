@@ -1,10 +1,9 @@
 -- The acts that a promise resolves to are such as promises give: a mode has four octal digits, and a script is one in order.
 use Rattle.std.proofs.Common.{◌≡◌, ◌<◌, ◌≤◌, ◌^◌, ℕ, Bool, true, false, List, [], ◌∷◌, ◌++◌, length, codes, Option, Some, None, cond, refl, lit<, arith, All}
 use Rattle.std.specs.Prelude.{◌||◌, ◌==◌, option_map, Result, Ok, Err, nat_le}
-use Rattle.std.specs.Char.{digit_value}
 use Rattle.std.specs.List.{list_all}
 use Rattle.std.specs.Str.{bytes_eq}
-use Rattle.std.specs.Str.Parse.{AllDigits, digits_value}
+use Rattle.std.specs.Str.Parse.{digits_value}
 use Rattle.std.proofs.lemmas.Bool.{and_parts}
 use Rattle.std.proofs.lemmas.Bool.Decides.{nat_tests}
 use Rattle.std.proofs.lemmas.Int.Digits.{digits_value-lt}
@@ -35,19 +34,11 @@ use Rattle.cfa_scripts.specs.Numbered.{numbered_in, params_of}
 use Rattle.cfa_resolve.specs.FileActs.{truth, mode_said, names_said, target_of, is_directory_form, delete_by, or_false, delete_acts, create_by, create_acts, copy_from, is_wrong_digest, copy_act, copy_acts, content_acts, perms_by, perms_act, perms_acts, is_emptied, content_made, script_act, edit_act, edit_acts, acts_by, file_acts, service_act}
 use Rattle.cfa_resolve.specs.Instances.{Reached}
 use Rattle.cfa_resolve.specs.Resolution.{caller_of, edit_call, walked_for, scripted_in}
+use Rattle.cfa_resolve.specs.lemmas.Octal.{octal_digits}
 use Rattle.cfa_laws.specs.Keys.{IsMode, IsGiven}
 use Rattle.cfa_laws.proofs.ScriptLemmas.{IsScripted, MayBeScripted, walk_scripted}
 
 -- ---- modes
-
-octal_value : (b : ℕ) → is_octal_digit b ≡ true → digit_value b < 8
-octal_value b h = grind (arith, nat_tests)
-
-octal_digits : (text : List ℕ) → list_all is_octal_digit text ≡ true → AllDigits 8 text
-octal_digits [] h = tt
-octal_digits (b ∷ rest) h =
-    let parts = and_parts (is_octal_digit b) (list_all is_octal_digit rest) h in
-    (octal_value b parts.0, octal_digits rest parts.1)
 
 mode_size : (n : ℕ) → (n == 3 || n == 4) ≡ true → n ≤ 4
 mode_size n h = grind (arith, nat_tests)

@@ -1,6 +1,5 @@
 -- The numbers that texts write.
 use Rattle.std.proofs.Common.{◌≡◌, ◌<◌, ◌≤◌, ◌^◌, ℕ, true, ◌||◌, ◌==◌, List, [], ◌∷◌, length, Err, sym, refl, subst, lit<, arith}
-use Rattle.std.specs.Char.{digit_value}
 use Rattle.std.specs.List.{list_all}
 use Rattle.std.specs.Str.Parse.{AllDigits, digits_value, without_leading_plus, ParsesUnsigned}
 use Rattle.std.proofs.lemmas.Bool.{and_parts}
@@ -9,15 +8,7 @@ use Rattle.std.proofs.lemmas.Int.Digits.{digits_value-lt}
 use Rattle.std.proofs.lemmas.Str.Parse.{without_leading_plus_none}
 use Rattle.std.proofs.Math.Nat.{pow-le-pow_right}
 use Rattle.cfa_kinds.specs.Forms.{is_octal_digit, is_mode}
-
-octal_value : (b : ℕ) → is_octal_digit b ≡ true → digit_value b < 8
-octal_value b h = grind (arith, nat_tests)
-
-octal_digits : (text : List ℕ) → list_all is_octal_digit text ≡ true → AllDigits 8 text
-octal_digits [] h = tt
-octal_digits (b ∷ rest) h =
-    let parts = and_parts (is_octal_digit b) (list_all is_octal_digit rest) h in
-    (octal_value b parts.0, octal_digits rest parts.1)
+use Rattle.cfa_resolve.specs.lemmas.Octal.{octal_digits}
 
 not_plus : (b : ℕ) → is_octal_digit b ≡ true → b ≡ 43 → ⊥
 not_plus b h e = grind (arith, nat_tests)

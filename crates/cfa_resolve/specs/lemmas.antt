@@ -1,2 +1,3 @@
--- What the proofs of this crate and of those above cite besides. No contract names it.
+-- What the proofs of this crate and of those above cite besides. No contract names one.
 pub mod Written
+pub mod Octal
