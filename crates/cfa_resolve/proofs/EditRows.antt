@@ -1,11 +1,10 @@
 -- Worked rows of promises with edit bundles.
-use Rattle.std.proofs.Common.{◌≡◌, ℕ, List, [], ◌∷◌, Option, Some, None, codes, refl}
+use Rattle.std.proofs.Common.{◌≡◌, ℕ, List, [], ◌∷◌, Some, codes, refl}
 use Rattle.std.specs.Prelude.{map}
 use Rattle.std.specs.Fmt.{digits}
 use Rattle.cfa_base.specs.Escapes.{escaped, escape_of}
-use Rattle.cfa_base.specs.declared.places.Place.{Place}
 use Rattle.cfa_base.specs.declared.places.PromiseId.{PromiseId}
-use Rattle.cfa_tree.specs.Tree.{ExprTree, ValueTree, text, word, list_reference, list, call, value_trees, AttributeTree, PromiseTree, NamedTree, SectionTree, BlockTree, body, bundle, PolicyTree}
+use Rattle.cfa_tree.specs.Tree.{word, list_reference, call, value_trees, AttributeTree, NamedTree, SectionTree, BlockTree, body, bundle, PolicyTree}
 use Rattle.cfa_kinds.specs.declared.kinds.PromiseType.TheVariants as promises
 use Rattle.cfa_kinds.specs.Kinds.{files_attribute, outcome_attribute, classes_body_attribute, location_attribute, edit_field_attribute, edit_defaults_attribute, field_edits_attribute, insert_lines_attribute, vars_attribute, classes_attribute, promise_type}
 use Rattle.cfa_kinds.specs.Forms.{is_boolean}
@@ -36,6 +35,7 @@ use Rattle.cfa_resolve.specs.FileActs.{file_acts, outcome_classes}
 use Rattle.cfa_resolve.specs.KeyTexts.{mode_text, key_text}
 use Rattle.cfa_resolve.specs.Instances.{Reached, made_instance, handed_instance}
 use Rattle.cfa_resolve.specs.Resolution.{resolution, made, instance_in}
+use Rattle.cfa_resolve.specs.lemmas.Written.{here, named, quoted, says, items, section, promise as promised, a_body}
 use Rattle.cfa_resolve.specs.declared.instances.Instance.{Instance}
 use Rattle.cfa_scripts.specs.declared.scripting.Scripted.{Scripted}
 use Rattle.cfa_scripts.specs.declared.scripting.Scripted.TheVariants.{TooMany as script_many, BadPattern as bad_pattern, BadValue as bad_value}
@@ -43,39 +43,18 @@ use Rattle.std.specs.List.{cons_option}
 
 -- ---- a policy of edit bundles
 
-abbrev here : Place
-here = record { file = 0; line = 6; col = 5 }
-
-abbrev named : List ℕ → NamedTree
-named name = record { name = name; place = here }
-
-abbrev quoted : List ℕ → ValueTree
-quoted content = text content here
-
-abbrev says : List ℕ → ValueTree → AttributeTree
-says name value = record { name = name; value = value; place = here }
-
-abbrev one_item : List ℕ → ValueTree
-one_item content = list (value_trees (quoted content ∷ [])) here
-
-abbrev promised : Option ExprTree → List ℕ → List AttributeTree → PromiseTree
-promised guard promiser attributes = record { guard = guard; promiser = promiser; promisee = None; attributes = attributes; place = here }
-
-abbrev section : List ℕ → List PromiseTree → SectionTree
-section kind ps = record { kind = kind; promises = ps; place = here }
-
 abbrev edits : List ℕ → List NamedTree → List SectionTree → BlockTree
 edits name params sections = bundle (named (codes "edit_line")) (named name) params sections here
 
 abbrev policy : PolicyTree
 policy =
-    edits (codes "ensure") (named (codes "lines") ∷ []) (section (codes "insert_lines") (promised None (codes "$(lines)") [] ∷ []) ∷ [])
+    edits (codes "ensure") (named (codes "lines") ∷ []) (section (codes "insert_lines") (promised (codes "$(lines)") [] ∷ []) ∷ [])
     ∷ edits (codes "nothing") [] []
     ∷ edits (codes "late") [] (
-    section (codes "insert_lines") (promised None (codes "$(v)\nlast") [] ∷ [])
-    ∷ section (codes "vars") (promised None (codes "v") (says (codes "string") (quoted (codes "first")) ∷ []) ∷ []) ∷ [])
-    ∷ edits (codes "far") [] (section (codes "insert_lines") (promised None (codes "$(x)") [] ∷ []) ∷ [])
-    ∷ body (named (codes "classes")) (named (codes "if_repaired")) (named (codes "x") ∷ []) (says (codes "promise_repaired") (one_item (codes "$(x)")) ∷ []) here
+    section (codes "insert_lines") (promised (codes "$(v)\nlast") [] ∷ [])
+    ∷ section (codes "vars") (promised (codes "v") (says (codes "string") (quoted (codes "first")) ∷ []) ∷ []) ∷ [])
+    ∷ edits (codes "far") [] (section (codes "insert_lines") (promised (codes "$(x)") [] ∷ []) ∷ [])
+    ∷ a_body (codes "classes") (codes "if_repaired") (says (codes "promise_repaired") (items (codes "$(x)" ∷ [])) ∷ [])
     ∷ body (named (codes "edit_defaults")) (named (codes "empty")) (named (codes "b") ∷ []) (says (codes "empty_file_before_editing") (quoted (codes "$(b)")) ∷ []) here
     ∷ []
 
@@ -92,7 +71,7 @@ reached promiser attributes = record {
   policy = policy;
   id = id;
   type = promises.Files;
-  promise = promised None promiser attributes;
+  promise = promised promiser attributes;
   scopes = record { own = own; own_name = codes "main"; shared = [] };
   statuses = λ name. No;
   path = codes "main";
