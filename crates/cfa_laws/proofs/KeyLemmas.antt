@@ -24,7 +24,8 @@ use Rattle.cfa_resolve.specs.declared.instances.Work.{Work}
 use Rattle.cfa_resolve.specs.declared.instances.Work.TheVariants.{Acts, Call, Report}
 use Rattle.cfa_resolve.specs.KeyTexts.{fields_after, octal_digit, mode_text, mode_field, names_field, yes_or_no, act_text, datum_text, work_text, classes_text, key_text}
 use Rattle.cfa_laws.specs.Keys.{IsGiven, AreGiven, IsPlainId}
-use Rattle.cfa_laws.proofs.LineLemmas.{no_text, led_line, both_lines, either_line, no_lines, one_more, joined_line, led_lines, field_line, field_lines, decimal_line, one_line}
+use Rattle.cfa_laws.proofs.LineLemmas.{no_text, led_line, both_lines, either_line, no_lines, one_more, joined_line, led_lines, field_line, field_lines, decimal_line}
+use Rattle.cfa_scripts.specs.lemmas.OneLine.{one_line}
 
 fields_line : (first : List ℕ) (fields : List (List ℕ)) → IsOneLine first → All IsOneLine fields → IsOneLine (fields_after first fields)
 fields_line first fields line lines = both_lines first (flat_map (λ field. 32 ∷ field) fields) line (led_lines 32 fields (λ e. omega arith) lines)

@@ -1,10 +1,9 @@
 -- Texts of one line: fields, numbers, words and names, and what is joined of them.
-use Rattle.std.proofs.Common.{◌≡◌, ◌≢◌, ℕ, ◌+◌, ◌==◌, ◌<◌, ◌%◌, ◌^◌, ◌||◌, Bool, true, false, List, [], ◌∷◌, ◌++◌, map, cond, refl, sym, ap, ◌∙◌, arith}
+use Rattle.std.proofs.Common.{◌≡◌, ◌≢◌, ℕ, ◌+◌, ◌<◌, ◌%◌, ◌^◌, Bool, true, false, List, [], ◌∷◌, ◌++◌, map, cond, refl, sym, ap, ◌∙◌, arith}
 use Rattle.std.specs.Fmt.{decimal}
-use Rattle.std.specs.Prelude.{All, not}
-use Rattle.std.specs.List.{join_with_byte, flat_map, list_any}
+use Rattle.std.specs.Prelude.{All}
+use Rattle.std.specs.List.{join_with_byte, flat_map}
 use Rattle.std.proofs.lemmas.Bool.{true≢false}
-use Rattle.std.proofs.lemmas.Bool.Decides.{nat_tests}
 use Rattle.std.proofs.lemmas.Fmt.{decimal_by_steps}
 use Rattle.std.proofs.lemmas.List.Elements.{All-nil, All-cons, All-head, All-tail, All-append, All-push}
 use Rattle.cfa_base.specs.Escapes.{escaped}
@@ -29,27 +28,6 @@ both_lines text more line other = All-append IsOther text more line other
 pub either_line : (b : Bool) (text other : List ℕ) → IsOneLine text → IsOneLine other → IsOneLine (cond b text other)
 either_line true text other line line' = line
 either_line false text other line line' = line'
-
--- ---- texts that are tested
-
-pub not_newline : (b : ℕ) → (b == 10) ≡ false → b ≢ 10
-not_newline b h = λ e. grind (arith, nat_tests)
-
-one_line_by : (b : ℕ) (rest : List ℕ) (t u : Bool) → (b == 10) ≡ t → list_any (λ byte. byte == 10) rest ≡ u → not (t || u) ≡ true → (list_any (λ byte. byte == 10) rest ≡ false → IsOneLine rest) → IsOneLine (b ∷ rest)
-one_line_by b rest true u here later h next = cc
-one_line_by b rest false true here later h next = cc
-one_line_by b rest false false here later h next = All-cons (λ byte. byte ≢ 10) b rest (not_newline b here) (next later)
-
-no_newline : (content : List ℕ) → list_any (λ byte. byte == 10) content ≡ false → IsOneLine content
-no_newline [] h = All-nil (λ byte. byte ≢ 10)
-no_newline (b ∷ rest) h = one_line_by b rest (b == 10) (list_any (λ byte. byte == 10) rest) refl refl (ap not h) (no_newline rest)
-
-not_true : (b : Bool) → not b ≡ true → b ≡ false
-not_true true h = cc
-not_true false h = refl
-
-pub one_line : (content : List ℕ) → not (list_any (λ byte. byte == 10) content) ≡ true → IsOneLine content
-one_line content h = no_newline content (not_true (list_any (λ byte. byte == 10) content) h)
 
 -- ---- what is joined
 

@@ -1,15 +1,15 @@
 -- The number that the text of a field number writes.
-use Rattle.std.proofs.Common.{[], ◌∷◌, ◌≡◌, ◌<◌, ◌≤◌, ◌^◌, ℕ, true, List, ◌&&◌, length, Err, Option, arith}
+use Rattle.std.proofs.Common.{[], ◌∷◌, ◌≡◌, ◌<◌, ◌^◌, ℕ, true, List, ◌&&◌, length, Err, Option, arith}
 use Rattle.std.specs.Prelude.{nat_le}
 use Rattle.std.specs.Str.{all_ascii_digits}
 use Rattle.std.specs.Str.Parse.{digits_value, ParsesUnsigned}
 use Rattle.std.proofs.lemmas.Bool.{and_parts}
-use Rattle.std.proofs.lemmas.Bool.Decides.{nat_tests}
 use Rattle.std.proofs.lemmas.Str.Parse.{IsNumeralModel, numerals_by_value, tells_all_ascii_digits, parse_digits}
 use Rattle.cfa_kinds.specs.declared.kinds.Form.TheVariants.{Character, FieldNumber, FieldOperation}
 use Rattle.cfa_bodies.specs.declared.sayings.Said.{Said}
 use Rattle.cfa_scripts.specs.EditPromises.{is_right_field, is_one_line, is_right}
 use Rattle.cfa_kinds.specs.Forms.{has_form, has_no_leading_zero}
+use Rattle.cfa_scripts.specs.lemmas.FieldNumbers.{number_bounds}
 
 own : IsNumeralModel (λ ds. all_ascii_digits ds ≡ true) (digits_value 10)
 own = numerals_by_value (λ ds. all_ascii_digits ds ≡ true) tells_all_ascii_digits
@@ -17,16 +17,6 @@ own = numerals_by_value (λ ds. all_ascii_digits ds ≡ true) tells_all_ascii_di
 non_empty : (text : List ℕ) → has_no_leading_zero text ≡ true → 0 < length text
 non_empty [] e = cc
 non_empty (b ∷ rest) e = omega arith
-
-pub number_bounds : (text : List ℕ) → has_form FieldNumber text ≡ true → (1 ≤ digits_value 10 text) × (digits_value 10 text ≤ 999)
-number_bounds text form =
-    let short = and_parts (nat_le (length text) 10) _ form in
-    let digits = and_parts (all_ascii_digits text) _ short.1 in
-    let zero = and_parts (has_no_leading_zero text) _ digits.1 in
-    let both = and_parts (nat_le 1 (digits_value 10 text)) (nat_le (digits_value 10 text) 999) zero.1 in
-    let low = both.0 in
-    let high = both.1 in
-    (grind (arith, nat_tests), grind (arith, nat_tests))
 
 -- a field's number is one where the field is right
 pub number_of_field : (separator number value : List ℕ) (operation : Option Said) → is_right_field separator number value operation ≡ true → has_form FieldNumber number ≡ true

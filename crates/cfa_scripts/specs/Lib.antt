@@ -6,3 +6,4 @@ pub mod ScriptBuilds
 pub mod Walking
 pub mod Refusals
 pub mod Callers
+pub mod lemmas

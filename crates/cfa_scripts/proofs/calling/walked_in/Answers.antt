@@ -8,7 +8,7 @@ use Rattle.cfa_scripts.specs.declared.walking.Walk.{Walk}
 use Rattle.cfa_scripts.specs.Callers.{seen_caller}
 use Rattle.cfa_scripts.specs.EditScripts.{around_of, edits_among}
 use Rattle.cfa_scripts.specs.Numbered.{numbered_in, params_of}
-use Rattle.cfa_scripts.proofs.OrderLemmas.{script_edits}
+use Rattle.cfa_scripts.specs.lemmas.Ordered.{script_edits}
 use Rattle.cfa_scripts.proofs.calling.walked_in.Goals as goal
 
 pub conclude-requires : goal.conclude-requires

@@ -1,12 +1,12 @@
--- The edits of a walk are those of a script: each is one, deletes come first, then field edits, inserts and replaces.
-use Rattle.std.proofs.Common.{◌≡◌, ◌≢◌, ◌≤◌, ◌<◌, ◌==◌, ◌&&◌, ◌||◌, ℕ, Bool, true, false, cond, List, [], ◌∷◌, ◌++◌, length, map, append_assoc, ap, sym, subst, refl, Option, Some, None, option_map, arith, codes}
+-- The edits of a walk are those of a script: each is one, deletes come first, then field edits, inserts and replaces. And what holds
+-- of a script of the edits among contributions, and of all that is no script, holds of what the contributions come to.
+use Rattle.std.proofs.Common.{◌≡◌, ◌≢◌, ◌≤◌, ◌<◌, ◌==◌, ◌&&◌, ℕ, Bool, true, false, cond, List, [], ◌∷◌, ◌++◌, length, map, append_assoc, ap, sym, subst, refl, Option, Some, None, option_map, IfSome, arith, codes}
 use Rattle.std.specs.Prelude.{chars, not}
-use Rattle.std.specs.List.{All, list_any, onto_first}
+use Rattle.std.specs.List.{AllByRecursion as Each, onto_first}
 use Rattle.std.specs.Str.Parse.{digits_value}
 use Rattle.std.proofs.lemmas.Bool.{and_parts}
-use Rattle.std.proofs.lemmas.Bool.Decides.{nat_tests}
 use Rattle.std.proofs.lemmas.List.{append-nil}
-use Rattle.std.proofs.lemmas.List.Elements.{All-nil, All-cons, filter_map-append}
+use Rattle.std.proofs.lemmas.List.Elements.{All-nil, All-cons, All-from_recursion, filter_map-append}
 use Rattle.std.proofs.lemmas.List.Splits.{length-slice_split}
 use Rattle.cfa_base.specs.Patterns.{PatternText, pattern_of, is_pattern}
 use Rattle.cfa_base.specs.declared.patterns.How.{How}
@@ -33,41 +33,16 @@ use Rattle.cfa_vars.specs.Expansion.{Chosen, expanded}
 use Rattle.cfa_scripts.specs.declared.contributing.Contribution.{Contribution}
 use Rattle.cfa_scripts.specs.declared.contributing.Contribution.TheVariants.{Edit as an_edit, Unresolved as unresolved, TooMany as many, TooLong as long, BadPattern as bad_pattern, BadValue as bad_value}
 use Rattle.cfa_scripts.specs.declared.walking.Walk.{Walk}
+use Rattle.cfa_scripts.specs.declared.scripting.Scripted.{Scripted}
+use Rattle.cfa_scripts.specs.declared.scripting.Scripted.TheVariants.{Script as a_script, Unresolved as no_script, TooMany as script_many, TooLong as script_long, BadPattern as script_bad_pattern, BadValue as script_bad_value}
 use Rattle.cfa_scripts.specs.Numbered.{Numbered, is_type, of_type}
 use Rattle.cfa_scripts.specs.EditPromises.{is_one_line, first_character, is_right, is_word_said, pattern_read, pattern_if_given, unless_wrong, edit_with, delete_for, is_right_field, field_by, field_for, block_of, spot_for, insert_by, insert_for, replace_by, replace_for, edit_for, whole_text, contribution_by, contribution, edits_by, edits_of}
 use Rattle.cfa_scripts.specs.EditBundles.{Around, walk_at_first, scopes_at, statuses_at, guard_under, kept_by, guarded, reach, walked_from}
-use Rattle.cfa_scripts.specs.EditScripts.{edits_among, edit_in, in_order}
-use Rattle.cfa_scripts.proofs.FormLemmas.{number_bounds}
-
--- a fact of each element
-abbrev Each : {X : Type 0} → (X → Type 0) → List X → Type 0
-Each P [] = Unit {0}
-Each P (x ∷ xs) = P x × Each P xs
-
-each_all : {X : Type 0} (P : X → Type 0) (xs : List X) → Each P xs → All P xs
-each_all P [] h = All-nil P
-each_all P (x ∷ xs) h = All-cons P x xs h.0 (each_all P xs h.1)
+use Rattle.cfa_scripts.specs.EditScripts.{edits_among, edit_in, first_unresolved, first_handed, first_bad, concluded_by, concluded, in_order}
+use Rattle.cfa_scripts.specs.lemmas.FieldNumbers.{number_bounds}
+use Rattle.cfa_scripts.specs.lemmas.OneLine.{not_newline, one_line}
 
 -- ---- edits by themselves
-
-not_newline : (b : ℕ) → (b == 10) ≡ false → b ≢ 10
-not_newline b h = λ e. grind (arith, nat_tests)
-
-one_line_by : (b : ℕ) (rest : List ℕ) (t u : Bool) → (b == 10) ≡ t → list_any (λ byte. byte == 10) rest ≡ u → not (t || u) ≡ true → (list_any (λ byte. byte == 10) rest ≡ false → IsOneLine rest) → IsOneLine (b ∷ rest)
-one_line_by b rest true u here later h next = cc
-one_line_by b rest false true here later h next = cc
-one_line_by b rest false false here later h next = All-cons (λ byte. byte ≢ 10) b rest (not_newline b here) (next later)
-
-no_newline : (content : List ℕ) → list_any (λ byte. byte == 10) content ≡ false → IsOneLine content
-no_newline [] h = All-nil (λ byte. byte ≢ 10)
-no_newline (b ∷ rest) h = one_line_by b rest (b == 10) (list_any (λ byte. byte == 10) rest) refl refl (ap not h) (no_newline rest)
-
-not_true : (b : Bool) → not b ≡ true → b ≡ false
-not_true true h = cc
-not_true false h = refl
-
-one_line : (content : List ℕ) → is_one_line content ≡ true → IsOneLine content
-one_line content h = no_newline content (not_true (list_any (λ byte. byte == 10) content) h)
 
 onto : (b : ℕ) (parts : List (List ℕ)) → b ≢ 10 → Each IsOneLine parts → Each IsOneLine (onto_first b parts)
 onto b [] h each = (All-cons (λ byte. byte ≢ 10) b [] h (All-nil (λ byte. byte ≢ 10)), tt)
@@ -148,7 +123,7 @@ insert_gives promiser anchor side end =
     gives_with 2 (pattern_if_given anchor) (λ p. insert_by promiser p side end) (λ p e.
     gives_unless 2 (is_right forms.Side side && is_right forms.End end)
     (Insert (block_of promiser) (spot_for p (is_word_said (codes "before") side) (is_word_said (codes "first") end))) (λ right.
-    ((given_by anchor p (is_word_said (codes "before") side) (is_word_said (codes "first") end) e, block_some promiser, each_all IsOneLine (block_of promiser) (block_lines promiser)), refl)))
+    ((given_by anchor p (is_word_said (codes "before") side) (is_word_said (codes "first") end) e, block_some promiser, All-from_recursion IsOneLine (block_of promiser) (block_lines promiser)), refl)))
 
 replace_gives : (pattern value : List ℕ) (occurrences : Option Said) → Gives 3 (replace_for pattern value occurrences)
 replace_gives pattern value occurrences =
@@ -283,7 +258,7 @@ Ascending n [] = Unit {0}
 Ascending n (p ∷ ps) = (n ≤ rank_of p.type) × Ascending (rank_of p.type) ps
 
 are_edits : (n : ℕ) (edits : List Edit) → Sorted n edits → AreEdits edits
-are_edits n edits s = record { each = each_all IsEdit edits s.each; order = s.order }
+are_edits n edits s = record { each = All-from_recursion IsEdit edits s.each; order = s.order }
 
 walked_edits : (around : Around) (n : ℕ) (w : Walk) (ps : List Numbered) → Ascending n ps → Sorted n (edits_among w.edits) → AreEdits (edits_among (walked_from around w ps).edits)
 walked_edits around n w [] h s = are_edits n (edits_among w.edits) s
@@ -343,3 +318,34 @@ ascending ps =
 -- the edits of a walk are those of a script
 pub script_edits : (around : Around) (params : Table) (ps : List Numbered) → AreEdits (edits_among (walked_from around (walk_at_first params) (in_order ps)).edits)
 script_edits around params ps = walked_edits around 0 (walk_at_first params) (in_order ps) (ascending ps) (record { each = tt; order = tt; most = tt })
+
+-- ---- what contributions come to
+
+module _ (P : Scripted → Type 0) (unresolved_is : (name : Option (List ℕ)) → P (no_script name)) (many_is : P script_many) (long_is : P script_long) (pattern_is : P script_bad_pattern) (value_is : P script_bad_value) where
+  handed_is : (cs : List Contribution) → IfSome (first_handed cs) P
+  handed_is [] = tt
+  handed_is (an_edit edit ∷ cs) = handed_is cs
+  handed_is (unresolved name ∷ cs) = handed_is cs
+  handed_is (many ∷ cs) = many_is
+  handed_is (long ∷ cs) = long_is
+  handed_is (bad_pattern ∷ cs) = handed_is cs
+  handed_is (bad_value ∷ cs) = handed_is cs
+
+  bad_is : (cs : List Contribution) → IfSome (first_bad cs) P
+  bad_is [] = tt
+  bad_is (an_edit edit ∷ cs) = bad_is cs
+  bad_is (unresolved name ∷ cs) = bad_is cs
+  bad_is (many ∷ cs) = bad_is cs
+  bad_is (long ∷ cs) = bad_is cs
+  bad_is (bad_pattern ∷ cs) = pattern_is
+  bad_is (bad_value ∷ cs) = value_is
+
+  concluded_so : (edits : List Edit) → P (a_script edits) → (unknown : Option (Option (List ℕ))) (handed bad : Option Scripted) → IfSome handed P → IfSome bad P → P (concluded_by unknown handed bad edits)
+  concluded_so edits is (Some name) handed bad h i = unresolved_is name
+  concluded_so edits is None (Some over) bad h i = h
+  concluded_so edits is None None (Some wrong) h i = i
+  concluded_so edits is None None None h i = is
+
+  pub concluded_is : (cs : List Contribution) → P (a_script (edits_among cs)) → P (concluded cs)
+  unfolding concluded
+  concluded_is cs is = concluded_so (edits_among cs) is (first_unresolved cs) (first_handed cs) (first_bad cs) (handed_is cs) (bad_is cs)
