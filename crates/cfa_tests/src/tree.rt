@@ -1,8 +1,6 @@
 // Class texts and the expressions that they read as, and the joining of policies.
 use cfa_base::{Name, NoMemory, Place};
-use cfa_tree::{
-    Attributes, Block, Blocks, Body, Expr, ExprErr, Named, Params, Policy, join, read_expr,
-};
+use cfa_tree::{Block, Body, Expr, ExprErr, Named, Parts, Policy, join, read_expr};
 use std::alloc::Global;
 use std::process::Abort;
 use std::test::Fail;
@@ -120,11 +118,11 @@ fn one_body(alloc: Global, name: &str) -> Result<Policy, NoMemory> {
     let body = Body {
         kind: named(alloc, "file")?,
         name,
-        params: Params::from_vec(Vec::new(alloc)),
-        attributes: Attributes::from_vec(Vec::new(alloc)),
+        params: Parts::from_vec(Vec::new(alloc)),
+        attributes: Parts::from_vec(Vec::new(alloc)),
         place,
     };
-    let blocks = Blocks::from_vec(vec![in alloc; Block::Body(body)]?);
+    let blocks = Parts::from_vec(vec![in alloc; Block::Body(body)]?);
     Ok(Policy { blocks })
 }
 
