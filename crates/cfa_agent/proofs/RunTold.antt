@@ -22,7 +22,8 @@ use Rattle.cfa_agent.specs.Ran.{started, counts_of, IsWhole, RunsAs, IfBothTold,
 use Rattle.cfa_agent.specs.Runs.{Counts, real, run_of, log_of, lines_of, tally_of, history_of, last_line, log_in, tally_in}
 use Rattle.cfa_agent.specs.Standing.{Given, Standing, IsBehind, Agrees, teller_of, IsFirst, since, text_in}
 use Rattle.cfa_agent.specs.WholeLogs.{IsWholeLog}
-use Rattle.cfa_agent.proofs.Logs.{adds_none, each_some}
+use Rattle.cfa_agent.specs.lemmas.Options.{each_some}
+use Rattle.cfa_agent.proofs.Logs.{adds_none}
 use Rattle.cfa_agent.proofs.MarkLemmas.{whole_none}
 
 abbrev given_by : (moment : ℕ) → (locks : Bool) → (before after : Told) → (out : Shown (List ℕ)) → Given
