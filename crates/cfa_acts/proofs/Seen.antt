@@ -1,13 +1,10 @@
 -- What was seen at one time is joined with what was seen at a later one.
 use Rattle.std.proofs.Common.{Option, Some, None, IfSome, refl, sym, subst, ◌∙◌}
+use Rattle.std.proofs.lemmas.Option.{IfSome_then}
 use Rattle.cfa_base.specs.Shown.{Shown}
 use Rattle.cfa_outside.specs.declared.worlds.World.{World}
 use Rattle.cfa_outside.specs.Sites.{Told}
 use Rattle.cfa_acts.specs.Seeing.{OfWorld, IsSeen}
-
-some_weaker : {A : Type 0} (o : Option A) (P Q : A → Type 0) → ((x : A) → P x → Q x) → IfSome o P → IfSome o Q
-some_weaker None P Q f h = h
-some_weaker (Some x) P Q f h = f x h
 
 some_both : {A : Type 0} (o : Option A) (P Q : A → Type 0) → IfSome o P → IfSome o Q → IfSome o (λ x. P x × Q x)
 some_both None P Q h k = h
@@ -20,14 +17,14 @@ of_all P shown each = every shown.told where
   every (Some t) = each t.world
 
 pub of_weaker : (P Q : World → Type 0) (shown : Shown Told) → ((w : World) → P w → Q w) → OfWorld P shown → OfWorld Q shown
-of_weaker P Q shown f h = some_weaker shown.told (λ t. P t.world) (λ t. Q t.world) (λ t. f t.world) h
+of_weaker P Q shown f h = IfSome_then shown.told h (λ t. f t.world)
 
 pub of_both : (P Q : World → Type 0) (shown : Shown Told) → OfWorld P shown → OfWorld Q shown → OfWorld (λ w. P w × Q w) shown
 of_both P Q shown h k = some_both shown.told (λ t. P t.world) (λ t. Q t.world) h k
 
 pub weaker : (P Q : World → Type 0) (before after : Shown Told) → ((w : World) → P w → Q w) → IsSeen P before after → IsSeen Q before after
 weaker P Q before after f seen = record {
-  holds = some_weaker before.told (λ t. P t.world) (λ t. Q t.world) (λ t. f t.world) seen.holds;
+  holds = IfSome_then before.told seen.holds (λ t. f t.world);
   shown = seen.shown;
 }
 
@@ -40,7 +37,7 @@ both P Q before between after p q = record {
 -- what was seen still holds afterwards
 pub at_end : (P Q : World → Type 0) (before after : Shown Told) → ((w : World) → P w → Q w) → IsSeen P before after → OfWorld Q after
 at_end P Q before after f seen =
-    subst (OfWorld Q) (sym seen.shown) (some_weaker before.told (λ t. P t.world) (λ t. Q t.world) (λ t. f t.world) seen.holds)
+    subst (OfWorld Q) (sym seen.shown) (IfSome_then before.told seen.holds (λ t. f t.world))
 
 -- what holds now was seen without a call
 pub now : (P : World → Type 0) (shown : Shown Told) → OfWorld P shown → IsSeen P shown shown

@@ -26,9 +26,10 @@ use Rattle.cfa_agent.specs.declared.recording.Heading.{Heading}
 use Rattle.cfa_agent.specs.Actuations.{done_by, is_change, is_some_change, changed}
 use Rattle.cfa_agent.specs.Recording.{opening, opening_at}
 use Rattle.cfa_agent.specs.Actuating.{Takes, refused_entries, DoesActs, mark_by, acted}
+use Rattle.cfa_agent.specs.lemmas.Hosts.{after_both, adds_none, same_after}
 use Rattle.cfa_agent.specs.lemmas.Options.{some_weaker, each_some}
-use Rattle.cfa_agent.proofs.Logs.{after_both, adds_both, adds_none}
-use Rattle.cfa_agent.proofs.Hosts.{same_after, same_opened, actuated_same}
+use Rattle.cfa_agent.proofs.Logs.{adds_both}
+use Rattle.cfa_agent.proofs.Hosts.{same_opened, actuated_same}
 
 -- some changes, and then what acts do
 abbrev pub behind : List Change → Actuated → Actuated

@@ -1,5 +1,5 @@
 -- A run that agrees with the definition after an instance has ended agreed with it before.
-use Rattle.std.proofs.Common.{◌≡◌, ℕ, suc, ◌<◌, ◌≤◌, ◌^◌, Bool, List, ◌++◌, length, Option, Some, IfSome, sym, ap, subst, ◌∙◌, arith, length-append}
+use Rattle.std.proofs.Common.{◌≡◌, ℕ, suc, ◌<◌, ◌≤◌, ◌^◌, Bool, List, ◌++◌, length, Option, sym, ap, subst, ◌∙◌, arith, length-append}
 use Rattle.std.proofs.lemmas.List.{drop-append-le}
 use Rattle.std.proofs.Math.Seq.{drop-append_seam}
 use Rattle.cfa_outside.specs.declared.sites.Entry.{Entry}
@@ -86,6 +86,3 @@ on_first n g log whole =
       longer = omega (arith, length-append g.log log);
       whole = subst P (sym (since_first g log)) whole;
     }
-
-pub some_at : {A : Type 0} (o : Option A) (x : A) (P : A → Type 0) → o ≡ Some x → IfSome o P → P x
-some_at {A} o x P is h = let Q : Option A → Type 0 = λ o. IfSome o P in subst Q is h

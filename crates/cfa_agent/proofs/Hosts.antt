@@ -6,25 +6,20 @@ use Rattle.cfa_outside.specs.declared.sites.Change.{Change}
 use Rattle.cfa_outside.specs.declared.sites.Change.TheVariants.{PutFile, PutDir, Remove, SetPerms, PutService, PutLock, Append}
 use Rattle.cfa_outside.specs.declared.sites.Entry.{Entry}
 use Rattle.cfa_outside.specs.Sites.{fits, after, after_change}
-use Rattle.cfa_outside.specs.Worlds.{put_file, put_directory, set_perms}
 use Rattle.cfa_acts.specs.declared.acts.Act.{Act}
 use Rattle.cfa_acts.specs.declared.acts.Act.TheVariants as act
 use Rattle.cfa_acts.specs.declared.acts.Decision.{Decision}
 use Rattle.cfa_acts.specs.declared.acts.Decision.TheVariants as decisions
 use Rattle.cfa_acts.specs.Acts.{decision, post, needed}
 use Rattle.cfa_walk.specs.Tellers.{Actuated, actuated, actuated_by, changing}
-use Rattle.std.specs.FinMap as map
 use Rattle.cfa_resolve.specs.declared.instances.Instance.{Instance}
 use Rattle.cfa_agent.specs.declared.recording.Heading.{Heading}
 use Rattle.cfa_journal.specs.declared.records.Record.TheVariants.{Open}
 use Rattle.cfa_locks.specs.Locks.{key_of}
 use Rattle.cfa_agent.specs.Actuations.{run_record, appended}
 use Rattle.cfa_agent.specs.Recording.{opening, opening_at}
-use Rattle.cfa_agent.proofs.Logs.{after_both}
-
-pub record SameHost (a b : World) : Type 0 where
-  pub nodes : a.nodes ≡ b.nodes
-  pub services : a.services ≡ b.services
+use Rattle.cfa_agent.specs.Hosts.{SameHost}
+use Rattle.cfa_agent.specs.lemmas.Hosts.{after_both, same_trans, same_after, same_recorded, same_run}
 
 -- a world with the locks and the journal of another
 abbrev beside : World → World → World
@@ -64,16 +59,6 @@ fits_beside (Append bytes) a b = refl
 pub fits_same : (change : Change) (a b : World) → SameHost a b → IsTrue (fits change a) → IsTrue (fits change b)
 fits_same change a b same h = subst IsTrue (fits_beside change a b ∙ ap (fits change) (beside_same a b same)) h
 
-pub same_after : (change : Change) (a b : World) → SameHost a b → SameHost (after_change change a) (after_change change b)
-unfolding after_change
-same_after (PutFile path bytes) a b same = record { nodes = ap (put_file path bytes) same.nodes; services = same.services }
-same_after (PutDir path) a b same = record { nodes = ap (put_directory path) same.nodes; services = same.services }
-same_after (Remove path) a b same = record { nodes = ap (λ nodes. map.remove nodes path) same.nodes; services = same.services }
-same_after (SetPerms path perms) a b same = record { nodes = ap (set_perms path perms) same.nodes; services = same.services }
-same_after (PutService name row) a b same = record { nodes = same.nodes; services = ap (λ services. map.insert services name row) same.services }
-same_after (PutLock key moment) a b same = record { nodes = same.nodes; services = same.services }
-same_after (Append bytes) a b same = record { nodes = same.nodes; services = same.services }
-
 by_rest : (d : Decision) (kept kept' : Actuated) (changed changed' : Change → Actuated) → kept ≡ kept' → ((change : Change) → changed change ≡ changed' change) → actuated_by d kept changed ≡ actuated_by d kept' changed'
 by_rest decisions.Kept kept kept' changed changed' e f = e
 by_rest (decisions.Needs change) kept kept' changed changed' e f = ap (changing change) (f change)
@@ -87,22 +72,10 @@ actuated_same (asked ∷ acts) a b same =
     ∙ by_rest (decision asked b) (actuated acts a) (actuated acts b) (λ change. actuated acts (after_change change a)) (λ change. actuated acts (after_change change b)) (actuated_same acts a b same)
     (λ change. actuated_same acts (after_change change a) (after_change change b) (same_after change a b same))
 
--- records change neither nodes nor services
-same_appended : (bytes : List ℕ) (w : World) → SameHost (after_change (Append bytes) w) w
-unfolding after_change
-same_appended bytes w = record { nodes = refl; services = refl }
-
-pub same_trans : (a b c : World) → SameHost a b → SameHost b c → SameHost a c
-same_trans a b c first second = record { nodes = first.nodes ∙ second.nodes; services = first.services ∙ second.services }
-
-same_run : (moment : ℕ) (has_record : Bool) (w : World) → SameHost (after (run_record moment has_record) w) w
-same_run moment true w = record { nodes = refl; services = refl }
-same_run moment false w = same_appended _ w
-
 pub same_opening : (heading : Heading) (instance : Instance) (w : World) → SameHost (after (opening heading instance) w) w
 same_opening heading instance w = by_run (run_record heading.moment heading.has_record) w (same_run heading.moment heading.has_record w) where
   by_run : (entries : List Entry) (w : World) → SameHost (after entries w) w → SameHost (after (entries ++ appended (Open heading.number instance.source (key_of instance.text)) ∷ []) w) w
-  by_run entries w same = subst (λ v. SameHost v w) (sym (after_both entries (appended (Open heading.number instance.source (key_of instance.text)) ∷ []) w)) (same_trans _ (after entries w) w (same_appended _ (after entries w)) same)
+  by_run entries w same = subst (λ v. SameHost v w) (sym (after_both entries (appended (Open heading.number instance.source (key_of instance.text)) ∷ []) w)) (same_trans _ (after entries w) w (same_recorded (Open heading.number instance.source (key_of instance.text)) (after entries w)) same)
 
 -- the records before a change that stands behind so many others
 pub same_opened : (changes : ℕ) (heading : Heading) (instance : Instance) (w : World) → SameHost (after (opening_at changes heading instance) w) w

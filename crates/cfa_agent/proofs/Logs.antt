@@ -1,28 +1,19 @@
 -- Entries that are added to a log one after the other.
-use Rattle.std.proofs.Common.{◌≡◌, ◌≤◌, List, [], ◌∷◌, ◌++◌, Some, None, Option, option_map, Result, Ok, Err, refl, sym, ap, subst, ◌∙◌, append-nil, append_assoc}
+use Rattle.std.proofs.Common.{◌≡◌, ◌≤◌, List, [], ◌++◌, Some, None, Option, option_map, Result, Ok, Err, refl, sym, ap, subst, ◌∙◌, append_assoc}
 use Rattle.cfa_base.specs.Causes.{Rose}
 use Rattle.cfa_base.specs.Shown.{Shown, followed, Follows}
-use Rattle.cfa_outside.specs.declared.worlds.World.{World}
 use Rattle.cfa_outside.specs.declared.sites.Entry.{Entry}
-use Rattle.cfa_outside.specs.declared.sites.Entry.TheVariants.{Did, Refused}
-use Rattle.cfa_outside.specs.Sites.{Told, adds, after, after_change}
+use Rattle.cfa_outside.specs.Sites.{Told, adds, after}
 use Rattle.cfa_output.specs.declared.ends.Object.TheVariants.{Inputs, Site, Sink}
 use Rattle.cfa_output.specs.declared.ends.Stop.{Stop}
 use Rattle.cfa_output.specs.declared.ends.Stop.TheVariants.{Outside, Memory, Visits, Pattern}
+use Rattle.cfa_agent.specs.lemmas.Hosts.{after_both, adds_none}
 use Rattle.cfa_agent.specs.Recording.{HasFault, StopsBySite, Writes}
 
 -- ---- logs
 
-pub after_both : (a b : List Entry) (w : World) → after (a ++ b) w ≡ after b (after a w)
-after_both [] b w = refl
-after_both (Did change ∷ a) b w = after_both a b (after_change change w)
-after_both (Refused _ ∷ a) b w = after_both a b w
-
 pub adds_both : (a b : List Entry) (t : Told) → adds b (adds a t) ≡ adds (a ++ b) t
 adds_both a b t i = record { world = sym (after_both a b t.world) i; log = append_assoc t.log a b i }
-
-pub adds_none : (t : Told) → adds [] t ≡ t
-adds_none t i = record { world = t.world; log = append-nil t.log i }
 
 -- nothing happens
 pub follows_none : (site : Shown Told) → Follows (adds []) site site

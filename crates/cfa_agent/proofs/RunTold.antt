@@ -1,5 +1,5 @@
 -- What a whole run came to.
-use Rattle.std.proofs.Common.{◌≡◌, ℕ, Bool, List, [], Option, Some, Result, Ok, Err, IsErrAnd, sym, ap, subst, ◌∙◌}
+use Rattle.std.proofs.Common.{◌≡◌, ℕ, Bool, List, [], Some, Ok, Err, sym, ap, subst, ◌∙◌}
 use Rattle.cfa_base.specs.Causes.{Rose}
 use Rattle.cfa_base.specs.Shown.{Shown, Follows}
 use Rattle.cfa_outside.specs.Sites.{Told, adds}
@@ -14,7 +14,6 @@ use Rattle.cfa_walk.specs.Passes.{Course, goes, too_large, run}
 use Rattle.cfa_walk.specs.Views.{Setting}
 use Rattle.cfa_walk.specs.Walked.{HasRun}
 use Rattle.cfa_agent.specs.declared.progress.Running.{Running}
-use Rattle.cfa_agent.specs.declared.running.Tally.{Tally}
 use Rattle.cfa_agent.specs.Actuations.{mark_of}
 use Rattle.cfa_agent.specs.Ending.{StopsPut}
 use Rattle.cfa_agent.specs.Marks.{marks_of}
@@ -22,21 +21,18 @@ use Rattle.cfa_agent.specs.Ran.{started, counts_of, IsWhole, RunsAs, IfBothTold,
 use Rattle.cfa_agent.specs.Runs.{Counts, real, run_of, log_of, lines_of, tally_of, history_of, last_line, log_in, tally_in}
 use Rattle.cfa_agent.specs.Standing.{Given, Standing, IsBehind, Agrees, teller_of, IsFirst, since, text_in}
 use Rattle.cfa_agent.specs.WholeLogs.{IsWholeLog}
-use Rattle.cfa_agent.specs.lemmas.Options.{each_some}
-use Rattle.cfa_agent.proofs.Logs.{adds_none}
+use Rattle.cfa_agent.specs.lemmas.Hosts.{adds_none}
+use Rattle.cfa_agent.specs.lemmas.Options.{each_some, one_some}
 use Rattle.cfa_agent.proofs.MarkLemmas.{whole_none}
 
 abbrev given_by : (moment : ℕ) → (locks : Bool) → (before after : Told) → (out : Shown (List ℕ)) → Given
 given_by moment locks before after out = record { start = started moment locks before after; log = before.log; out = out }
 
-some_same : {A : Type 0} (o : Option A) (x y : A) → o ≡ Some x → o ≡ Some y → x ≡ y
-some_same o x y e f = cc
-
 -- a run agrees with the marks of all that it added
 agrees_with_all : (moment : ℕ) (locks : Bool) (w : Standing) (before after : Told) (out : Shown (List ℕ)) → w.1.0.told ≡ Some after → Agrees w (given_by moment locks before after out)
 agrees_with_all moment locks w before after out is t told on k le =
     let g : Given = given_by moment locks before after out in
-    ap (λ (t : Told). mark_of (marks_of (since g t)) k) (some_same w.1.0.told after t is told)
+    ap (λ (t : Told). mark_of (marks_of (since g t)) k) (one_some is told)
 
 -- a run that begins has done nothing
 begins_behind : (moment : ℕ) (locks : Bool) (r : Running) (site : Shown Told) (before after : Told) (out : Shown (List ℕ)) → IsFirst moment locks r → site.told ≡ Some before →
@@ -71,7 +67,7 @@ runs_as setting moment locks w before after out out' is went put =
     let P : Counts → Type 0 = λ counts. Follows (adds_bytes (last_line counts)) w.1.1 out' in
     record {
       is_whole = ended.0;
-      site_is = some_same w.1.0.told after (adds (log_in g.start (history_of (run setting (real g.start)))) before) is told;
+      site_is = one_some is told;
       out_is =
           puts_then (text_in g.start (history_of (run setting (real g.start)))) (last_line (tally_in (history_of (run setting (real g.start))))) out w.1.1 out'
           behind.out_is (subst P behind.counts_are put);
@@ -155,8 +151,3 @@ total_refuses out1 out' (Outside object) pats pats' h same = same
 total_refuses out1 out' Memory pats pats' h same = same
 total_refuses out1 out' Visits pats pats' h same = same
 total_refuses out1 out' (Pattern text) pats pats' h same = absurd h
-
--- what the exit of a `?` answers
-pub stopped_by : (P : Result Tally Stop → Type 0) (result : Result Tally Stop) (stop : Stop) → IsErrAnd result (λ e. e ≡ stop) → P (Err stop) → P result
-stopped_by P (Ok tally) stop same stopped = absurd same
-stopped_by P (Err e) stop same stopped = subst (λ (x : Stop). P (Err x)) (sym same) stopped

@@ -1,4 +1,5 @@
 pub mod Actuations
+pub mod Hosts
 pub mod Marks
 pub mod Runs
 pub mod Ran

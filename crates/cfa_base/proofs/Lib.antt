@@ -2,6 +2,5 @@ pub mod LexingRows
 pub mod PatternLemmas
 pub mod IndexLemmas
 pub mod EscapeLemmas
-pub mod Fronts
 pub mod Ranges
 pub mod KeyLemmas

@@ -10,7 +10,7 @@ use Rattle.std.specs.List.{list_any, starts_with}
 use Rattle.std.specs.Ordering.{eq_by_cmp}
 use Rattle.std.specs.String.{string_bytes, string_cmp}
 use Rattle.cfa_base.specs.TextMaps.{text_cmp, text_map}
-use Rattle.cfa_base.proofs.Fronts.{from_front, between}
+use Rattle.cfa_base.specs.lemmas.Fronts.{from_front, between}
 use Rattle.cfa_base.specs.lemmas.TextMaps.{get-text_map, found_key, any_passes, none_passes}
 
 module _ {Y X : Type 0} (m : tree.BTreeMap (String Y) X) (front : String Y) where

@@ -2,6 +2,7 @@
 pub mod Boundaries
 pub mod EndPlaces
 pub mod Escapes
+pub mod Fronts
 pub mod Scanning
 pub mod Spelled
 pub mod Taking

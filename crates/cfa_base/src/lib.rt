@@ -7,6 +7,7 @@ mod escapes;
 mod index;
 mod keys;
 mod limits;
+mod parts;
 mod patterns;
 mod places;
 mod text_maps;
@@ -24,6 +25,7 @@ pub use limits::{
     LAST_MOMENT, MOST_COMBINATIONS, MOST_FILE_BYTES, MOST_INPUTS, MOST_SOURCE_BYTES,
     MOST_TEXT_BYTES,
 };
+pub use parts::Parts;
 pub use patterns::{How, Matcher, Pattern, PatternErr, Patterns};
 pub use places::{Place, PromiseId, is_before};
 pub use text_maps::TextMap;

@@ -3,7 +3,7 @@ use Rattle.std.proofs.Common.{◌≡◌, ℕ, suc, ◌+◌, ◌<◌, inl, inr, L
 use Rattle.std.proofs.lemmas.Bool.{false≢true, false_from_ne_true, eqb-true, and_parts, and_from, or_left, or_right, or_cases}
 use Rattle.std.proofs.lemmas.List.{get_or_default}
 use Rattle.std.proofs.lemmas.List.Folds.{Any-from_list_any}
-use Rattle.std.proofs.lemmas.Option.{slice_get_within, slice_get-get_or}
+use Rattle.std.proofs.lemmas.Option.{none-some, slice_get_within, slice_get-get_or}
 use Rattle.std.specs.Cmp.Lexicographic.{pointwise}
 use Rattle.std.specs.Prelude.{nat_eq, slice_get}
 use Rattle.std.specs.List.{filter, flat_map, list_any}
@@ -47,10 +47,7 @@ none_after : {X Y : Type 0} (f : X → Y) (test : X → Bool) (y : X) (ys : List
 none_after f test y ys is none = sym (ap (λ b. first_of (map f (cond b (y ∷ filter test ys) (filter test ys)))) is) ∙ none
 
 not_some : {X : Type 0} (o : Option X) (x : X) {P : Type 0} → o ≡ None → o ≡ Some x → P
-not_some o x none some = absurd (none_is_some x (sym none ∙ some))
-  where
-    none_is_some : {X : Type 0} (x : X) → None ≡ Some x → ⊥
-    none_is_some x is = cc
+not_some o x none some = absurd (none-some x (sym none ∙ some))
 
 none_passes : {X Y : Type 0} (f : X → Y) (test : X → Bool) (xs : List X) (x : X) → first_of (map f (filter test xs)) ≡ None → In x xs → test x ≡ false
 none_passes f test [] x none among = absurd among

@@ -15,7 +15,7 @@ use Rattle.cfa_resolve.specs.declared.instances.Instance.{Instance}
 use Rattle.cfa_acts.specs.Same.{is_same}
 use Rattle.cfa_conflict.specs.Targets.{Row, seen_row, seen_rows, acts_at, is_row, is_like, HaveLikes}
 use Rattle.cfa_conflict.proofs.RowLemmas.{Seen}
-use Rattle.cfa_conflict.proofs.TargetLemmas.{in_left, in_right}
+use Rattle.cfa_conflict.specs.lemmas.Anywhere.{in_left, in_right}
 
 any_seen : (test : Row → Bool) (rows : List Seen) (i : ℕ) (d : Seen) → i < length rows → test (seen_row (get_or rows i d)) ≡ true → list_any test (seen_rows rows) ≡ true
 any_seen test [] i d lt is = absurd (omega arith)

@@ -1,5 +1,6 @@
 -- What the promises of conflicts meet in.
 use Rattle.std.proofs.Common.{◌≡◌, ℕ, ◌+◌, ◌==◌, Bool, true, false, if◌then◌else◌, List, [], ◌∷◌, ◌++◌, map, Some, None, Option, sym, ap, subst}
+use Rattle.std.proofs.lemmas.Option.{none-some, same_Some}
 use Rattle.std.specs.List.{flat_map, filter}
 use Rattle.cfa_acts.specs.declared.acts.Act.{Act}
 use Rattle.cfa_acts.specs.declared.acts.Act.TheVariants.{Create, MakeDir, Delete, Content, Copy, Edit, Perms, Start, Stop, Enable, Disable, Restart, Bust}
@@ -144,18 +145,10 @@ verdict_meets : (kept walk : Walk) (c : Conflict) → verdict_of kept walk ≡ v
 unfolding verdict_of
 verdict_meets kept walk c is = first_meets (conflicts kept walk) (live_instances kept) c (all_each kept walk) is
 
-abbrev verdict_or : Verdict → Option Verdict → Verdict
-verdict_or other None = other
-verdict_or other (Some v) = v
-
-abbrev is_some : Option Verdict → Type 0
-is_some None = ⊥
-is_some (Some v) = Unit {0}
-
 over_meets : (s : Setting) (kept walk : Course) (c : Conflict) → verdict_over s kept walk ≡ Some (verdict.Conflict c) → IsResource c.resource
-over_meets s (goes kept) (goes walk) c is = verdict_meets (walked s kept) (walked s walk) c (ap (verdict_or (verdict.Conflict c)) is)
-over_meets s (goes kept) (too_large walk) c is = absurd (subst is_some (sym is) tt)
-over_meets s (too_large kept) walk c is = absurd (subst is_some (sym is) tt)
+over_meets s (goes kept) (goes walk) c is = verdict_meets (walked s kept) (walked s walk) c (same_Some (verdict_of (walked s kept) (walked s walk)) (verdict.Conflict c) is)
+over_meets s (goes kept) (too_large walk) c is = absurd (none-some (verdict.Conflict c) is)
+over_meets s (too_large kept) walk c is = absurd (none-some (verdict.Conflict c) is)
 
 pub conflicts_meet : ConflictsMeet
 unfolding analysis_of

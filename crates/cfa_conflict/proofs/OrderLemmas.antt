@@ -1,8 +1,8 @@
 -- Rows in the order of their targets: those that begin alike stand together.
-use Rattle.std.proofs.Common.{◌≡◌, ℕ, ◌+◌, ◌<◌, ◌≤◌, List, [], ◌∷◌, ◌++◌, length, get_or, take, drop, Bool, true, false, ◌&&◌, cond, eqb, eq-eqb, refl, sym, ap, subst, ◌∙◌, arith}
-use Rattle.std.proofs.lemmas.Bool.{false≢true, false_from_ne_true, eqb-true, and_parts, and_from}
+use Rattle.std.proofs.Common.{◌≡◌, ℕ, ◌+◌, ◌<◌, ◌≤◌, List, [], ◌∷◌, ◌++◌, length, get_or, take, drop, Bool, true, false, cond, eqb, refl, sym, ap, subst, ◌∙◌, arith}
+use Rattle.std.proofs.lemmas.Bool.{false≢true, false_from_ne_true}
 use Rattle.std.proofs.lemmas.Bool.Decides.{nat_tests}
-use Rattle.std.proofs.lemmas.Cmp.{ranked, nat_list_cmp_total, is_lt_index, tied_itself}
+use Rattle.std.proofs.lemmas.Cmp.{nat_list_cmp_total, is_lt_index, tied_itself}
 use Rattle.std.proofs.lemmas.List.{take-append-drop, get_or-drop, get_or-take, length-drop, length-take-le, append-nil}
 use Rattle.std.proofs.lemmas.List.Elements.{filter-append, All-head, All-tail}
 use Rattle.std.proofs.lemmas.Map.Text.{is_eq-slice_cmp}
@@ -17,54 +17,11 @@ use Rattle.std.specs.declared.cmp.Ordering.{Ordering}
 use Rattle.std.specs.declared.cmp.Ordering.TheVariants.{Less, Equal, Greater}
 use denote.Ref.{Bor}
 use Rattle.cfa_base.specs.Index.{Text}
+use Rattle.cfa_base.specs.lemmas.Fronts.{from_front, between}
 use Rattle.cfa_conflict.specs.Targets.{AreSorted, is_row_before, begins_with, is_target}
 
 abbrev text_cmp : Text → Text → Ordering
 text_cmp = slice_cmp nat_cmp
-
--- ---- texts that begin alike
-
-level : (x y : ℕ) → x ≡ y → nat_cmp x y ≡ Equal
-level x y same = grind (arith, nat_tests)
-
-not_above : (x y : ℕ) (o : Ordering) → is_gt (ordering_then (nat_cmp x y) o) ≡ false → x ≤ y
-not_above x y o le =
-    elim (nat_cmp x y) as (λ r. r ≡ nat_cmp x y → is_gt (ordering_then r o) ≡ false → x ≤ y) [
-      | Less ↦ λ e _. let lt : x < y = ranked x y Less e in omega arith
-      | Equal ↦ λ e _. let same : x ≡ y = ranked x y Equal e in omega arith
-      | Greater ↦ λ e is. absurd (false≢true (sym is))
-    ] refl le
-
-rest_above : (x y : ℕ) (o : Ordering) → x ≡ y → is_gt (ordering_then (nat_cmp x y) o) ≡ false → is_gt o ≡ false
-rest_above x y o same le = ap (λ r. is_gt (ordering_then r o)) (sym (level x y same)) ∙ le
-
-heads_agree : (x y : ℕ) (b : Bool) → (nat_eq x y && b) ≡ true → x ≡ y
-heads_agree x y b is = eqb-true x y (and_parts (eqb x y) b is).0
-
-tails_agree : (x y : ℕ) (b : Bool) → (nat_eq x y && b) ≡ true → b ≡ true
-tails_agree x y b is = (and_parts (eqb x y) b is).1
-
--- a text that begins with a front isn't before it
-from_front : (front text : Text) → starts_with nat_eq text front ≡ true → is_gt (text_cmp front text) ≡ false
-from_front [] [] is = refl
-from_front [] (y ∷ ys) is = refl
-from_front (x ∷ xs) [] is = absurd (false≢true is)
-from_front (x ∷ xs) (y ∷ ys) is =
-    let heads : x ≡ y = heads_agree x y (starts_with nat_eq ys xs) is in
-    ap (λ o. is_gt (ordering_then o (text_cmp xs ys))) (level x y heads) ∙ from_front xs ys (tails_agree x y (starts_with nat_eq ys xs) is)
-
--- what stands between a front and a text that begins with it begins with it
-between : (front low high : Text) → is_gt (text_cmp front low) ≡ false → is_gt (text_cmp low high) ≡ false → starts_with nat_eq high front ≡ true → starts_with nat_eq low front ≡ true
-between [] low high a b is = refl
-between (x ∷ xs) [] high a b is = absurd (false≢true (sym a))
-between (x ∷ xs) (y ∷ ys) [] a b is = absurd (false≢true is)
-between (x ∷ xs) (y ∷ ys) (z ∷ zs) a b is =
-    let same : x ≡ z = heads_agree x z (starts_with nat_eq zs xs) is in
-    let low : x ≤ y = not_above x y (text_cmp xs ys) a in
-    let high : y ≤ z = not_above y z (text_cmp ys zs) b in
-    let here : x ≡ y = omega arith in
-    let there : y ≡ z = omega arith in
-    and_from (nat_eq x y) (starts_with nat_eq ys xs) (eq-eqb x y here) (between xs ys zs (rest_above x y (text_cmp xs ys) here a) (rest_above y z (text_cmp ys zs) there b) (tails_agree x z (starts_with nat_eq zs xs) is))
 
 -- ---- the order of the rows
 
@@ -210,3 +167,14 @@ found_together rows rest found key test start end near up low behind high taken 
     let none_behind = subst (λ (l : List (Bor Text × ℕ)). AllWithin (λ row. test row ≡ false) l end (length l)) behind last.1 in
     let none_in_front : AllWithin (λ row. test row ≡ false) rows 0 start = λ k d from to. near.none_before (get_or rows k d) (point.0 k d from to) in
     taken ∙ ap (take end) behind ∙ kept_between test rows start end low bound none_in_front found_here none_behind
+
+-- where those in front pass and the next one doesn't, none behind does
+pub point_of : {X : Type 0} (test : X → Bool) (xs : List X) (end : ℕ) → AllWithin (λ x. test x ≡ true) xs 0 end
+    → ((d : X) → end < length xs → test (get_or xs end d) ≡ false)
+    → IsPartitionedBy test xs → IsPartitionPoint (λ x. test x ≡ true) (λ x. test x ≡ false) xs end
+point_of test xs end front next parted = (
+  front,
+  λ k d from to.
+      let at : end < length xs = omega arith in
+      false_from_ne_true (test (get_or xs k d)) (λ is. false≢true (sym (next d at) ∙ parted end k d from to is)),
+)

@@ -9,9 +9,6 @@ use Rattle.cfa_acts.specs.declared.acts.Act.{Act}
 use Rattle.cfa_acts.specs.declared.acts.Act.TheVariants.{Create, MakeDir, Delete, Content, Copy, Edit, Perms, Start, Stop, Enable, Disable, Restart, Bust}
 use Rattle.cfa_acts.specs.Same.{is_same_mode, is_same_flag, is_same}
 
-no_case : {P : Type 0} → false ≡ true → P
-no_case is = absurd (false≢true is)
-
 text_is : (x y : Text) → bytes_eq x y ≡ true → x ≡ y
 text_is x y = (bytes_eq-Decides x y).0
 
@@ -20,14 +17,14 @@ names_are xs ys = (slice_eq-Decides bytes_eq-Decides xs ys (pointwise bytes_eq x
 
 mode_is : (a b : Option ℕ) → is_same_mode a b ≡ true → a ≡ b
 mode_is (Some a) (Some b) is = ap Some (eqb-true a b is)
-mode_is (Some a) None is = no_case is
-mode_is None (Some b) is = no_case is
+mode_is (Some a) None is = absurd (false≢true is)
+mode_is None (Some b) is = absurd (false≢true is)
 mode_is None None is = refl
 
 flag_is : (a b : Bool) → is_same_flag a b ≡ true → a ≡ b
 flag_is true true is = refl
-flag_is true false is = no_case is
-flag_is false true is = no_case is
+flag_is true false is = absurd (false≢true is)
+flag_is false true is = absurd (false≢true is)
 flag_is false false is = refl
 
 delete_is : (path other : Text) (a b : Bool) → (bytes_eq path other && is_same_flag a b) ≡ true → Delete path a ≡ Delete other b
@@ -67,33 +64,33 @@ perms_are path other mode m owners os groups gs is =
 
 same_is : (act other : Act) → is_same act other ≡ true → act ≡ other
 same_is (Create path) (Create other) is = ap Create (text_is path other is)
-same_is (Create path) _ is = no_case is
+same_is (Create path) _ is = absurd (false≢true is)
 same_is (MakeDir path) (MakeDir other) is = ap MakeDir (text_is path other is)
-same_is (MakeDir path) _ is = no_case is
+same_is (MakeDir path) _ is = absurd (false≢true is)
 same_is (Delete path with_directories) (Delete other with_too) is = delete_is path other with_directories with_too is
-same_is (Delete path with_directories) _ is = no_case is
+same_is (Delete path with_directories) _ is = absurd (false≢true is)
 same_is (Content path bytes) (Content other content) is = content_is path other bytes content is
-same_is (Content path bytes) _ is = no_case is
+same_is (Content path bytes) _ is = absurd (false≢true is)
 same_is (Copy source path) (Copy from other) is = copy_is source path from other is
-same_is (Copy source path) _ is = no_case is
-same_is (Edit path _) _ is = no_case is
+same_is (Copy source path) _ is = absurd (false≢true is)
+same_is (Edit path _) _ is = absurd (false≢true is)
 same_is (Perms path mode owners groups) (Perms other m os gs) is = perms_are path other mode m owners os groups gs is
-same_is (Perms path mode owners groups) _ is = no_case is
+same_is (Perms path mode owners groups) _ is = absurd (false≢true is)
 same_is (Start name) (Start other) is = ap Start (text_is name other is)
-same_is (Start name) _ is = no_case is
+same_is (Start name) _ is = absurd (false≢true is)
 same_is (Stop name) (Stop other) is = ap Stop (text_is name other is)
-same_is (Stop name) _ is = no_case is
+same_is (Stop name) _ is = absurd (false≢true is)
 same_is (Enable name) (Enable other) is = ap Enable (text_is name other is)
-same_is (Enable name) _ is = no_case is
+same_is (Enable name) _ is = absurd (false≢true is)
 same_is (Disable name) (Disable other) is = ap Disable (text_is name other is)
-same_is (Disable name) _ is = no_case is
-same_is (Restart name) _ is = no_case is
-same_is (Bust _) _ is = no_case is
+same_is (Disable name) _ is = absurd (false≢true is)
+same_is (Restart name) _ is = absurd (false≢true is)
+same_is (Bust _) _ is = absurd (false≢true is)
 
 pub acts_are : (acts others : List Act) → pointwise is_same acts others ≡ true → acts ≡ others
 acts_are [] [] is = refl
-acts_are [] (other ∷ others) is = no_case is
-acts_are (act ∷ acts) [] is = no_case is
+acts_are [] (other ∷ others) is = absurd (false≢true is)
+acts_are (act ∷ acts) [] is = absurd (false≢true is)
 acts_are (act ∷ acts) (other ∷ others) is =
     let parts = and_parts (is_same act other) (pointwise is_same acts others) is in
     let here = same_is act other parts.0 in

@@ -1,7 +1,6 @@
 -- The places that an act looks at are those of all acts that disturb it.
 use Rattle.std.proofs.Common.{◌≡◌, ℕ, zero, suc, ◌+◌, ◌<◌, ◌⊎◌, inl, inr, List, [], ◌∷◌, ◌++◌, length, get_or, drop, map, Bool, true, false, ◌&&◌, cond, eqb, Option, Some, None, refl, sym, ap, subst, ◌∙◌, arith}
 use Rattle.std.proofs.lemmas.Bool.{false≢true, and_parts, and_from, or_left, or_right, or_cases, false_from_ne_true, eq-eqb, eqb-true}
-use Rattle.std.proofs.lemmas.List.Folds.{list_any-append}
 use Rattle.std.proofs.lemmas.Slice.Eq.{bytes_eq-Decides}
 use Rattle.std.specs.Prelude.{nat_eq}
 use Rattle.std.specs.List.{filter, flat_map, list_any, starts_with}
@@ -14,15 +13,10 @@ use Rattle.cfa_acts.specs.Disturbs.{is_at_or_beneath, disturbs}
 use Rattle.cfa_resolve.specs.declared.instances.Instance.{Instance}
 use Rattle.cfa_walk.specs.Tellers.{acts_of}
 use Rattle.cfa_conflict.specs.Targets.{Row, target_of, placed, rows_of, rows_from, is_row, goes_on, is_sought, places_of, sought}
+use Rattle.cfa_conflict.specs.lemmas.Anywhere.{in_left, in_right}
 use Rattle.cfa_conflict.proofs.SoughtLemmas.{passes, seeks, disturbs_sought}
 
 -- ---- which targets are sought
-
-text_is : (x y : Text) → bytes_eq x y ≡ true → x ≡ y
-text_is x y = (bytes_eq-Decides x y).0
-
-itself : (x : Text) → bytes_eq x x ≡ true
-itself x = (bytes_eq-Decides x x).1 refl
 
 sought_itself : (key : Text) (beneath : Bool) → is_sought key beneath key ≡ true
 sought_itself [] beneath = refl
@@ -30,7 +24,7 @@ sought_itself (x ∷ key) beneath =
     ap (λ b. (b && starts_with nat_eq key key) && goes_on beneath (drop (length key) key)) (eq-eqb x x refl) ∙ sought_itself key beneath
 
 sought_at : (key target : Text) (beneath : Bool) → bytes_eq key target ≡ true → is_sought key beneath target ≡ true
-sought_at key target beneath is = subst (λ (t : Text). is_sought key beneath t ≡ true) (text_is key target is) (sought_itself key beneath)
+sought_at key target beneath is = subst (λ (t : Text). is_sought key beneath t ≡ true) ((bytes_eq-Decides key target).0 is) (sought_itself key beneath)
 
 front_and_slash : (key target : Text) → starts_with nat_eq target (key ++ 47 ∷ []) ≡ true → is_sought key true target ≡ true
 front_and_slash [] [] is = absurd (false≢true is)
@@ -55,12 +49,6 @@ sought_beneath key target is =
 
 -- ---- the rows of a target
 
-pub in_left : {X : Type 0} (test : X → Bool) (xs ys : List X) → list_any test xs ≡ true → list_any test (xs ++ ys) ≡ true
-in_left test xs ys h = list_any-append test xs ys ∙ or_left (list_any test xs) (list_any test ys) h
-
-pub in_right : {X : Type 0} (test : X → Bool) (xs ys : List X) → list_any test ys ≡ true → list_any test (xs ++ ys) ≡ true
-in_right test xs ys h = list_any-append test xs ys ∙ or_right (list_any test xs) (list_any test ys) h
-
 found_place : (test : Text → Bool) (rows : List Row) (target : Text) (place : ℕ) → test target ≡ true → list_any (is_row target place) rows ≡ true
     → list_any (nat_eq place) (map (λ (row : Row). row.1) (filter (λ (row : Row). test row.0) rows)) ≡ true
 found_place test [] target place passes is = is
@@ -69,7 +57,7 @@ found_place test (row ∷ rows) target place passes is =
     elim (or_cases (is_row target place row) (list_any (is_row target place) rows) is) [
       | inl here ↦
           let parts = and_parts (bytes_eq target row.0) (nat_eq place row.1) here in
-          let passed : test row.0 ≡ true = ap test (sym (text_is target row.0 parts.0)) ∙ passes in
+          let passed : test row.0 ≡ true = ap test (sym ((bytes_eq-Decides target row.0).0 parts.0)) ∙ passes in
           ap (λ b. list_any (nat_eq place) (map (λ (row : Row). row.1) (cond b (row ∷ kept) kept))) passed
           ∙ or_left (nat_eq place row.1) (list_any (nat_eq place) (map (λ (row : Row). row.1) kept)) parts.1
       | inr there ↦
@@ -113,7 +101,7 @@ row_of_act place (y ∷ ys) act target among is =
     elim among [
       | inl same ↦
           let here : target_of y ≡ Some target = ap target_of same ∙ is in
-          let row = and_from (bytes_eq target target) (nat_eq place place) (itself target) (eq-eqb place place refl) in
+          let row = and_from (bytes_eq target target) (nat_eq place place) ((bytes_eq-Decides target target).1 refl) (eq-eqb place place refl) in
           in_left (is_row target place) (placed place (target_of y)) (rows_of place ys)
           (ap (λ o. list_any (is_row target place) (placed place o)) here ∙ or_left (is_row target place (target, place)) false row)
       | inr more ↦ in_right (is_row target place) (placed place (target_of y)) (rows_of place ys) (row_of_act place ys act target more is)

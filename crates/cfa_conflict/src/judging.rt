@@ -4,7 +4,7 @@ ghost use Rattle.cfa_conflict.specs.Conflicts.{restarts_of, first_visit, unsure_
 ghost use Rattle.cfa_conflict.specs.Firsts.{first_of};
 ghost use Rattle.cfa_conflict.specs.Targets.{HasRows, HaveLikes, IsAt, IsNeverUndone};
 
-use crate::live::{is_live, live_instances, names_of};
+use crate::live::{is_live, live_instances};
 use crate::numbers::VisitIndex;
 use crate::pairs::{
     acts_of, first_restart, undone_by_itself, undone_by_other, unsettled_conflict, unsure_at,
@@ -13,7 +13,7 @@ use crate::targets::TargetIndex;
 use crate::{Conflict, Verdict};
 use cfa_base::NoMemory;
 use cfa_resolve::Instance;
-use cfa_walk::Walk;
+use cfa_walk::{Walk, names_of};
 use std::alloc::Global;
 
 // An instance of a walk with its place.

@@ -3,28 +3,13 @@ ghost use Rattle.std.specs.Prelude.{◌≡◌, ◌&&◌, IfOk, is_some, length};
 ghost use Rattle.std.specs.List.{filter};
 ghost use Rattle.cfa_base.specs.Index.{pair_place_of};
 ghost use Rattle.cfa_resolve.specs.declared.instances.Instance.{Instance};
+ghost use Rattle.cfa_walk.specs.Names.{name_of};
 ghost use Rattle.cfa_conflict.specs.Conflicts.{has_acts, live_instances};
-ghost use Rattle.cfa_conflict.specs.Names.{name_of, names_of};
 
 use crate::pairs::has_acts;
 use cfa_base::{NoMemory, PairIndex};
 use cfa_resolve::Instance;
 use cfa_walk::Walk;
-use std::alloc::Global;
-
-/// The paths and key texts of instances.
-pub(crate) fn names_of<'a>(
-    alloc: Global,
-    instances: &'a [Instance],
-) -> Result<PairIndex<'a>, NoMemory>
-    ensures { IfOk result (λ names. names ≡ names_of instances.entry.now) }
-{
-    let mut names = PairIndex::new(alloc);
-    for instance in instances {
-        names.add(instance.path.as_str(), instance.text.as_str())?;
-    }
-    Ok(names)
-}
 
 /// Whether the instance has acts and one of these names.
 pub(crate) fn is_live(names: &PairIndex<'_>, instance: &Instance) -> bool

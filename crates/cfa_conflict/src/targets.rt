@@ -1,6 +1,8 @@
 // Where the acts are that can disturb an act.
-ghost use Rattle.std.specs.Prelude.{◌≡◌, ℕ, ◌++◌, true, IfOk, OnOk, nat_eq, option_copied};
-ghost use Rattle.std.specs.List.{filter, flat_map, list_any};
+ghost use Rattle.std.specs.Prelude.{◌≡◌, ◌<◌, ◌≤◌, ℕ, ◌++◌, true, false, IfOk, OnOk, length, get_or, nat_eq, option_copied};
+ghost use Rattle.std.specs.List.{AllWithin, filter, flat_map, list_any};
+ghost use Rattle.cfa_base.specs.Index.{Text};
+ghost use denote.Ref.{Bor};
 ghost use Rattle.std.specs.List.Sorted.{IsNonDecreasing};
 ghost use Rattle.cfa_conflict.specs.Targets.{target_of, rows_of, seen_rows, is_sought, places_of, sought, AreSorted, HasRows, begins_with, is_target, acts_at, is_like, HaveLikes};
 
@@ -89,6 +91,21 @@ fn has_like(instances: &[Instance], rows: &[(&str, usize)], target: &str, place:
     false
 }
 
+// How many rows in front have the target.
+fn count_at(rows: &[(&str, usize)], key: &str) -> usize
+    ensures bound { result ≤ length rows.now }
+    ensures front { AllWithin (λ row. is_target key.now row ≡ true) rows.now 0 result }
+    ensures next { (row : Bor Text × ℕ) → result < length rows.now
+        → is_target key.now (get_or rows.now result row) ≡ false }
+{
+    for (place, row) in rows.iter().enumerate() {
+        if key != row.0 {
+            return place;
+        }
+    }
+    rows.len()
+}
+
 /// The targets of the acts of instances in byte order, each with the place of its instance.
 #[derive(Drop)]
 pub(crate) struct TargetIndex<'a> {
@@ -152,12 +169,7 @@ impl<'a> TargetIndex<'a> {
         let rows = self.rows.as_slice();
         let start = rows.partition_point(|row| row.0 < key);
         let (_, rest) = rows.split_at(start);
-        let end = rest.partition_point(
-            |row: &(&str, usize)| -> bool
-                ensures { result ≡ is_target key.entry.now row.entry.now }
-            { key == row.0 },
-        );
-        let (found, _) = rest.split_at(end);
+        let (found, _) = rest.split_at(count_at(rest, key));
         found
     }
 

@@ -16,7 +16,8 @@ use Rattle.cfa_acts.specs.Laws.{is_restart, HasScript, KeptWherePostHolds, Neede
 use Rattle.cfa_walk.specs.Tellers.{Actuated, no_more, actuated_by, actuated, after_all}
 use Rattle.cfa_laws.specs.Keys.{IsGiven}
 use Rattle.cfa_convergence.specs.Conflicts.{AreQuiet, AreSpared, SpareThemselves}
-use Rattle.cfa_convergence.specs.Lasting.{SameHost, PostsHold}
+use Rattle.cfa_agent.specs.Hosts.{SameHost}
+use Rattle.cfa_convergence.specs.Lasting.{PostsHold}
 
 -- ---- hosts
 

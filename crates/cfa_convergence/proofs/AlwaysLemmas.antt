@@ -19,6 +19,16 @@ use Rattle.cfa_convergence.specs.Conflicts.{HasActs}
 use Rattle.cfa_convergence.specs.Told.{Telling}
 use Rattle.cfa_convergence.proofs.LevelLemmas.{IsCall, IsReport, Steps}
 
+-- what is asked of nothing
+abbrev pub Any : {X : Type 0} → X → Type 0
+Any x = Unit {0}
+
+abbrev pub Any_at : List ℕ → Instance → Type 0
+Any_at path i = Unit {0}
+
+abbrev pub Any_home : Home → Numbered → Type 0
+Any_home home p = Unit {0}
+
 -- a fact of the history at which a course stands
 abbrev pub Always : Course → (History → Type 0) → Type 0
 Always (goes h) P = P h

@@ -4,12 +4,13 @@ use Rattle.std.proofs.Common.{◌≡◌, ◌≢◌, ℕ, Bool, true, false, List
 use Rattle.std.specs.Prelude.{◌&&◌}
 use Rattle.std.specs.List.{AllByRecursion as Each}
 use Rattle.std.specs.Str.{bytes_eq}
-use Rattle.std.proofs.lemmas.Bool.{false≢true}
+use Rattle.std.proofs.lemmas.Bool.{false≢true, and_from}
 use Rattle.std.proofs.lemmas.List.Elements.{All-head, All-tail}
 use Rattle.cfa_base.specs.declared.places.PromiseId.{PromiseId}
 use Rattle.cfa_classes.specs.declared.levels.Status.{Status}
 use Rattle.cfa_classes.specs.declared.levels.Status.TheVariants.{No, Maybe, Yes}
 use Rattle.cfa_classes.specs.Status.{greater}
+use Rattle.cfa_classes.specs.lemmas.Orders.{greater_No}
 use Rattle.cfa_outcomes.specs.declared.outcomes.Outcome.{Outcome}
 use Rattle.cfa_resolve.specs.declared.instances.Instance.{Instance}
 use Rattle.cfa_resolve.specs.declared.instances.Work.{Work}
@@ -27,7 +28,7 @@ use Rattle.cfa_laws.specs.Keys.{IsKeyed, IsLine}
 use Rattle.cfa_convergence.specs.Conflicts.{is_same}
 use Rattle.cfa_convergence.specs.Keys.{AreAlike, KeysTellWorks}
 use Rattle.cfa_convergence.proofs.LevelLemmas.{IsCall}
-use Rattle.cfa_convergence.proofs.NameLemmas.{same_text, is_text, names_of, true_both}
+use Rattle.cfa_convergence.proofs.NameLemmas.{same_text, is_text, names_of}
 use Rattle.cfa_edits.specs.lemmas.Parts.{Lacks}
 use Rattle.cfa_convergence.proofs.SourceLemmas.{IsGiven, AreSourced, raise_sourced, begin_sourced}
 
@@ -53,7 +54,7 @@ last_cut c (x ∷ xs) (y ∷ ys) a b p q e =
 pub call_tells : (i j : Instance) → IsLine i → IsLine j → inner_path i ≡ inner_path j → is_same j i ≡ true
 call_tells i j line line' e =
     let parts = last_cut 10 i.path j.path i.text j.text line line' e in
-    true_both (bytes_eq i.path j.path) (bytes_eq i.text j.text) (subst (λ x. bytes_eq i.path x ≡ true) parts.0 (same_text i.path)) (subst (λ x. bytes_eq i.text x ≡ true) parts.1 (same_text i.text))
+    and_from (bytes_eq i.path j.path) (bytes_eq i.text j.text) (subst (λ x. bytes_eq i.path x ≡ true) parts.0 (same_text i.path)) (subst (λ x. bytes_eq i.text x ≡ true) parts.1 (same_text i.text))
 
 marked_same : (h : History) (i j : Instance) → is_same j i ≡ true → mark_in h i.path i.text ≡ mark_in h j.path j.text
 marked_same h i j e = let names = names_of j i e in ap (λ p. mark_in h p i.text) names.0 ∙ ap (λ t. mark_in h j.path t) names.1
@@ -112,11 +113,6 @@ unvisited_none : (m : Status) → is_unvisited m ≡ true → m ≡ No
 unvisited_none No e = refl
 unvisited_none Maybe e = absurd (cc)
 unvisited_none Yes e = absurd (cc)
-
-maybe_alone : (a : Status) → greater a No ≡ Maybe → a ≡ Maybe
-maybe_alone No e = absurd (cc)
-maybe_alone Maybe e = refl
-maybe_alone Yes e = absurd (cc)
 
 never_maybe : (a : Status) → greater a Yes ≡ Maybe → ⊥
 never_maybe No e = cc
@@ -195,12 +191,12 @@ module _ (s : Setting) where
 
           to : (is_call i.work && bytes_eq (inner_path i) (inner_path j)) ≡ true
           to =
-              true_both (is_call i.work) (bytes_eq (inner_path i) (inner_path j))
+              and_from (is_call i.work) (bytes_eq (inner_path i) (inner_path j))
               (calls i.work (call_alike i.work j.work (tell i j key key' (names_of j i e).1) is)) (inner_same i j e)
 
           go : (x : Status) → mark_in h i.path i.text ≡ x → IsGiven (waits_either h i j (is_unvisited x && (is_call i.work && bytes_eq (inner_path i) (inner_path j))))
           go No f =
-              let maybe : status ≡ Maybe = maybe_alone status (subst (λ x. greater status x ≡ Maybe) (sym same ∙ f) m) in
+              let maybe : status ≡ Maybe = sym (greater_No status) ∙ subst (λ x. greater status x ≡ Maybe) (sym same ∙ f) m in
               subst (λ b. IsGiven (waits_either h i j b)) (sym to) (ready maybe f)
           go Maybe f = ok.called j key' line' is (sym same ∙ f)
           go Yes f = absurd (never_maybe status (subst (λ x. greater status x ≡ Maybe) (sym same ∙ f) m))

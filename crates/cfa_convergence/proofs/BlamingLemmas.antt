@@ -3,6 +3,7 @@ use Rattle.std.proofs.Common.{◌≡◌, ℕ, zero, suc, ◌+◌, ◌<◌, ◌�
 use Rattle.std.specs.Prelude.{◌&&◌}
 use Rattle.std.specs.List.{AllByRecursion as Each}
 use Rattle.std.specs.Str.{bytes_eq}
+use Rattle.std.proofs.lemmas.Bool.{and_from, and_right}
 use Rattle.cfa_classes.specs.declared.levels.Status.{Status}
 use Rattle.cfa_classes.specs.declared.levels.Status.TheVariants.{No, Maybe, Yes}
 use Rattle.cfa_classes.specs.Status.{lesser, greater}
@@ -36,14 +37,13 @@ use Rattle.cfa_laws.specs.Keys.{IsResolved, InstancesAreKeyed, IsLine, KeysAreLi
 use Rattle.cfa_convergence.specs.Keys.{KeysTellWorks}
 use Rattle.cfa_convergence.specs.Policies.{IsKnown, HasKnown}
 use Rattle.cfa_convergence.specs.Told.{teller_of}
-use Rattle.cfa_convergence.proofs.AlwaysLemmas.{Always, always_weaker, told_along, each_made, Kept_along, steps_along}
+use Rattle.cfa_convergence.proofs.AlwaysLemmas.{Any, Always, always_weaker, told_along, each_made, Kept_along, steps_along}
 use Rattle.cfa_laws.specs.Sources.{IsFirst, RaiseHasFirst, IsMaybe, RaisesHaveFirst, UnsettledAreMaybe}
 use Rattle.cfa_convergence.proofs.BlameLemmas.{greater_real, EditsAreBlamed, AreBlamed, HasBlame, IsWaiting, waits_listed, has_listed, has_told, has_set, has_begun, has_raised, has_reached}
-use Rattle.cfa_convergence.proofs.ContainmentLemmas.{Any}
 use Rattle.cfa_convergence.proofs.DepthLemmas.{depth, depth_inner, deeper_apart}
 use Rattle.cfa_laws.specs.lemmas.MaybeClasses.{guard_is, maybe_first}
 use Rattle.cfa_convergence.proofs.LevelLemmas.{IsCall, Steps, CallsKeep, visit_level, reach_level, calls_level}
-use Rattle.cfa_convergence.proofs.NameLemmas.{same_text, is_itself, true_both}
+use Rattle.cfa_convergence.proofs.NameLemmas.{same_text, is_itself}
 use Rattle.cfa_convergence.proofs.PlainLemmas.{Known_at, known_types, Known_common, known_commons}
 use Rattle.cfa_convergence.proofs.QuietLemmas.{either_way}
 use Rattle.cfa_convergence.proofs.SourceLemmas.{IsGiven, AreSourced, none_sourced, mapped_given, waits_given, global_given, wait_given, handed_given}
@@ -83,10 +83,6 @@ waits_for Yes No e = absurd (cc)
 waits_for Yes Maybe e = inr refl
 waits_for Yes Yes e = absurd (cc)
 
-no_home : (a b : Bool) → b ≡ false → (a && b) ≡ false
-no_home true b e = e
-no_home false b e = refl
-
 -- an activation that begins elsewhere
 begins_apart : (b : Bool) (wait : Option Wait) → b ≡ false → ◌≡◌ {A = Option Wait} (elim b [ true ↦ None | false ↦ wait ]) wait
 begins_apart true wait e = absurd (cc)
@@ -122,7 +118,7 @@ module _ (s : Setting) (tells : KeysTellWorks) (keyed : InstancesAreKeyed) (know
     spares_reached home p guard is visits h fine path low = go guard
       where
         apart : (is_acting p.type && bytes_eq home.path path) ≡ false
-        apart = let deep = fine.1 in no_home (is_acting p.type) (bytes_eq home.path path) (deeper_apart path home.path (omega arith))
+        apart = let deep = fine.1 in and_right (is_acting p.type) (bytes_eq home.path path) (deeper_apart path home.path (omega arith))
 
         go : (g : Status) → waits_in s (Reached home p g is visits ∷ h) path ≡ waits_in s h path
         go No = refl
@@ -315,7 +311,7 @@ module _ (s : Setting) (tells : KeysTellWorks) (keyed : InstancesAreKeyed) (know
     is_ready p acting guard some is visits h read ok waiting waits = go guard some read waits
       where
         here : (is_acting p.type && bytes_eq home.path home.path) ≡ true
-        here = true_both (is_acting p.type) (bytes_eq home.path home.path) acting (same_text home.path)
+        here = and_from (is_acting p.type) (bytes_eq home.path home.path) acting (same_text home.path)
 
         go : (g : Status) → (g ≡ No → ⊥) → guard_status s h home.path p.promise.guard ≡ g → (g ≡ Maybe) ⊎ (act ≡ Maybe) → IsGiven (waits_in s (Reached home p g is visits ∷ h) home.path)
         go No none e w = absurd (none refl)

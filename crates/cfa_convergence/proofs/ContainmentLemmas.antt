@@ -37,7 +37,7 @@ use Rattle.cfa_convergence.specs.Keys.{KeysTellWorks}
 use Rattle.cfa_convergence.specs.Policies.{IsKnown}
 use Rattle.cfa_laws.specs.Statuses.{InstancesAreSame, RaisesAlike, RaisesLieTogether, Within, no_no, yes_yes}
 use Rattle.cfa_convergence.specs.Told.{teller_of}
-use Rattle.cfa_convergence.proofs.AlwaysLemmas.{Always, always_weaker, always_then, told_along, each_made, Kept_along, steps_along}
+use Rattle.cfa_convergence.proofs.AlwaysLemmas.{Any, Any_at, Any_home, Always, always_weaker, always_then, told_along, each_made, Kept_along, steps_along}
 use Rattle.cfa_convergence.proofs.ContainedLemmas.{Both, both_large, large_both, both_right, Contained, Settles, If_settled, then_both, if_settled, both_sets, both_raise_all, alone_raise_all, both_reached, both_visited, walk_alone, ended_both, acted_both, reported_both}
 use Rattle.cfa_convergence.proofs.DepthLemmas.{one_if, depth}
 use Rattle.cfa_convergence.proofs.LevelLemmas.{Steps, CallsKeep, instances_level, promises_level, types_level, passes_level, activation_level, calls_level}
@@ -48,15 +48,6 @@ use Rattle.cfa_laws.specs.lemmas.Within.{within_greater, value_within}
 use Rattle.cfa_convergence.proofs.WithinLemmas.{within_visit, maybe_guard}
 
 -- ---- what was settled before
-
-abbrev pub Any : {X : Type 0} → X → Type 0
-Any x = Unit {0}
-
-abbrev pub Any_at : List ℕ → Instance → Type 0
-Any_at path i = Unit {0}
-
-abbrev pub Any_home : Home → Numbered → Type 0
-Any_home home p = Unit {0}
 
 module _ (s : Setting) where
   pub settles_same : (h : History) → Settles s h h

@@ -10,7 +10,7 @@ use Rattle.cfa_resolve.specs.declared.instances.Instance.{Instance}
 use Rattle.cfa_resolve.specs.Resolution.{is_listed}
 use Rattle.cfa_walk.specs.History.{History, everywhere, Raised, scope_in, globally, locally, mark_in}
 use Rattle.cfa_walk.specs.Passes.{raise_each, raised_to, in_every_list}
-use Rattle.cfa_laws.specs.Statuses.{Within, no_maybe, no_no, yes_maybe, yes_yes}
+use Rattle.cfa_laws.specs.Statuses.{Within, no_maybe, yes_maybe, yes_yes}
 use Rattle.cfa_convergence.proofs.NameLemmas.{is_text}
 use Rattle.cfa_laws.specs.lemmas.Within.{within_greater}
 
@@ -59,22 +59,13 @@ ToldWithin k r o s g w =
     (raised_if k (raised_to s (elim k [ true ↦ elim r [ true ↦ true | false ↦ false ] | false ↦ false ])) w))
 
 one_maybe : {g w : Status} → Within g w → Within Yes (greater Maybe w)
-one_maybe no_no = yes_maybe
-one_maybe no_maybe = yes_maybe
-one_maybe yes_maybe = yes_maybe
-one_maybe yes_yes = yes_yes
+one_maybe {g} {w} q = within_greater {r = Yes} {w = Maybe} {s = g} {v = w} yes_maybe q
 
 none_maybe : {g w : Status} → Within g w → Within g (greater Maybe w)
-none_maybe no_no = no_maybe
-none_maybe no_maybe = no_maybe
-none_maybe yes_maybe = yes_maybe
-none_maybe yes_yes = yes_yes
+none_maybe {g} {w} q = within_greater {r = No} {w = Maybe} {s = g} {v = w} no_maybe q
 
 both_maybe : {g w : Status} → Within g w → Within Yes (greater Maybe (greater Maybe w))
-both_maybe no_no = yes_maybe
-both_maybe no_maybe = yes_maybe
-both_maybe yes_maybe = yes_maybe
-both_maybe yes_yes = yes_yes
+both_maybe {g} {w} q = one_maybe {g = g} {w = greater Maybe w} (none_maybe q)
 
 -- o is the list that the run raises: k that of kept, r that of repaired
 pub within_kept : (k r : Bool) {s g w : Status} → Within Yes s → Within g w → ToldWithin k r k s g w

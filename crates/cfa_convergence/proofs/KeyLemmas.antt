@@ -26,7 +26,8 @@ use Rattle.cfa_resolve.specs.KeyTexts.{fields_after, octal_digit, mode_text, mod
 use Rattle.cfa_laws.specs.Keys.{IsMode, IsGiven, AreGiven, IsPlainId}
 use Rattle.cfa_convergence.specs.Keys.{AreAlike, KeysTellWorks}
 use Rattle.cfa_edits.specs.lemmas.Parts.{Lacks, clash, joined_tells, lacks_joined, IsSeparator, lacks_word, lacks_escaped, all_escaped, lacks_decimal, all_tell, comma}
-use Rattle.cfa_convergence.proofs.PartLemmas.{cut, lacks_led, semicolon, space, asterisk}
+use Rattle.cfa_rows.specs.lemmas.Cuts.{one_cut}
+use Rattle.cfa_convergence.proofs.PartLemmas.{lacks_led, semicolon, space, asterisk}
 
 -- ---- fields
 
@@ -152,9 +153,9 @@ module _ (scripts : TextsTellScripts) (p q : List ℕ) where
       ap₂ Edit parts.0 (scripts s t is is' (last_part (script_text s) (script_text t) parts.1))
   acts_tell (Perms x m o g) (Perms y n os gs) is is' e =
       let parts = first_field x y (mode_field m ++ 32 ∷ (names_field o ++ 32 ∷ (names_field g ++ []))) (mode_field n ++ 32 ∷ (names_field os ++ 32 ∷ (names_field gs ++ []))) (ap (drop 6) e) in
-      let modes = cut 32 (mode_field m) (mode_field n) (names_field o ++ 32 ∷ (names_field g ++ [])) (names_field os ++ 32 ∷ (names_field gs ++ []))
+      let modes = one_cut 32 (mode_field m) (names_field o ++ 32 ∷ (names_field g ++ [])) (mode_field n) (names_field os ++ 32 ∷ (names_field gs ++ []))
       (lacks_mode 32 m space (λ is. omega arith)) (lacks_mode 32 n space (λ is. omega arith)) parts.1 in
-      let owners = cut 32 (names_field o) (names_field os) (names_field g ++ []) (names_field gs ++ [])
+      let owners = one_cut 32 (names_field o) (names_field g ++ []) (names_field os) (names_field gs ++ [])
       (lacks_names 32 o space (λ is. omega arith) (λ is. omega arith)) (lacks_names 32 os space (λ is. omega arith) (λ is. omega arith)) modes.1 in
       let path : x ≡ y = parts.0 in
       let mode : m ≡ n = modes_tell m n is is' modes.0 in
@@ -314,7 +315,7 @@ module _ (scripts : TextsTellScripts) (p q : List ℕ) where
   lists_tell (a ∷ as') (b ∷ bs) x y all all' e =
       let given = All-head IsGiven a as' all in
       let given' = All-head IsGiven b bs all' in
-      let parts = cut 59 (act_text p a) (act_text q b) (behind p as' x) (behind q bs y) (act_lacks 59 semicolon_is p a given) (act_lacks 59 semicolon_is q b given') e in
+      let parts = one_cut 59 (act_text p a) (behind p as' x) (act_text q b) (behind q bs y) (act_lacks 59 semicolon_is p a given) (act_lacks 59 semicolon_is q b given') e in
       let first : a ≡ b = acts_tell scripts p q a b given given' parts.0 in
       let rest : as' ≡ bs = lists_tell as' bs x y (All-tail IsGiven a as' all) (All-tail IsGiven b bs all') parts.1 in
       cc
@@ -384,5 +385,5 @@ keys_tell scripts i j key other same =
     ∙ sym key.text ∙ same ∙ other.text
     ∙ key_is j.source other.promiser j.work j.kept j.repaired j.failed j.elapsed
     ∙ ap (λ t. front_of j.source ++ t) b.1 in
-    let parts = cut 59 (front_of i.source) (front_of j.source) a.0 b.0 (front_lacks i.source key.source) (front_lacks j.source other.source) texts in
+    let parts = one_cut 59 (front_of i.source) a.0 (front_of j.source) b.0 (front_lacks i.source key.source) (front_lacks j.source other.source) texts in
     works_tell scripts key.promiser other.promiser x y i.work j.work key.acts other.acts (a.1 ∙ ap (λ t. 59 ∷ t) parts.1 ∙ sym b.1)

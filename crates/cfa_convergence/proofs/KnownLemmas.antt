@@ -19,8 +19,7 @@ use Rattle.cfa_convergence.specs.Contained.{with_acts, actuations}
 use Rattle.cfa_laws.specs.Keys.{IsKeyed, IsResolved, InstancesAreKeyed}
 use Rattle.cfa_convergence.specs.Policies.{IsKnown, HasKnown}
 use Rattle.cfa_convergence.specs.Told.{Telling, teller_of}
-use Rattle.cfa_convergence.proofs.AlwaysLemmas.{Always, each_made, Kept_along, steps_along}
-use Rattle.cfa_convergence.proofs.ContainmentLemmas.{Any}
+use Rattle.cfa_convergence.proofs.AlwaysLemmas.{Any, Always, each_made, Kept_along, steps_along}
 use Rattle.cfa_convergence.proofs.LevelLemmas.{IsCall, IsReport, run_level}
 use Rattle.cfa_convergence.proofs.NameLemmas.{is_itself}
 use Rattle.cfa_convergence.proofs.PlainLemmas.{Known_at, Known_common, known_commons}

@@ -1,9 +1,8 @@
 -- Instances of one path and key text have the same acts.
-use Rattle.std.proofs.Common.{◌≡◌, ℕ, Bool, true, false, List, refl}
-use Rattle.std.specs.Prelude.{◌&&◌}
+use Rattle.std.proofs.Common.{◌≡◌, ℕ, true, false, List, refl}
 use Rattle.std.specs.List.{AllByRecursion as Each}
 use Rattle.std.specs.Str.{bytes_eq}
-use Rattle.std.proofs.lemmas.Bool.{false_from_ne_true}
+use Rattle.std.proofs.lemmas.Bool.{false_from_ne_true, and_parts, and_from}
 use Rattle.std.proofs.lemmas.List.Elements.{recursion_from_All}
 use Rattle.std.proofs.lemmas.Slice.Eq.{bytes_eq-Decides}
 use Rattle.cfa_resolve.specs.declared.instances.Instance.{Instance}
@@ -23,21 +22,13 @@ is_text text other e = (bytes_eq-Decides text other).0 e
 pub apart : (text other : List ℕ) → (text ≡ other → ⊥) → bytes_eq text other ≡ false
 apart text other differ = false_from_ne_true (bytes_eq text other) (λ e. differ (is_text text other e))
 
-pub both_true : (a b : Bool) → (a && b) ≡ true → (a ≡ true) × (b ≡ true)
-both_true true b e = (refl, e)
-both_true false b e = absurd (cc)
-
-pub true_both : (a b : Bool) → a ≡ true → b ≡ true → (a && b) ≡ true
-true_both true b p q = q
-true_both false b p q = absurd (cc)
-
 pub is_itself : (i : Instance) → is_same i i ≡ true
-is_itself i = true_both (bytes_eq i.path i.path) (bytes_eq i.text i.text) (same_text i.path) (same_text i.text)
+is_itself i = and_from (bytes_eq i.path i.path) (bytes_eq i.text i.text) (same_text i.path) (same_text i.text)
 
 -- what is_same tells: the other has the path and the key text
 pub names_of : (i j : Instance) → is_same i j ≡ true → (j.path ≡ i.path) × (j.text ≡ i.text)
 names_of i j e =
-    let parts = both_true (bytes_eq j.path i.path) (bytes_eq j.text i.text) e in
+    let parts = and_parts (bytes_eq j.path i.path) (bytes_eq j.text i.text) e in
     (is_text j.path i.path parts.0, is_text j.text i.text parts.1)
 
 pub acts_alike : (w v : Work) → AreAlike w v → acts_of w ≡ acts_of v

@@ -20,7 +20,7 @@ pub follow_more : (R S : Instance → Instance → Type 0) → ((i j : Instance)
 follow_more R S f [] r = tt
 follow_more R S f (i ∷ is) r = ((λ j among. f i j (r.0 j among)), follow_more R S f is r.1)
 
-visited_more : (b : Bool) {c : Bool} → c ≡ true → ◌≡◌ {A = Bool} (elim b [ true ↦ true | false ↦ c ]) true
+pub visited_more : (b : Bool) {c : Bool} → c ≡ true → ◌≡◌ {A = Bool} (elim b [ true ↦ true | false ↦ c ]) true
 visited_more true e = refl
 visited_more false e = e
 

@@ -1,14 +1,9 @@
 -- The places of elements in lists, and lists that are empty.
-use Rattle.std.proofs.Common.{◌≡◌, ℕ, suc, ◌+◌, ◌<◌, Bool, true, false, not, List, [], ◌∷◌, ◌++◌, length, Some, None, nat_lt, refl, ap, arith, cond}
-use Rattle.std.proofs.lemmas.Bool.Decides.{nat_tests}
-use Rattle.std.specs.Prelude.{◌||◌, ◌==◌, unwrap_or}
-use Rattle.std.specs.List.{list_any, position, position_or_len}
-
-pub lt_true : (m n : ℕ) → m < n → nat_lt m n ≡ true
-lt_true m n less = grind (arith, nat_tests)
-
-pub tie : (m n : ℕ) → (m == n) ≡ true → m ≡ n
-tie m n e = grind (arith, nat_tests)
+use Rattle.std.proofs.Common.{◌≡◌, suc, ◌+◌, ◌<◌, Bool, true, false, not, List, [], ◌∷◌, ◌++◌, length, Some, None, refl, ap, arith, cond}
+use Rattle.std.proofs.lemmas.Bool.{lt-ltb, or_left}
+use Rattle.std.specs.Prelude.{◌||◌, unwrap_or}
+use Rattle.std.specs.List.{AllByRecursion as Each, flat_map, list_any, position, position_or_len}
+use Rattle.cfa_conflict.specs.lemmas.Anywhere.{in_right}
 
 pub found_before : {X : Type 0} (p : X → Bool) (xs : List X) → list_any p xs ≡ true → position_or_len p xs < length xs
 found_before p [] e = absurd (cc)
@@ -19,27 +14,14 @@ found_before p (x ∷ xs) e = go (p x) (found_before p xs) e
     go false before f = let less = before f in omega arith
 
 pub position_found : {X : Type 0} (p : X → Bool) (xs : List X) → list_any p xs ≡ true → unwrap_or (position p xs) 0 ≡ position_or_len p xs
-position_found p xs e = ap (λ b. unwrap_or (cond b (Some (position_or_len p xs)) None) 0) (lt_true (position_or_len p xs) (length xs) (found_before p xs e))
+position_found p xs e = ap (λ b. unwrap_or (cond b (Some (position_or_len p xs)) None) 0) (lt-ltb (position_or_len p xs) (length xs) (found_before p xs e))
 
 pub any_last : {X : Type 0} (p : X → Bool) (xs : List X) (y : X) → p y ≡ true → list_any p (xs ++ y ∷ []) ≡ true
-any_last p [] y e = ap (λ b. b || false) e
-any_last p (x ∷ xs) y e = go (p x) (any_last p xs y e)
-  where
-    go : (b : Bool) → list_any p (xs ++ y ∷ []) ≡ true → (b || list_any p (xs ++ y ∷ [])) ≡ true
-    go true f = refl
-    go false f = f
+any_last p xs y e = in_right p xs (y ∷ []) (or_left (p y) false e)
 
 pub any_other : {X : Type 0} (p : X → Bool) (xs : List X) (y : X) → p y ≡ false → list_any p (xs ++ y ∷ []) ≡ list_any p xs
 any_other p [] y e = ap (λ b. b || false) e
 any_other p (x ∷ xs) y e = ap (λ b. p x || b) (any_other p xs y e)
-
-pub any_left : {X : Type 0} (p : X → Bool) (xs ys : List X) → list_any p xs ≡ true → list_any p (xs ++ ys) ≡ true
-any_left p [] ys e = absurd (cc)
-any_left p (x ∷ xs) ys e = go (p x) (any_left p xs ys) e
-  where
-    go : (b : Bool) → (list_any p xs ≡ true → list_any p (xs ++ ys) ≡ true) → (b || list_any p xs) ≡ true → (b || list_any p (xs ++ ys)) ≡ true
-    go true before f = refl
-    go false before f = before f
 
 -- one place is that of one element
 pub one_place : {X : Type 0} (p q : X → Bool) (xs : List X) → list_any p xs ≡ true → list_any q xs ≡ true → position_or_len p xs ≡ position_or_len q xs → (x : X) × (p x ≡ true) × (q x ≡ true)
@@ -61,3 +43,7 @@ none_left (x ∷ xs) ys e = absurd (cc)
 pub none_right : {X : Type 0} (xs ys : List X) → xs ++ ys ≡ [] → ys ≡ []
 none_right [] ys e = e
 none_right (x ∷ xs) ys e = absurd (cc)
+
+pub none_flat : {X Y : Type 0} (f : X → List Y) (xs : List X) → flat_map f xs ≡ [] → Each (λ (x : X). f x ≡ []) xs
+none_flat f [] e = tt
+none_flat f (x ∷ xs) e = (none_left (f x) (flat_map f xs) e, none_flat f xs (none_right (f x) (flat_map f xs) e))

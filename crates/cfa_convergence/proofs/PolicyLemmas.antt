@@ -6,8 +6,7 @@ use Rattle.std.specs.Str.{bytes_eq}
 use Rattle.std.proofs.Math.Bool.{Bool-set}
 use Rattle.std.proofs.Math.Bridge.{le_prop}
 use Rattle.std.proofs.lemmas.Bool.{false≢true}
-use Rattle.std.proofs.lemmas.List.{map-append}
-use Rattle.std.proofs.lemmas.List.Elements.{All-cons, All-contains, All-contains_itself, All-head, All-nil, All-tail, All-weaker, Contains-append_left, Contains-append_right}
+use Rattle.std.proofs.lemmas.List.Elements.{All-cons, All-contains, All-contains_itself, All-from_recursion, All-head, All-nil, All-tail, All-weaker, Contains-append_left, Contains-append_right}
 use Rattle.std.proofs.lemmas.Slice.Eq.{bytes_eq-Decides}
 use Rattle.cfa_base.specs.declared.limits.TheConstants.{MOST_SOURCE_BYTES}
 use Rattle.cfa_base.specs.declared.places.Place.{Place}
@@ -26,8 +25,9 @@ use Rattle.cfa_values.specs.Attributes.{value_of, attribute_by, attribute_refusa
 use Rattle.cfa_values.specs.Definitions.{BundleHead, bundle_named}
 use Rattle.cfa_values.specs.Scope.{in_bundle}
 use Rattle.cfa_values.specs.Values.{Setting, is_known, value_count, text_scope, named_by_text, method_refusals, repeated}
-use Rattle.cfa_served.specs.Checked.{promises_of, worded_promises_of, ids_from, ids_in_block, promise_ids_of}
+use Rattle.cfa_served.specs.Checked.{worded_promises_of, ids_from, ids_in_block, promise_ids_of}
 use Rattle.cfa_served.specs.Control.{control_of}
+use Rattle.cfa_served.specs.lemmas.Promises.{second, seconds_in}
 use Rattle.cfa_schema.specs.Defined.{bundle_head, definitions_of}
 use Rattle.cfa_schema.specs.Laws.{Stands, in_promise, by_word, by_call, NamesBundle, by_name, by_text, NothingIsRefused, AgentBundleIsThere, IsWord, HasWordName, WordsLackNewlines, NamesAreWords, NamedBundleStands, CommonBundlesStand, CommonNamesAreWords, SequenceNamesAreWords, IsCounted, IdsAreCounted}
 use Rattle.cfa_served.specs.Served.{common_bundles_of}
@@ -37,7 +37,7 @@ use Rattle.cfa_schema.specs.Valid.{Valid, refusals, repeated_bodies_after, body_
 use Rattle.cfa_walk.specs.Numbered.{Numbered, numbered_as, numbered_from, numbered_in, name_of}
 use Rattle.cfa_walk.specs.lemmas.PlainNames.{plain_names}
 use Rattle.cfa_convergence.specs.Policies.{IsKnown, IsKnownCommon, HasKnown}
-use Rattle.cfa_convergence.proofs.PlaceLemmas.{none_left, none_right}
+use Rattle.cfa_convergence.proofs.PlaceLemmas.{none_left, none_right, none_flat}
 
 -- ---- lists
 
@@ -56,11 +56,7 @@ none_in [] h = refl
 none_in (x ∷ xs) h = absurd (h x (first_here x xs))
 
 each_empty : {X Y : Type 0} (f : X → List Y) (xs : List X) (x : X) → flat_map f xs ≡ [] → Contains xs x → f x ≡ []
-each_empty f xs x e has = All-contains (λ y. f y ≡ []) xs x (go xs e) has
-  where
-    go : (ys : List _) → flat_map f ys ≡ [] → All (λ y. f y ≡ []) ys
-    go [] e' = All-nil (λ y. f y ≡ [])
-    go (y ∷ ys) e' = All-cons (λ y. f y ≡ []) y ys (none_left (f y) (flat_map f ys) e') (go ys (none_right (f y) (flat_map f ys) e'))
+each_empty f xs x e has = All-contains (λ y. f y ≡ []) xs x (All-from_recursion (λ y. f y ≡ []) xs (none_flat f xs e)) has
 
 -- ---- words
 
@@ -219,20 +215,6 @@ module _ (policy : PolicyTree) (valid : Valid policy) (sourced : IsSourced polic
       where
         few : (n : ℕ) → n ≤ MOST_SOURCE_BYTES → n < 2 ^ 64
         few n fit = omega (arith, fit)
-
-    abbrev second : List ℕ × PromiseTree → PromiseTree
-    second x = x.1
-
-    seconds_with : (kind : List ℕ) (ps : List PromiseTree) → map second (map (λ p. (kind, p)) ps) ≡ ps
-    seconds_with kind [] = refl
-    seconds_with kind (p ∷ ps) = ap (λ rest. p ∷ rest) (seconds_with kind ps)
-
-    seconds_in : (those : List SectionTree) → map second (flat_map worded_promises_of those) ≡ flat_map promises_of those
-    seconds_in [] = refl
-    seconds_in (section ∷ those) =
-        map-append second (worded_promises_of section) (flat_map worded_promises_of those)
-        ∙ ap (λ ps. ps ++ map second (flat_map worded_promises_of those)) (seconds_with section.kind section.promises)
-        ∙ ap (λ rest. section.promises ++ rest) (seconds_in those)
 
     known_with : (number : ℕ) (x : List ℕ × PromiseTree) (type : Option PromiseType) → promise_type x.0 ≡ type → (rest : List Numbered) →
         IsCounted (record { bundle = name.name; number = number; line = x.1.place.line }) → IsFit x → Each IsKnown rest → Each IsKnown (cons_option (numbered_as name.name number x.1 type) rest)

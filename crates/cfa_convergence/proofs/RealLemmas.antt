@@ -1,18 +1,13 @@
 -- What a run on a world does, where none of its instances failed: its instances end as its acts do, and the world that it leaves is what the
 -- changes of its actuations make of the first, but for the journal.
 use Rattle.std.proofs.Common.{◌≡◌, ℕ, suc, Bool, true, false, List, [], ◌∷◌, ◌++◌, map, length, Option, Some, None, refl, sym, ap, subst, ◌∙◌, append-nil, arith}
-use Rattle.std.specs.FinMap as finite
 use Rattle.std.specs.Prelude.{take}
 use Rattle.cfa_outside.specs.declared.worlds.World.{World}
 use Rattle.cfa_outside.specs.declared.sites.Change.{Change}
-use Rattle.cfa_outside.specs.declared.sites.Change.TheVariants.{PutFile, PutDir, Remove, SetPerms, PutService, PutLock, Append}
 use Rattle.cfa_outside.specs.declared.sites.Entry.{Entry}
-use Rattle.cfa_outside.specs.declared.sites.Entry.TheVariants.{Did, Refused}
 use Rattle.cfa_outside.specs.Sites.{after_change, after}
-use Rattle.cfa_outside.specs.Worlds.{put_file, put_directory, set_perms}
 use Rattle.cfa_acts.specs.declared.acts.Reason.{Reason}
 use Rattle.cfa_acts.specs.declared.acts.Reason.TheVariants.{Fault}
-use Rattle.cfa_journal.specs.declared.records.Record.{Record}
 use Rattle.cfa_journal.specs.declared.records.Record.TheVariants as records
 use Rattle.cfa_locks.specs.Locks.{key_of}
 use Rattle.cfa_outcomes.specs.declared.outcomes.Outcome.{Outcome}
@@ -23,9 +18,11 @@ use Rattle.cfa_resolve.specs.declared.instances.Work.TheVariants.{Acts, Call, Re
 use Rattle.cfa_walk.specs.History.{History, Begun, Set, Raised, Reached, Listed, Told}
 use Rattle.cfa_walk.specs.Tellers.{Actuated, actuated, after_all, acts_of, outcome_by}
 use Rattle.cfa_agent.specs.Actuations.{Mark, mark_of, done_by, done_on, outcome_done, appended, changed, run_record, closing_record, entries_of}
+use Rattle.cfa_agent.specs.Hosts.{SameHost}
+use Rattle.cfa_agent.specs.lemmas.Hosts.{after_both, same_trans, same_after, same_recorded, same_run}
 use Rattle.cfa_agent.specs.Runs.{Start, actuations_in, has_record, done_behind, work_entries, log_in, world_in, done_next, outcome_by_work, tally_in}
 use Rattle.cfa_convergence.specs.Contained.{kept_or_repaired, unfailing, with_acts, actuations}
-use Rattle.cfa_convergence.specs.Lasting.{SameHost, Trace, Becomes, unchanged, actuates}
+use Rattle.cfa_convergence.specs.Lasting.{Trace, Becomes, unchanged, actuates}
 use Rattle.cfa_convergence.specs.Told.{Telling, TellAlike, outcomes_by, IsToldBy}
 
 -- ---- hosts
@@ -33,41 +30,13 @@ use Rattle.cfa_convergence.specs.Told.{Telling, TellAlike, outcomes_by, IsToldBy
 pub same_world : (w : World) → SameHost w w
 same_world w = record { nodes = refl; services = refl }
 
-same_then : (u v w : World) → SameHost u v → SameHost v w → SameHost u w
-same_then u v w p q = record { nodes = p.nodes ∙ q.nodes; services = p.services ∙ q.services }
-
-change_same : (c : Change) (w v : World) → SameHost w v → SameHost (after_change c w) (after_change c v)
-unfolding after_change
-change_same (PutFile path bytes) w v same = record { nodes = ap (put_file path bytes) same.nodes; services = same.services }
-change_same (PutDir path) w v same = record { nodes = ap (put_directory path) same.nodes; services = same.services }
-change_same (Remove path) w v same = record { nodes = ap (λ n. finite.remove n path) same.nodes; services = same.services }
-change_same (SetPerms path perms) w v same = record { nodes = ap (set_perms path perms) same.nodes; services = same.services }
-change_same (PutService name row) w v same = record { nodes = same.nodes; services = ap (λ n. finite.insert n name row) same.services }
-change_same (PutLock key moment) w v same = record { nodes = same.nodes; services = same.services }
-change_same (Append bytes) w v same = record { nodes = same.nodes; services = same.services }
-
 changes_same : (cs : List Change) (w v : World) → SameHost w v → SameHost (after_all cs w) (after_all cs v)
 changes_same [] w v same = same
-changes_same (c ∷ cs) w v same = changes_same cs (after_change c w) (after_change c v) (change_same c w v same)
-
-pub after_append : (xs ys : List Entry) (w : World) → after (xs ++ ys) w ≡ after ys (after xs w)
-after_append [] ys w = refl
-after_append (Did change ∷ xs) ys w = after_append xs ys (after_change change w)
-after_append (Refused call ∷ xs) ys w = after_append xs ys w
+changes_same (c ∷ cs) w v same = changes_same cs (after_change c w) (after_change c v) (same_after c w v same)
 
 after_changed : (cs : List Change) (rest : List Entry) (w : World) → after (changed cs ++ rest) w ≡ after rest (after_all cs w)
 after_changed [] rest w = refl
 after_changed (c ∷ cs) rest w = after_changed cs rest (after_change c w)
-
--- a record is no part of the host
-record_same : (r : Record) (w : World) → SameHost (after (appended r ∷ []) w) w
-unfolding after_change
-record_same r w = record { nodes = refl; services = refl }
-
-run_same : (moment : ℕ) (has : Bool) (w : World) → SameHost (after (run_record moment has) w) w
-unfolding after_change
-run_same moment true w = same_world w
-run_same moment false w = record { nodes = refl; services = refl }
 
 -- ---- an instance that didn't fail
 
@@ -103,10 +72,10 @@ entries_same moment number i has (c ∷ cs) None none w =
     let w2 : World = after (appended opening ∷ []) w1 in
     let w3 : World = after_all (c ∷ cs) w2 in
     let same : after (first ++ appended opening ∷ (changed (c ∷ cs) ++ appended closing ∷ [])) w ≡ after (appended closing ∷ []) w3 =
-    after_append first (appended opening ∷ (changed (c ∷ cs) ++ appended closing ∷ [])) w ∙ after_changed (c ∷ cs) (appended closing ∷ []) w2 in
+    after_both first (appended opening ∷ (changed (c ∷ cs) ++ appended closing ∷ [])) w ∙ after_changed (c ∷ cs) (appended closing ∷ []) w2 in
     subst (λ x. SameHost x (after_all (c ∷ cs) w)) (sym same)
-    (same_then (after (appended closing ∷ []) w3) w3 (after_all (c ∷ cs) w) (record_same closing w3)
-    (changes_same (c ∷ cs) w2 w (same_then w2 w1 w (record_same opening w1) (run_same moment has w))))
+    (same_trans (after (appended closing ∷ []) w3) w3 (after_all (c ∷ cs) w) (same_recorded closing w3)
+    (changes_same (c ∷ cs) w2 w (same_trans w2 w1 w (same_recorded opening w1) (same_run moment has w))))
 
 -- ---- a run without failures
 
@@ -194,7 +163,7 @@ module _ (start : Start) where
       let plain = unmarked planned mark (subst NoneFailed ended fine) in
       let entries : List Entry = entries_of start.moment (suc (actuations_in h)) i (done_by planned mark) (has_record (log_in quiet h)) in
       let same : after (log_in quiet h ++ (entries ++ [])) start.world ≡ after (entries_of start.moment (suc (actuations_in h)) i (done_by planned None) (has_record (log_in quiet h))) (world_in quiet h) =
-      after_append (log_in quiet h) (entries ++ []) start.world ∙ ap (λ es. after es (world_in quiet h)) (append-nil entries)
+      after_both (log_in quiet h) (entries ++ []) start.world ∙ ap (λ es. after es (world_in quiet h)) (append-nil entries)
       ∙ ap (λ d. after (entries_of start.moment (suc (actuations_in h)) i d (has_record (log_in quiet h))) (world_in quiet h)) plain.1 in (
         plain.0,
         subst (λ x. SameHost x (after_all planned.changes (world_in quiet h))) (sym same)

@@ -21,6 +21,7 @@ use Rattle.cfa_convergence.specs.Told.{Telling, TellAlike, outcomes_by, IsToldBy
 use Rattle.cfa_laws.specs.Keys.{IsKeyed, InstancesAreKeyed}
 use Rattle.cfa_convergence.proofs.ActuationLemmas.{kept_acts}
 use Rattle.cfa_convergence.proofs.KnownLemmas.{AreKnown, runs_known}
+use Rattle.cfa_convergence.proofs.OrderLemmas.{visited_more}
 use Rattle.cfa_convergence.proofs.RealLemmas.{real_tells}
 
 -- every instance is kept
@@ -52,10 +53,6 @@ worst_kept (Set p name datum ∷ h) told path = worst_kept h told path
 worst_kept (Raised place class status source ∷ h) told path = worst_kept h told path
 worst_kept (Reached home promise guard sets visits ∷ h) told path = worst_kept h told path
 worst_kept (Listed i status ∷ h) told path = worst_kept h told path
-
-visited_later : (b : Bool) {c : Bool} → c ≡ true → ◌≡◌ {A = Bool} (elim b [ true ↦ true | false ↦ c ]) true
-visited_later true e = refl
-visited_later false e = e
 
 module _ (keeps : KeptWherePostHolds) (world : World) (moment : ℕ) (kept : History)
     (posts : (i : Instance) → IsKeyed i → HasActs i.work → was_visited kept i ≡ true → PostsHold world (acts_of i.work)) where
@@ -96,7 +93,7 @@ module _ (keeps : KeptWherePostHolds) (world : World) (moment : ℕ) (kept : His
         (ap (λ x. x ∷ []) (sym (ends_kept h i i.work refl rest.1 told.1 p)), rest.0),
         ap (λ es. log_in again h ++ (es ++ [])) (writes_nothing h i i.work rest.1 p) ∙ append-nil (log_in again h) ∙ rest.1,
       )
-  rerun_alike (Listed i status ∷ h) up told known = rerun_alike h (λ j e. up j (visited_later (is_same j i) e)) told known.2
+  rerun_alike (Listed i status ∷ h) up told known = rerun_alike h (λ j e. up j (visited_more (is_same j i) e)) told known.2
   rerun_alike (Begun path given ∷ h) up told known = rerun_alike h up told known
   rerun_alike (Set path name datum ∷ h) up told known = rerun_alike h up told known
   rerun_alike (Raised place class status source ∷ h) up told known = rerun_alike h up told known

@@ -27,9 +27,9 @@ use Rattle.cfa_convergence.specs.Keys.{KeysTellWorks}
 use Rattle.cfa_convergence.specs.Policies.{HasKnown}
 use Rattle.cfa_laws.specs.Statuses.{InstancesAreSame, RaisesLieTogether, Within, no_no, no_maybe, yes_maybe, yes_yes}
 use Rattle.cfa_convergence.specs.Told.{teller_of}
-use Rattle.cfa_convergence.proofs.AlwaysLemmas.{Always, each_made, Kept_along}
+use Rattle.cfa_convergence.proofs.AlwaysLemmas.{Any, Any_at, Any_home, Always, each_made, Kept_along}
 use Rattle.cfa_convergence.proofs.ContainedLemmas.{Both, Contained, Settles, If_settled, then_both, both_bound, both_more}
-use Rattle.cfa_convergence.proofs.ContainmentLemmas.{Any, Any_at, Any_home, steps_settle, Settling, calls_settle, activation_settles, known_any, IsShallow, AreShallowOpen, plain_shallow, CallsWithin, VisitsQuietly, types_both, passes_both}
+use Rattle.cfa_convergence.proofs.ContainmentLemmas.{steps_settle, Settling, calls_settle, activation_settles, known_any, IsShallow, AreShallowOpen, plain_shallow, CallsWithin, VisitsQuietly, types_both, passes_both}
 use Rattle.cfa_convergence.proofs.DepthLemmas.{depth, depth_inner}
 use Rattle.cfa_convergence.proofs.LevelLemmas.{each_level, visit_level, types_level, calls_level, common_level}
 use Rattle.cfa_convergence.proofs.NameLemmas.{same_text}

@@ -13,22 +13,13 @@ use Rattle.cfa_served.specs.Control.{sequence_of}
 use Rattle.cfa_served.specs.Served.{common_bundles_of}
 use Rattle.cfa_tree.specs.Tree.{BlockTree}
 use Rattle.cfa_walk.specs.History.{History, everywhere, Raised, Listed, Told}
-use Rattle.cfa_walk.specs.Numbered.{Numbered, numbered_in, name_of, common_types, of_type}
+use Rattle.cfa_walk.specs.Numbered.{numbered_in, name_of, common_types, of_type}
 use Rattle.cfa_walk.specs.Passes.{Course, goes, too_large, then_on, told, raised_to, in_every_list, classes_for, raise_each, raise_lists, run}
 use Rattle.cfa_walk.specs.Views.{Setting, Home, reached_in_history}
 use Rattle.cfa_convergence.specs.Conflicts.{HasActs}
 use Rattle.cfa_convergence.specs.Told.{Telling, teller_of, TellAlike, outcomes_by, IsToldBy, RunsAreDetermined, RunsAreTold}
 use Rattle.cfa_convergence.proofs.LevelLemmas.{IsCall, IsReport, Steps, run_level}
-use Rattle.cfa_convergence.proofs.AlwaysLemmas.{Always, each_made, Kept_along, steps_along}
-
-abbrev Any : {X : Type 0} → X → Type 0
-Any x = Unit {0}
-
-abbrev Any_at : List ℕ → Instance → Type 0
-Any_at path i = Unit {0}
-
-abbrev Any_home : Home → Numbered → Type 0
-Any_home home p = Unit {0}
+use Rattle.cfa_convergence.proofs.AlwaysLemmas.{Any, Any_at, Any_home, Always, each_made, Kept_along, steps_along}
 
 abbrev home_of : BlockTree → Home
 home_of block = record { path = name_of block; bundle = name_of block }

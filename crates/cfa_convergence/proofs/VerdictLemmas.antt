@@ -1,7 +1,8 @@
 -- Where the list of conflicts is empty, the walks are free of conflicts.
 use Rattle.std.proofs.Common.{◌≡◌, ℕ, ◌+◌, Bool, true, false, not, List, [], ◌∷◌, ◌++◌, map, Option, Some, None, refl, ap, sym, subst, ◌∙◌, arith, cond, eq-eqb}
 use Rattle.std.specs.Prelude.{◌||◌}
-use Rattle.std.specs.List.{AllByRecursion as Each, list_any, flat_map, filter, position_or_len}
+use Rattle.std.specs.List.{AllByRecursion as Each, list_any, filter, position_or_len}
+use Rattle.std.proofs.lemmas.Bool.{and_from}
 use Rattle.std.proofs.lemmas.Option.{same_Some}
 use Rattle.cfa_acts.specs.declared.acts.Act.{Act}
 use Rattle.cfa_acts.specs.declared.acts.Act.TheVariants.{Create, MakeDir, Delete, Content, Copy, Edit, Perms, Start, Stop, Enable, Disable, Restart, Bust}
@@ -38,8 +39,8 @@ use Rattle.cfa_convergence.specs.Verdicts.{AcceptedAreFree, AcceptedRunsSettle}
 use Rattle.cfa_convergence.proofs.BlameLemmas.{AreBlamed}
 use Rattle.cfa_convergence.proofs.BlamingLemmas.{walk_blamed}
 use Rattle.cfa_convergence.proofs.KnownLemmas.{AreKnown, runs_known}
-use Rattle.cfa_convergence.proofs.NameLemmas.{true_both, one_acts, one_kind}
-use Rattle.cfa_convergence.proofs.PlaceLemmas.{none_left, none_right}
+use Rattle.cfa_convergence.proofs.NameLemmas.{one_acts, one_kind}
+use Rattle.cfa_convergence.proofs.PlaceLemmas.{none_left, none_right, none_flat}
 use Rattle.cfa_convergence.proofs.QuietLemmas.{either_way}
 use Rattle.cfa_convergence.proofs.RerunLemmas.{kept_tells}
 use Rattle.cfa_convergence.proofs.RunLemmas.{run_contained, is_within}
@@ -60,10 +61,6 @@ none_passes {X = X} p (x ∷ xs) e = go (p x) refl (none_passes p xs) e
     go : (b : Bool) → p x ≡ b → (filter p xs ≡ [] → Each (λ (y : X). p y ≡ false) xs) → cond b (x ∷ filter p xs) (filter p xs) ≡ [] → (p x ≡ false) × Each (λ (y : X). p y ≡ false) xs
     go true is more f = absurd (cc)
     go false is more f = (is, more f)
-
-none_flat : {X Y : Type 0} (f : X → List Y) (xs : List X) → flat_map f xs ≡ [] → Each (λ (x : X). f x ≡ []) xs
-none_flat f [] e = tt
-none_flat f (x ∷ xs) e = (none_left (f x) (flat_map f xs) e, none_flat f xs (none_right (f x) (flat_map f xs) e))
 
 each_other : {X : Type 0} (P Q : X → Type 0) → ((x : X) → P x → Q x) → (xs : List X) → Each P xs → Each Q xs
 each_other P Q f [] all = tt
@@ -219,7 +216,7 @@ module _ (s : Setting) (tell : KeysTellWorks) (kept walk : History) (blamed : Ar
         let acts : has_acts found.one.work ≡ true = acting found.one.work (one_kind tell i found.one key found.key found.same live.acts) in
         let known_there : is_visited (lists s kept) found.one ≡ true = listed_any kept known_kept found.one ∙ sym (same_visits kept i found.one found.same) ∙ live.visited in
         let all : conflicts_at (lists s walk) found.one (at i) ≡ [] =
-        subst (λ n. conflicts_at (lists s walk) found.one n ≡ []) (no_more_zero (at i)) (found.holds (true_both (has_acts found.one.work) (is_visited (lists s kept) found.one) acts known_there)) in
+        subst (λ n. conflicts_at (lists s walk) found.one n ≡ []) (no_more_zero (at i)) (found.holds (and_from (has_acts found.one.work) (is_visited (lists s kept) found.one) acts known_there)) in
         let restarts : List Conflict = restarts_of found.one in
         let unsure : List Conflict = unsure_at found.one (first_visit visits (at i)) in
         let undoes : List Conflict = undone_from visits found.one (at i) instances 0 in

@@ -3,12 +3,13 @@ use Rattle.std.proofs.Common.{◌≡◌, ℕ, Bool, true, false, not, List, [], 
 use Rattle.std.specs.Prelude.{◌==◌}
 use Rattle.std.specs.List.{list_any, position_or_len}
 use Rattle.std.specs.Str.{bytes_eq}
-use Rattle.std.proofs.lemmas.Bool.{false≢true, false_from_ne_true}
+use Rattle.std.proofs.lemmas.Bool.{false≢true, false_from_ne_true, and_from, eqb-true}
 use Rattle.std.proofs.lemmas.List.{map-append}
 use Rattle.cfa_classes.specs.declared.levels.Status.{Status}
 use Rattle.cfa_classes.specs.declared.levels.Status.TheVariants.{No, Maybe}
 use Rattle.cfa_classes.specs.Status.{greater}
 use Rattle.cfa_conflict.specs.Conflicts.{first_visit, has_visit, is_visited_after}
+use Rattle.cfa_conflict.specs.lemmas.Anywhere.{in_left}
 use Rattle.cfa_resolve.specs.declared.instances.Instance.{Instance}
 use Rattle.cfa_walk.specs.declared.walks.Visit.{Visit}
 use Rattle.cfa_walk.specs.History.{History, Begun, Set, Raised, Reached, Listed, Told, is_named, mark_in}
@@ -18,8 +19,8 @@ use Rattle.cfa_walk.specs.Walks.{with_first, listed_instances, blame_for, blame_
 use Rattle.cfa_convergence.specs.Conflicts.{was_listed, was_visited, is_same, IsAfter, first_status}
 use Rattle.cfa_convergence.proofs.BlameLemmas.{greater_real, not_unvisited, AreBlamed}
 use Rattle.cfa_convergence.proofs.KnownLemmas.{AreKnown, just_visited}
-use Rattle.cfa_convergence.proofs.NameLemmas.{same_text, names_of, true_both}
-use Rattle.cfa_convergence.proofs.PlaceLemmas.{tie, position_found, any_last, any_other, any_left, one_place}
+use Rattle.cfa_convergence.proofs.NameLemmas.{same_text, names_of}
+use Rattle.cfa_convergence.proofs.PlaceLemmas.{position_found, any_last, any_other, one_place}
 use Rattle.cfa_convergence.proofs.SourceLemmas.{IsGiven, mapped_given}
 
 pub same_visits : (h : History) (i j : Instance) → is_same i j ≡ true → was_visited h i ≡ was_visited h j
@@ -27,7 +28,7 @@ same_visits h i j e = let names = names_of i j e in ap (λ p. was_listed h p i.t
 
 same_named : (i j : Instance) → j.path ≡ i.path → j.text ≡ i.text → is_same i j ≡ true
 same_named i j path text =
-    true_both (bytes_eq j.path i.path) (bytes_eq j.text i.text) (subst (λ p. bytes_eq j.path p ≡ true) path (same_text j.path)) (subst (λ x. bytes_eq j.text x ≡ true) text (same_text j.text))
+    and_from (bytes_eq j.path i.path) (bytes_eq j.text i.text) (subst (λ p. bytes_eq j.path p ≡ true) path (same_text j.path)) (subst (λ x. bytes_eq j.text x ≡ true) text (same_text j.text))
 
 apart_back : (i j : Instance) → is_same i j ≡ false → is_same j i ≡ false
 apart_back i j apart =
@@ -98,7 +99,7 @@ module _ (s : Setting) (is : List Instance) where
       go : (b : Bool) → (place i == place j) ≡ b → b ≡ false
       go false e = refl
       go true e =
-          let found = one_place (is_same i) (is_same j) is there there' (tie (place i) (place j) e) in
+          let found = one_place (is_same i) (is_same j) is there there' (eqb-true (place i) (place j) e) in
           let mine = names_of i found.0 found.1 in
           let theirs = names_of j found.0 found.2 in
           let path : j.path ≡ i.path = sym theirs.0 ∙ mine.0 in
@@ -244,7 +245,7 @@ module _ (s : Setting) (is : List Instance) where
     where
       go : (b : Bool) → (is_visited_after visits n m ≡ true → is_visited_after (visits ++ last ∷ []) n m ≡ true) → cond b (has_visit visits m) (is_visited_after visits n m) ≡ true →
           cond b (has_visit (visits ++ last ∷ []) m) (is_visited_after (visits ++ last ∷ []) n m) ≡ true
-      go true before g = any_left (λ v. v.instance == m) visits (last ∷ []) g
+      go true before g = in_left (λ v. v.instance == m) visits (last ∷ []) g
       go false before g = before g
 
   pub after_visited : (h : History) → AreBlamed s h → AreKnown h → AreThere h → (later earlier : Instance) → IsAfter h later earlier → is_visited_after (visits_of h) (place earlier) (place later) ≡ true

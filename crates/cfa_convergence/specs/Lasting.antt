@@ -13,15 +13,11 @@ use Rattle.cfa_acts.specs.Acts.{post}
 use Rattle.cfa_resolve.specs.declared.instances.Instance.{Instance}
 use Rattle.cfa_walk.specs.History.{History}
 use Rattle.cfa_walk.specs.Tellers.{actuated, after_all, acts_of}
+use Rattle.cfa_agent.specs.Hosts.{SameHost}
 use Rattle.cfa_laws.specs.Keys.{IsKeyed}
 use Rattle.cfa_convergence.specs.Conflicts.{IsLive, is_same, IsAfter, AreFree}
 
 -- ---- worlds
-
--- what acts ask of: nodes and services
-pub record SameHost (world other : World) : Type 0 where
-  pub nodes : world.nodes ≡ other.nodes
-  pub services : world.services ≡ other.services
 
 abbrev pub PostsHold : World → List Act → Type 0
 PostsHold world acts = Each (λ (act : Act). IsTrue (post act world)) acts

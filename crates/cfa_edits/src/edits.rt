@@ -1,9 +1,7 @@
 // Edits, lists of edits, and the refusals of lines.
-ghost use Rattle.std.specs.Prelude.{◌≡◌};
 
 use cfa_base::{Name, Names, Pattern};
 use std::alloc::{AllocError, AllocFailed};
-use std::marker::Model;
 use thiserror::Error;
 
 /// One edit of the lines of a text.
@@ -30,37 +28,6 @@ pub enum Spot {
     Before(Pattern, bool),
     /// Directly behind the anchor.
     After(Pattern, bool),
-}
-
-/// A list of edits, in order.
-#[derive(Drop)]
-pub struct Edits {
-    items: Vec<Edit>,
-}
-
-impl Model for Edits {
-    ghost use Rattle.std.specs.Prelude.{List};
-    ghost use Rattle.cfa_edits.specs.declared.edits.Edit.{Edit};
-
-    ghost Value = { List Edit };
-
-    ghost view = { λ e. e.items.items };
-}
-
-impl Edits {
-    /// The edits of a `Vec`, without taking memory.
-    pub fn from_vec(items: Vec<Edit>) -> Edits
-        ensures { result ≡ items.items }
-    {
-        Edits { items }
-    }
-
-    /// The edits, without taking memory.
-    pub fn as_slice(&self) -> &[Edit]
-        ensures { result.now ≡ self.now }
-    {
-        self.items.as_slice()
-    }
 }
 
 /// Why lines were not edited.

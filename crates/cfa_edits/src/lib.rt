@@ -9,6 +9,6 @@ mod scripts;
 mod texts;
 mod writing;
 
-pub use edits::{Edit, EditErr, Edits, Spot};
+pub use edits::{Edit, EditErr, Spot};
 pub use scripts::{Script, texts_tell_scripts};
 pub use texts::{join_lines, split_lines};

@@ -8,8 +8,8 @@ ghost use Rattle.cfa_edits.specs.Laws.{TextsTellScripts};
 use crate::inserting::insert;
 use crate::lining::{deck_of, delete, edit_fields, lines_of, replace};
 use crate::writing::write_edits;
-use crate::{Edit, EditErr, Edits};
-use cfa_base::{Name, Names, NoMemory};
+use crate::{Edit, EditErr};
+use cfa_base::{Name, Names, NoMemory, Parts};
 use cfa_lines::Deck;
 use std::alloc::Global;
 use std::fmt;
@@ -19,7 +19,7 @@ use std::marker::Model;
 /// edits.
 #[derive(Drop)]
 pub struct Script {
-    edits: Edits,
+    edits: Parts<Edit>,
     text: Name,
 }
 
@@ -43,7 +43,7 @@ impl fmt::Debug for Script {
 
 impl Script {
     /// The script of these edits.
-    pub fn new(alloc: Global, edits: Edits) -> Result<Script, NoMemory>
+    pub fn new(alloc: Global, edits: Parts<Edit>) -> Result<Script, NoMemory>
         requires { AreEdits edits }
         ensures { IfOk result (λ script. script ≡ edits) }
     {

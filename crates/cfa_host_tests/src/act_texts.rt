@@ -5,8 +5,8 @@ ghost use Rattle.cfa_edits.specs.Scripts.{IsEdit, IsOneLine};
 ghost use Rattle.cfa_acts.specs.Acts.{IsAct};
 
 use cfa_acts::{Act, Reason};
-use cfa_base::{Bytes, How, MOST_FILE_BYTES, Name, Names, Pattern};
-use cfa_edits::{Edit, Edits, Script, Spot};
+use cfa_base::{Bytes, How, MOST_FILE_BYTES, Name, Names, Parts, Pattern};
+use cfa_edits::{Edit, Script, Spot};
 use cfa_outside::Path;
 use std::alloc::Global;
 use std::process::Abort;
@@ -108,7 +108,7 @@ fn script_of(rt: &impl Abort, alloc: Global, text: &str) -> Result<Script, Fail>
     let (word, value) = pair(rt, text, " ");
     let mut edits = Vec::new(alloc);
     edits.push(edit_of(alloc, word, value_of(alloc, value)?)?)?;
-    Ok(Script::new(alloc, Edits::from_vec(edits))?)
+    Ok(Script::new(alloc, Parts::from_vec(edits))?)
 }
 
 pub fn act_of(rt: &impl Abort, alloc: Global, text: &str) -> Result<Act, Fail>

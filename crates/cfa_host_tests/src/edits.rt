@@ -4,8 +4,8 @@ ghost use Rattle.std.specs.Prelude.{◌≡◌, IfOk};
 ghost use Rattle.cfa_base.specs.declared.patterns.How.TheVariants.{Whole, Part};
 ghost use Rattle.cfa_edits.specs.Scripts.{IsEdit, IsOneLine, IsSpot};
 
-use cfa_base::{How, Name, Names, Pattern};
-use cfa_edits::{Edit, EditErr, Edits, Script, Spot};
+use cfa_base::{How, Name, Names, Parts, Pattern};
+use cfa_edits::{Edit, EditErr, Script, Spot};
 use cfa_lines::Deck;
 use std::alloc::Global;
 use std::process::Abort;
@@ -37,7 +37,7 @@ fn script(alloc: Global, edit: Edit) -> Result<Script, Fail>
 {
     let mut edits = Vec::new(alloc);
     edits.push(edit)?;
-    Ok(Script::new(alloc, Edits::from_vec(edits))?)
+    Ok(Script::new(alloc, Parts::from_vec(edits))?)
 }
 
 fn deleting(alloc: Global, pattern: &str) -> Result<Script, Fail> {

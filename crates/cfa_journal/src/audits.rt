@@ -3,9 +3,8 @@ ghost use Rattle.std.specs.Prelude.{◌≡◌, ◌<◌, ◌^◌, ◌-◌, IfOk, 
 ghost use Rattle.cfa_journal.specs.Audits.{audited, counted, is_done, runs_of, up_to_run};
 
 use crate::{Journal, Record};
-use cfa_base::NoMemory;
+use cfa_base::{NoMemory, Parts};
 use std::alloc::Global;
-use std::marker::Model;
 
 /// A run of a journal: the moment at which it began, and how many of its records tell what.
 #[derive(Clone, Copy, Debug, PartialEq, Eq)]
@@ -18,37 +17,6 @@ pub struct AuditedRun {
     pub failed: u64,
     /// Instances whose first change may have been made, and whose end isn't told.
     pub opened: u64,
-}
-
-/// The runs of a journal, in order.
-#[derive(Debug, Drop)]
-pub struct AuditedRuns {
-    items: Vec<AuditedRun>,
-}
-
-impl Model for AuditedRuns {
-    ghost use Rattle.std.specs.Prelude.{List};
-    ghost use Rattle.cfa_journal.specs.declared.audits.AuditedRun.{AuditedRun};
-
-    ghost Value = { List AuditedRun };
-
-    ghost view = { λ r. r.items.items };
-}
-
-impl AuditedRuns {
-    /// The runs of a `Vec`, without taking memory.
-    pub fn from_vec(items: Vec<AuditedRun>) -> AuditedRuns
-        ensures { result ≡ items.items }
-    {
-        AuditedRuns { items }
-    }
-
-    /// The runs, without taking memory.
-    pub fn as_slice(&self) -> &[AuditedRun]
-        ensures { result.now ≡ self.now }
-    {
-        self.items.as_slice()
-    }
 }
 
 // Whether a record is the `done` of this number.
@@ -101,7 +69,7 @@ fn audited_run(moment: u64, behind: &[Record]) -> AuditedRun
 }
 
 /// What a journal tells of each of its runs. Each record is looked at twice at most.
-pub fn audit(alloc: Global, journal: &Journal) -> Result<AuditedRuns, NoMemory>
+pub fn audit(alloc: Global, journal: &Journal) -> Result<Parts<AuditedRun>, NoMemory>
     ensures { IfOk result (λ runs. runs ≡ runs_of journal.now.records) }
 {
     let records = journal.records.as_slice();
@@ -111,5 +79,5 @@ pub fn audit(alloc: Global, journal: &Journal) -> Result<AuditedRuns, NoMemory>
             runs.push(audited_run(*moment, &records[i + 1..]))?;
         }
     }
-    Ok(AuditedRuns::from_vec(runs))
+    Ok(Parts::from_vec(runs))
 }

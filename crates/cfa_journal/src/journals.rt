@@ -9,50 +9,18 @@ use crate::Record;
 use crate::reading::{append_record, read_record};
 use crate::records::is_in_place;
 use cfa_base as base;
-use cfa_base::Bytes;
+use cfa_base::{Bytes, Parts};
 use cfa_rows::{Format, RowsErr, read_rows};
 use std::alloc::Global;
-use std::marker::Model;
 use thiserror::Error;
 
 /// The most bytes of a journal.
 pub const MOST_JOURNAL_BYTES: usize = 16_777_216;
 
-/// A list of records, in order.
-#[derive(Debug, Drop)]
-pub struct Records {
-    items: Vec<Record>,
-}
-
-impl Model for Records {
-    ghost use Rattle.std.specs.Prelude.{List};
-    ghost use Rattle.cfa_journal.specs.declared.records.Record.{Record};
-
-    ghost Value = { List Record };
-
-    ghost view = { λ r. r.items.items };
-}
-
-impl Records {
-    /// The records of a `Vec`, without taking memory.
-    pub fn from_vec(items: Vec<Record>) -> Records
-        ensures { result ≡ items.items }
-    {
-        Records { items }
-    }
-
-    /// The records, without taking memory.
-    pub fn as_slice(&self) -> &[Record]
-        ensures { result.now ≡ self.now }
-    {
-        self.items.as_slice()
-    }
-}
-
 /// What a journal holds: its records, and how many bytes stand behind its last newline.
 #[derive(Debug, Drop)]
 pub struct Journal {
-    pub records: Records,
+    pub records: Parts<Record>,
     pub torn: u64,
 }
 
@@ -124,7 +92,7 @@ pub fn read(alloc: Global, bytes: &Bytes) -> Result<Journal, JournalErr>
     }
     match read_rows::<Lines>(alloc, bytes) {
         Ok((records, rest)) => Ok(Journal {
-            records: Records::from_vec(records),
+            records: Parts::from_vec(records),
             torn: rest.len() as u64,
         }),
         Err(RowsErr::BadLine(line)) => Err(JournalErr::BadRecord(line as u32)),

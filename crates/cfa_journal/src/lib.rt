@@ -8,7 +8,7 @@ mod laws;
 mod reading;
 mod records;
 
-pub use audits::{AuditedRun, AuditedRuns, audit};
-pub use journals::{Journal, JournalErr, MOST_JOURNAL_BYTES, Records, read, write};
+pub use audits::{AuditedRun, audit};
+pub use journals::{Journal, JournalErr, MOST_JOURNAL_BYTES, read, write};
 pub use laws::one_journal;
 pub use records::Record;

@@ -1,6 +1,6 @@
 -- The acts that a promise resolves to are such as promises give: a mode has four octal digits, and a script is one in order.
 use Rattle.std.proofs.Common.{◌≡◌, ◌<◌, ◌≤◌, ◌^◌, ℕ, Bool, true, false, List, [], ◌∷◌, ◌++◌, length, codes, Option, Some, None, cond, refl, lit<, arith, All}
-use Rattle.std.specs.Prelude.{◌||◌, ◌==◌, option_map, Result, Ok, Err, nat_le}
+use Rattle.std.specs.Prelude.{not, ◌||◌, ◌==◌, option_map, Result, Ok, Err, nat_le}
 use Rattle.std.specs.List.{list_all}
 use Rattle.std.specs.Str.{bytes_eq}
 use Rattle.std.specs.Str.Parse.{digits_value}
@@ -27,11 +27,13 @@ use Rattle.cfa_bodies.specs.declared.sayings.Said.{Said}
 use Rattle.cfa_bodies.specs.Bodies.{Sayings, Bodies, text_in, bound, data_given, name_given, text_or_empty}
 use Rattle.cfa_defines.specs.OwnTexts.{arguments_of}
 use Rattle.cfa_served.specs.Served.{bundle_of}
+use Rattle.cfa_kinds.specs.declared.kinds.Form.TheVariants.{Digest}
+use Rattle.cfa_scripts.specs.EditPromises.{is_right}
 use Rattle.cfa_scripts.specs.declared.scripting.Scripted.{Scripted}
 use Rattle.cfa_scripts.specs.declared.scripting.Scripted.TheVariants.{Script as a_script, Unresolved as no_script, TooMany as script_many, TooLong as script_long, BadPattern as bad_pattern, BadValue as bad_value}
 use Rattle.cfa_scripts.specs.EditScripts.{Caller, around_of, walked_by, walked}
 use Rattle.cfa_scripts.specs.Numbered.{numbered_in, params_of}
-use Rattle.cfa_resolve.specs.FileActs.{truth, mode_said, names_said, target_of, is_directory_form, delete_by, or_false, delete_acts, create_by, create_acts, copy_from, is_wrong_digest, copy_act, copy_acts, content_acts, perms_by, perms_act, perms_acts, is_emptied, content_made, script_act, edit_act, edit_acts, acts_by, file_acts, service_act}
+use Rattle.cfa_resolve.specs.FileActs.{truth, mode_said, names_said, target_of, is_directory_form, delete_by, or_false, delete_acts, create_by, create_acts, copy_from, copy_act, copy_acts, content_acts, perms_by, perms_act, perms_acts, is_emptied, content_made, script_act, edit_act, edit_acts, acts_by, file_acts, service_act}
 use Rattle.cfa_resolve.specs.Instances.{Reached}
 use Rattle.cfa_resolve.specs.Resolution.{caller_of, edit_call, walked_for, scripted_in}
 use Rattle.cfa_resolve.specs.lemmas.Octal.{octal_digits}
@@ -105,7 +107,7 @@ copy_given path is_directory None = none
 copy_given path is_directory (Some sayings) =
     let from = copy_from path (path_of (text_or_empty (thing_at sayings (codes "source")))) in
     one (copy_act path is_directory sayings)
-    (if_given (is_wrong_digest (thing_at sayings (codes "compare"))) (Bust reasons.BadValue) (cond is_directory (Bust reasons.BadPath) from) tt
+    (if_given (not (is_right Digest (thing_at sayings (codes "compare")))) (Bust reasons.BadValue) (cond is_directory (Bust reasons.BadPath) from) tt
     (if_given is_directory (Bust reasons.BadPath) from tt (copied_from path (path_of (text_or_empty (thing_at sayings (codes "source")))))))
 
 content_given : (path : List ℕ) (is_directory : Bool) (content : Option (List ℕ)) → All IsGiven (content_acts path is_directory content)

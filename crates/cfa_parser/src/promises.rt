@@ -8,9 +8,9 @@ ghost use Rattle.cfa_parser.specs.Seen.{seen_value_progress, seen_open_section, 
 use crate::ParseErr;
 use crate::sections::{OpenPromise, OpenSection, SectionState, StandingSection};
 use crate::values::{ValueProgress, ValueState, take_in_value, value_start};
-use cfa_base::{Kind, Name, Place};
+use cfa_base::{Kind, Name, Parts, Place};
 use cfa_lexer::Token;
-use cfa_tree::{Attribute, Parts, Value};
+use cfa_tree::{Attribute, Value};
 use std::alloc::Global;
 
 fn new_promise(alloc: Global, promiser: Name, place: Place, promisee: Option<Value>) -> OpenPromise

@@ -16,9 +16,9 @@ use crate::bundles::{
 use crate::headings::{
     BlockWord, Heading, HeadingProgress, HeadingState, block_word, take_in_heading,
 };
-use cfa_base::{Kind, Place};
+use cfa_base::{Kind, Parts, Place};
 use cfa_lexer::Token;
-use cfa_tree::{Attribute, Block, Body, Bundle, Parts, Policy, Section};
+use cfa_tree::{Attribute, Block, Body, Bundle, Policy, Section};
 use std::alloc::Global;
 
 // Where the reading stands within a policy.

@@ -14,8 +14,7 @@ use Rattle.cfa_journal.specs.Audits.{runs_of}
 use Rattle.cfa_sources.specs.Sources.{Texts}
 use Rattle.cfa_program.specs.Audits.{audit_text, bytes_of, AuditsAs, RefusesJournal, too_long, bad_record}
 use Rattle.cfa_program.specs.Stages.{JournalTells}
-use Rattle.cfa_agent.specs.lemmas.Options.{some_weaker}
-use Rattle.cfa_program.proofs.Told.{some_injective}
+use Rattle.cfa_agent.specs.lemmas.Options.{some_weaker, one_some}
 
 -- ---- what was read
 
@@ -63,7 +62,7 @@ refuses_journal told name bytes line NoMemory found bad long tells = absurd (is_
 -- ---- one answer
 
 one_found : (texts : Texts) (name a b : List ℕ) → bytes_of texts name ≡ Some a → bytes_of texts name ≡ Some b → a ≡ b
-one_found texts name a b first second = some_injective a b (sym first ∙ second)
+one_found texts name a b first second = one_some first second
 
 module _ (one : OneJournal) (never_both : NeverBoth) (one_bad : OneBadRecord) where
   pub audit_is_one : (texts : Texts) (name a b : List ℕ) → AuditsAs texts name a → AuditsAs texts name b → a ≡ b

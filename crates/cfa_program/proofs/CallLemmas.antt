@@ -27,12 +27,13 @@ use Rattle.cfa_program.specs.declared.work.Work.{Work}
 use Rattle.cfa_program.specs.declared.work.Work.TheVariants.{Run, Judge, Show}
 use Rattle.cfa_program.specs.Calls as calls
 use Rattle.cfa_program.specs.declared.work.PolicyRun.{PolicyRun}
-use Rattle.cfa_program.specs.Calls.{IsAnalysedIn, runs, judges, Does, RefusesRequest, TakesRequest, AsksTask, AsksUnaccepted, IsUnaccepted, TakenIsNotRefused, NeedsTooMany, AnalysesTooMany, ran}
+use Rattle.cfa_program.specs.Calls.{IsAnalysedIn, runs, judges, Does, RefusesRequest, TakesRequest, AsksTask, AsksUnaccepted, IsUnaccepted, TakenIsNotRefused, ran}
 use Rattle.cfa_program.specs.Done.{IsDone, IsPut, Stands, Puts, HasFault, refused_with, status_of}
 use Rattle.cfa_program.specs.Ends.{IsEnd, IsStop, IsNotDone, IsRun, IsAnalysed, IsObeying, AsksRun, AsksNoRun, AsksAnalysis, AsksToObey, AsksRefused, RefusesCall, of_words, of_moment, of_request, PutsRefusal, IsUnread, ReadsInTurn, PutsLast, StopsReading, StopsAtSite, AnalysisBuilt, RunBuilt, RefusesBefore, RefusesInRun, RefusesText, before_work, in_run, StopsAtPattern, stops_before, stops_in_run, StopsAtVisits, by_analysis, by_run}
 use Rattle.cfa_program.specs.Stages.{RunPerformed, RunsPolicy, Obeys, setting_in, task_of, IsAsked, OnlyRefused, Prepared, OneSetting, MayRun, PolicyRan, not_made, made, Performed, PutsEnd, PutsStop, status_of_stop, Called, not_prepared, ended, stopped_at_work}
-use Rattle.cfa_agent.specs.lemmas.Options.{some_weaker, each_some}
-use Rattle.cfa_program.proofs.Told.{some_injective, untouched_both, both_weaker, both, adds_none, along, fault_along, fault_before}
+use Rattle.cfa_agent.specs.lemmas.Hosts.{adds_none}
+use Rattle.cfa_agent.specs.lemmas.Options.{some_weaker, each_some, some_at, one_some}
+use Rattle.cfa_program.proofs.Told.{untouched_both, both_weaker, both, along, fault_along, fault_before}
 use Rattle.cfa_program.proofs.WorkLemmas.{no_conflict, judged_by, judges_told, judged_done, judged_put, does_made, does_judged, made_accepted, cut_off_by, obeys_strict, text_done, text_put, IsNoSink, IsOfSite, work_stop, never_shown, untouched_at_stop, runs_by_site, patterns_by_stop, patterns_at_end, untouched_without_run, failed_runs, obeys_conflict}
 
 -- ---- statuses
@@ -75,20 +76,17 @@ stop_is Visits out out' n (inr h) = inl h.0
 stop_is (Pattern text) out out' n (inl h) = inr (inr h.0)
 stop_is (Pattern text) out out' n (inr h) = inl h.0
 
-pub one_request : {o : Option Request} {a b : Request} → o ≡ Some a → o ≡ Some b → a ≡ b
-one_request {o} {a} {b} first second = some_injective a b (sym first ∙ second)
-
 -- ---- refusals
 
 does_refused : (words : List (List ℕ)) (moment : ℕ) (told : Option Library) (lib : Library) (line : List ℕ) (w : World) (marks : List Mark) → told ≡ Some lib → RefusesCall words moment told line → Does words moment lib.texts w marks (refused_with line)
 does_refused words moment told lib _ w marks is (of_words none) = calls.words_refused none
 does_refused words moment told lib _ w marks is (of_moment asks late) = calls.moment_refused asks late
 does_refused words moment told lib _ w marks is (of_request {request = r} {line = l} asks in_time refuses) =
-    calls.request_refused asks in_time (subst (λ (o : Option Library). IfSome o (λ l2. RefusesRequest l2.texts r l)) is refuses)
+    calls.request_refused asks in_time (some_at told lib (λ l2. RefusesRequest l2.texts r l) is refuses)
 
 refused_done : (line : List ℕ) (t : Told) (out out' : Shown (List ℕ)) (n : ℕ) → n ≡ 1 → Follows (adds_bytes line) out out' → IsDone (refused_with line) t t out out' n
 refused_done line t out out' n is put = record {
-  logged = adds_none t;
+  logged = sym (adds_none t);
   put = put ∙ ap (λ bs. followed (adds_bytes bs) out) (sym (append-nil line));
   status_is = is;
 }
@@ -103,7 +101,7 @@ refused_put line out out' n is put = record {
 -- ---- work
 
 pub taken_at : (told : Option Library) (lib : Library) (moment : ℕ) (request : Request) (work : Work) → told ≡ Some lib → IfSome told (λ l. TakesRequest l.texts moment request (task_of work)) → TakesRequest lib.texts moment request (task_of work)
-taken_at told lib moment request work is h = subst (λ (o : Option Library). IfSome o (λ l. TakesRequest l.texts moment request (task_of work))) is h
+taken_at told lib moment request work is h = some_at told lib (λ l. TakesRequest l.texts moment request (task_of work)) is h
 
 no_run : (words : List (List ℕ)) (moment : ℕ) (told : Option Library) (work : Work) → IsAsked words moment told work → AsksNoRun words → ¬ RunsPolicy work
 no_run words moment told work a idle is_run = idle (a.request, a.asked_is, a.is_work.runs is_run)
@@ -272,7 +270,7 @@ module _ (words : List (List ℕ)) (moment : ℕ) (inputs inputs' : Shown Librar
 
   taken_refused : TakenIsNotRefused → (work : Work) → IsAsked words moment inputs.told work → (lib : Library) → inputs.told ≡ Some lib → AsksRefused words lib.texts → ⊥
   taken_refused never work a lib told r =
-      let same : r.0 ≡ a.request = one_request (r.1) a.asked_is in
+      let same : r.0 ≡ a.request = one_some (r.1) a.asked_is in
       never lib.texts moment a.request (task_of work) r.2.0 (taken_at inputs.told lib moment a.request work told a.is_work.taken) (subst (λ (q : Request). RefusesRequest lib.texts q r.2.0) same r.2.1)
 
   pub request_refused : TakenIsNotRefused → CalledHere → IfSome inputs.told (λ lib. AsksRefused words lib.texts → IsNotDone status × Untouched site site')
@@ -315,7 +313,7 @@ module _ (words : List (List ℕ)) (moment : ℕ) (inputs inputs' : Shown Librar
   unaccepted_not_made : OneSetting → (order : PolicyRun) (a : IsAsked words moment inputs.told (Run order)) → MayRun order.strict (analysis_of (setting_in order.policy)) →
       (lib : Library) → TakesRequest lib.texts moment a.request (task_of (Run order)) → AsksUnaccepted words moment lib.texts → ⊥
   unaccepted_not_made one order a may lib taken u =
-      let here : TakesRequest lib.texts moment u.asks.request (task_of (Run order)) = subst (λ (q : Request). TakesRequest lib.texts moment q (task_of (Run order))) (one_request a.asked_is u.asks.asked_is) taken in
+      let here : TakesRequest lib.texts moment u.asks.request (task_of (Run order)) = subst (λ (q : Request). TakesRequest lib.texts moment q (task_of (Run order))) (one_some a.asked_is u.asks.asked_is) taken in
       let strict : order.strict ≡ true = one_strictness lib.texts moment u.asks.request (setting_in order.policy) u.setting order.locks u.has_locks order.strict true here u.asks.takes in
       let same : setting_in order.policy ≡ u.setting = one lib.texts moment u.asks.request (setting_in order.policy) u.setting order.locks u.has_locks order.strict true here u.asks.takes in
       made_accepted order.strict (analysis_of (setting_in order.policy)) strict may (subst (λ (s : Setting). IsUnaccepted (analysis_of s)) (sym same) u.unaccepted)

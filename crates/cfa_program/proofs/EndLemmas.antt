@@ -1,6 +1,7 @@
 -- How lists of bytes end: a list is gone through with what was seen last, so that its end alone counts.
-use Rattle.std.proofs.Common.{◌≡◌, ◌≢◌, ℕ, ◌==◌, Bool, if◌then◌else◌, List, [], ◌∷◌, ◌++◌, Option, Some, None, option_map, codes, All, refl, sym, ap, subst, ◌∙◌, ne_eqb, arith}
+use Rattle.std.proofs.Common.{◌≡◌, ◌≢◌, ℕ, ◌==◌, Bool, if◌then◌else◌, List, [], ◌∷◌, ◌++◌, Option, Some, None, option_map, codes, All, refl, sym, ap, ◌∙◌, ne_eqb, arith}
 use Rattle.std.proofs.lemmas.List.Elements.{All-head, All-tail}
+use Rattle.std.proofs.lemmas.Option.{none-some, same_Some}
 use Rattle.cfa_base.specs.Escapes.{escaped}
 use Rattle.cfa_base.specs.lemmas.Escapes.{escaped-avoids}
 use Rattle.cfa_base.specs.Shown.{Shown, Follows}
@@ -11,7 +12,6 @@ use Rattle.cfa_output.specs.declared.items.End.TheVariants.{Yes, Locks, Failed, 
 use Rattle.cfa_output.specs.Lines.{moment_line, settled_line, id_text, conflict_line}
 use Rattle.cfa_conflict.specs.Analyses.{IsResource, presence, content, perms, running, enabled, restart, class, nothing}
 use Rattle.cfa_program.specs.Ends.{EndsWith}
-use Rattle.cfa_program.proofs.Told.{some_injective}
 
 -- ---- what was seen last
 
@@ -141,12 +141,8 @@ module _ (bytes : List ℕ) (ends : EndsWith (settled_line Yes) bytes) where
 
 -- ---- what was put before
 
-abbrev is_some : Option (List ℕ) → Type 0
-is_some None = ⊥
-is_some (Some x) = Unit {0}
-
 pub put_behind : (line bytes : List ℕ) (out out' : Shown (List ℕ)) → Follows (adds_bytes line) out out' → out'.told ≡ Some bytes → (before : List ℕ) × (bytes ≡ before ++ line)
 put_behind line bytes out out' put told = by out.told (sym (ap (λ (s : Shown (List ℕ)). s.told) put) ∙ told) where
   by : (o : Option (List ℕ)) → option_map (adds_bytes line) o ≡ Some bytes → (before : List ℕ) × (bytes ≡ before ++ line)
-  by None e = absurd (subst is_some (sym e) tt)
-  by (Some before) e = (before, sym (some_injective (before ++ line) bytes e))
+  by None e = absurd (none-some bytes e)
+  by (Some before) e = (before, sym (same_Some (before ++ line) bytes e))

@@ -16,15 +16,12 @@ use Rattle.cfa_conflict.specs.Analyses.{analysis_of}
 use Rattle.cfa_agent.specs.Actuations.{Mark}
 use Rattle.cfa_agent.specs.Ran.{start_of}
 use Rattle.cfa_agent.specs.Runs.{Start}
+use Rattle.cfa_agent.specs.lemmas.Options.{one_some}
 use Rattle.cfa_program.specs.Calls.{TakesPolicy, TakesRun, Task, runs, judges, shows, RefusesRequest, TakesRequest, TakenIsNotRefused, DoesOneThing, words_refused, moment_refused, request_refused, work_done, StrictRunDoes, Judges, DoesTask}
 use Rattle.cfa_program.specs.Done.{Done, refused_with}
 use Rattle.cfa_program.specs.Stages.{OneSetting}
 use Rattle.cfa_program.proofs.AuditLemmas.{audit_is_one, journal_line_is_one, journal_never_both}
 use Rattle.cfa_program.proofs.PrepareLemmas.{none_or_some}
-use Rattle.cfa_program.proofs.Told.{some_injective}
-
-one_request : {o : Option Request} {a b : Request} → o ≡ Some a → o ≡ Some b → a ≡ b
-one_request {o} {a} {b} first second = some_injective a b (sym first ∙ second)
 
 -- what is known of files, policies and journals
 pub record Laws : Type 0 where
@@ -151,12 +148,12 @@ module _ (laws : Laws) where
   one_thing words moment texts world marks _ _ (request_refused a _ _) (words_refused b) = absurd (none_or_some b a)
   one_thing words moment texts world marks _ _ (request_refused _ in_time _) (moment_refused _ late) = absurd (late_in_time moment late in_time)
   one_thing words moment texts world marks _ _ (request_refused {request = q} {line = k} a _ r) (request_refused {request = p} {line = l} b _ s) =
-      ap refused_with (line_is_one laws texts p k l (subst (λ (x : Request). RefusesRequest texts x k) (one_request a b) r) s)
+      ap refused_with (line_is_one laws texts p k l (subst (λ (x : Request). RefusesRequest texts x k) (one_some a b) r) s)
   one_thing words moment texts world marks _ _ (request_refused {request = q} {line = k} a _ r) (work_done {request = p} task b _ s d) =
-      absurd (never texts moment p task k s (subst (λ (x : Request). RefusesRequest texts x k) (one_request a b) r))
+      absurd (never texts moment p task k s (subst (λ (x : Request). RefusesRequest texts x k) (one_some a b) r))
   one_thing words moment texts world marks _ _ (work_done _ a _ _ _) (words_refused b) = absurd (none_or_some b a)
   one_thing words moment texts world marks _ _ (work_done _ _ in_time _ _) (moment_refused _ late) = absurd (late_in_time moment late in_time)
   one_thing words moment texts world marks _ _ (work_done {request = q} task a _ r d) (request_refused {request = p} {line = l} b _ s) =
-      absurd (never texts moment q task l r (subst (λ (x : Request). RefusesRequest texts x l) (one_request b a) s))
+      absurd (never texts moment q task l r (subst (λ (x : Request). RefusesRequest texts x l) (one_some b a) s))
   one_thing words moment texts world marks x y (work_done {request = q} t a _ r d) (work_done {request = p} u b _ s e) =
-      one_done laws texts moment p t u world marks x y (subst (λ (z : Request). TakesRequest texts moment z t) (one_request a b) r) s d e
+      one_done laws texts moment p t u world marks x y (subst (λ (z : Request). TakesRequest texts moment z t) (one_some a b) r) s d e

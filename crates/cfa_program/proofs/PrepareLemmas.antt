@@ -1,5 +1,6 @@
 -- What is known when a call has been read.
 use Rattle.std.proofs.Common.{◌≡◌, ◌<◌, ◌≤◌, ℕ, List, Some, None, Option, Result, Ok, Err, refl, sym, subst, ◌∙◌, arith}
+use Rattle.std.proofs.lemmas.Option.{none-some}
 use Rattle.cfa_base.specs.declared.limits.TheConstants.{LAST_MOMENT}
 use Rattle.cfa_base.specs.Shown.{Shown}
 use Rattle.cfa_words.specs.declared.words.Request.{Request}
@@ -16,12 +17,8 @@ use Rattle.cfa_program.specs.Ends.{RefusesCall, of_words, of_moment, of_request,
 use Rattle.cfa_program.specs.Stages.{IsRefusalWith, RequestPrepared, Prepared}
 use Rattle.cfa_agent.specs.lemmas.Options.{some_weaker}
 
-abbrev is_none : Option Request → Type 0
-is_none None = Unit {0}
-is_none (Some request) = ⊥
-
 pub none_or_some : {o : Option Request} {request : Request} → o ≡ None → o ≡ Some request → ⊥
-none_or_some none some = subst is_none (sym none ∙ some) tt
+none_or_some {o} {request} none some = none-some request (sym none ∙ some)
 
 module _ (words : List (List ℕ)) (moment : ℕ) (inputs : Shown Library) (pats : Shown (List (List ℕ))) where
   pub words_refused : (failure : Failure) → asked words ≡ None → IsRefusalWith words_line failure → Prepared words moment inputs inputs pats pats (Err failure)

@@ -25,10 +25,10 @@ use Rattle.cfa_program.specs.Done.{IsDone, HasFault, status_of}
 use Rattle.cfa_program.specs.Ends.{IsEnd, IsStop, AsksTaken, RefusesCall, of_words, of_moment, of_request, StopsReading, StopsAtSite, StopsAtPattern, stops_before, stops_in_run, StopsAtVisits, by_analysis, by_run, EndsWith, IsSettledBy, IsUnhindered, IsDoneOrMemory}
 use Rattle.cfa_program.specs.Stages.{setting_in, task_of, OneSetting, TellsVerdict, IsInConflict, RunPerformed, PolicyRan, not_made, made, Called, not_prepared, ended, stopped_at_work}
 use Rattle.cfa_program.proofs.CallLemmas as calls
-use Rattle.cfa_program.proofs.CallLemmas.{one_request, no_end, stop_is, taken_at}
+use Rattle.cfa_program.proofs.CallLemmas.{no_end, stop_is}
 use Rattle.cfa_program.proofs.EndLemmas.{put_behind, settled_by_line, moment_ends_otherwise, conflict_ends_otherwise}
 use Rattle.cfa_program.proofs.PrepareLemmas.{none_or_some}
-use Rattle.cfa_agent.specs.lemmas.Options.{some_weaker, each_some}
+use Rattle.cfa_agent.specs.lemmas.Options.{some_weaker, each_some, some_at, one_some}
 use Rattle.cfa_program.proofs.Told.{both, both_weaker, each_both}
 
 -- what is run is neither judged nor shown
@@ -43,9 +43,6 @@ run_not_shown texts moment (request.Run policy options) s text l m r j = j
 run_not_shown texts moment (request.Show policy) s text l m r j = r
 run_not_shown texts moment (request.Check policy classes) s text l m r j = r
 run_not_shown texts moment (request.Audit journal) s text l m r j = r
-
-at_library : (told : Option Library) (lib : Library) (P : Library → Type 0) → told ≡ Some lib → IfSome told P → P lib
-at_library told lib P is h = subst (λ (o : Option Library). IfSome o P) is h
 
 module _ (words : List (List ℕ)) (moment : ℕ) (inputs inputs' : Shown Library) (site site' : Shown Told) (out out' : Shown (List ℕ)) (pats pats' : Shown (List (List ℕ))) (status : ℕ) where
   abbrev CalledHere : Type 0
@@ -62,7 +59,7 @@ module _ (words : List (List ℕ)) (moment : ℕ) (inputs inputs' : Shown Librar
       moment_ends_otherwise bytes ends before.0 before.1
   refused_not_run never _ bytes lib setting (of_request {request = q} {line = line} asks in_time refuses) put told ends lib_told r =
       never lib.texts moment r.asks.request (runs setting r.has_locks r.is_strict) line r.asks.takes
-      (subst (λ (x : Request). RefusesRequest lib.texts x line) (one_request asks r.asks.asked_is) (at_library inputs.told lib (λ l. RefusesRequest l.texts q line) lib_told refuses))
+      (subst (λ (x : Request). RefusesRequest lib.texts x line) (one_some asks r.asks.asked_is) (some_at inputs.told lib (λ l. RefusesRequest l.texts q line) lib_told refuses))
 
   -- a run that was made
   made_settles : (setting : Setting) (locks : Bool) (end : End) (bytes : List ℕ) → RunPerformed setting moment locks site site' out out' pats pats' (Ok end) →
@@ -97,15 +94,15 @@ module _ (words : List (List ℕ)) (moment : ℕ) (inputs inputs' : Shown Librar
   settled never one meet (ended {work = Run order} by p performed is) end = each_some out'.told _ (λ bytes told ends. some_weaker inputs.told _ _ (λ lib lib_told taken.
       both_weaker _ _ site site' (λ before after settles setting r. subst (λ (x : Setting). Settles x after.world)
       (one lib.texts moment r.asks.request (setting_in order.policy) setting order.locks r.has_locks order.strict r.is_strict
-      (subst (λ (q : Request). TakesRequest lib.texts moment q (task_of (Run order))) (one_request p.work.asked_is r.asks.asked_is) taken) r.asks.takes)
+      (subst (λ (q : Request). TakesRequest lib.texts moment q (task_of (Run order))) (one_some p.work.asked_is r.asks.asked_is) taken) r.asks.takes)
       settles)
       (run_settles meet (setting_in order.policy) order.locks order.strict by bytes performed told ends)) p.work.is_work.taken)
   settled never one meet (ended {work = Judge policy} by p performed is) end = each_some out'.told _ (λ bytes told ends. some_weaker inputs.told _ _ (λ lib lib_told taken.
       each_both _ site site' (λ before after setting r. absurd (run_not_judged lib.texts moment r.asks.request setting (setting_in policy) r.has_locks r.is_strict r.asks.takes
-      (subst (λ (q : Request). TakesRequest lib.texts moment q (task_of (Judge policy))) (one_request p.work.asked_is r.asks.asked_is) taken)))) p.work.is_work.taken)
+      (subst (λ (q : Request). TakesRequest lib.texts moment q (task_of (Judge policy))) (one_some p.work.asked_is r.asks.asked_is) taken)))) p.work.is_work.taken)
   settled never one meet (ended {work = Show text} by p performed is) end = each_some out'.told _ (λ bytes told ends. some_weaker inputs.told _ _ (λ lib lib_told taken.
       each_both _ site site' (λ before after setting r. absurd (run_not_shown lib.texts moment r.asks.request setting text r.has_locks r.is_strict r.asks.takes
-      (subst (λ (q : Request). TakesRequest lib.texts moment q (task_of (Show text))) (one_request p.work.asked_is r.asks.asked_is) taken)))) p.work.is_work.taken)
+      (subst (λ (q : Request). TakesRequest lib.texts moment q (task_of (Show text))) (one_some p.work.asked_is r.asks.asked_is) taken)))) p.work.is_work.taken)
 
   -- ---- completeness
 
@@ -115,7 +112,7 @@ module _ (words : List (List ℕ)) (moment : ℕ) (inputs inputs' : Shown Librar
     not_refused _ (of_words none) = none_or_some none asks.1.1.asked_is
     not_refused _ (of_moment some late) = omega (arith, late, asks.0)
     not_refused _ (of_request {request = q} {line = line} some in_time refuses) = never lib.texts moment asks.1.1.request asks.1.0 line asks.1.1.takes
-        (subst (λ (x : Request). RefusesRequest lib.texts x line) (one_request some asks.1.1.asked_is) (at_library inputs.told lib (λ l. RefusesRequest l.texts q line) lib_told refuses))
+        (subst (λ (x : Request). RefusesRequest lib.texts x line) (one_some some asks.1.1.asked_is) (some_at inputs.told lib (λ l. RefusesRequest l.texts q line) lib_told refuses))
 
     not_outside : HasFault out out' ⊎ (StopsReading words inputs inputs' site site' out out' ⊎ StopsAtSite words site site' out') → ⊥
     not_outside (inl fault) = free.sink_stands fault
@@ -127,8 +124,8 @@ module _ (words : List (List ℕ)) (moment : ℕ) (inputs inputs' : Shown Librar
     no_pattern (stops_in_run inside put) = free.builder_stands inside.refused.rose
 
     not_too_many : StopsAtVisits words moment inputs.told site site' out out' pats pats' → ⊥
-    not_too_many (by_analysis obeys many un kept put) = free.analysis_ends (at_library inputs.told lib _ lib_told many)
-    not_too_many (by_run runs_it is_made many kept put) = free.run_ends (at_library inputs.told lib _ lib_told is_made) (at_library inputs.told lib _ lib_told many)
+    not_too_many (by_analysis obeys many un kept put) = free.analysis_ends (some_at inputs.told lib _ lib_told many)
+    not_too_many (by_run runs_it is_made many kept put) = free.run_ends (some_at inputs.told lib _ lib_told is_made) (some_at inputs.told lib _ lib_told many)
 
     done_or_memory : CalledHere → IsEnd status ⊎ IsStop status → IsDoneOrMemory status
     done_or_memory called (inl (inl none)) = inl none

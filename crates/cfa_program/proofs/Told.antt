@@ -1,19 +1,12 @@
 -- What holds of what an object of the outside tells.
-use Rattle.std.proofs.Common.{◌≡◌, ℕ, List, [], Some, None, Option, Result, Ok, Err, IsErrAnd, sym, ap, subst, ◌∙◌, append-nil, IfSome}
+use Rattle.std.proofs.Common.{◌≡◌, ℕ, List, Some, None, Option, sym, ap, subst, ◌∙◌, IfSome}
 use Rattle.cfa_base.specs.Causes.{Rose}
 use Rattle.cfa_base.specs.Shown.{Shown, followed, Follows, Untouched}
 use Rattle.cfa_outside.specs.Sinks.{adds_bytes}
-use Rattle.cfa_outside.specs.Sites.{Told, adds}
+use Rattle.cfa_outside.specs.Sites.{Told}
 use Rattle.cfa_agent.specs.Ran.{IfBothTold}
 use Rattle.cfa_agent.specs.lemmas.Options.{some_weaker, each_some}
 use Rattle.cfa_program.specs.Done.{HasFault}
-
-abbrev pick : {A : Type 0} → A → Option A → A
-pick other None = other
-pick other (Some x) = x
-
-pub some_injective : {A : Type 0} (a b : A) → Some a ≡ Some b → a ≡ b
-some_injective a b e = ap (pick a) e
 
 -- ---- before and after
 
@@ -40,17 +33,6 @@ both P Q R site site' f p q = by site.told p q where
 
 pub each_both : (H : Told → Told → Type 0) (site site' : Shown Told) → ((before after : Told) → H before after) → IfBothTold H site site'
 each_both H site site' f = each_some site.told _ (λ before _. each_some site'.told _ (λ after _. f before after))
-
--- to add no entry changes nothing
-pub adds_none : (t : Told) → t ≡ adds [] t
-adds_none t i = record { world = t.world; log = sym (append-nil t.log) i }
-
--- ---- failures
-
--- what holds of an error holds of a result that hands it on
-pub on_err : {T E : Type 0} (P : Result T E → Type 0) (result : Result T E) (error : E) → IsErrAnd result (λ e. e ≡ error) → P (Err error) → P result
-on_err P (Ok _) error same h = absurd same
-on_err {T} {E} P (Err e) error same h = subst (λ (f : E). P (Err f)) (sym same) h
 
 -- ---- what is put
 

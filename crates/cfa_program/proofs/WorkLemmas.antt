@@ -17,6 +17,7 @@ use Rattle.cfa_conflict.specs.Analyses.{analysis_of}
 use Rattle.cfa_agent.specs.Actuations.{Mark}
 use Rattle.cfa_agent.specs.Runs.{Start, run_of}
 use Rattle.cfa_agent.specs.Ran.{start_of, StopsRun, Refuses}
+use Rattle.cfa_agent.specs.lemmas.Hosts.{adds_none}
 use Rattle.cfa_program.specs.declared.ends.End.{End}
 use Rattle.cfa_program.specs.declared.ends.End.TheVariants.{Ended, PromiseFailed, InConflict}
 use Rattle.cfa_program.specs.declared.work.Work.{Work}
@@ -24,7 +25,6 @@ use Rattle.cfa_program.specs.declared.work.Work.TheVariants.{Run, Judge, Show}
 use Rattle.cfa_program.specs.Calls.{runs, judged, shown, verdict_line, RunDoes, StrictRunDoes, Judges, DoesTask, IsUnaccepted, IsCutOffBy, ObeysAnalysis}
 use Rattle.cfa_program.specs.Done.{Done, IsDone, IsPut, status_of}
 use Rattle.cfa_program.specs.Stages.{RunsPolicy, Obeys, TellsVerdict, StopsTelling, IsEndOfRun, MayRun, IsInConflict, not_made, made, Performed, TextPut, OnlyPut}
-use Rattle.cfa_program.proofs.Told.{adds_none}
 
 -- ---- ends
 
@@ -47,7 +47,7 @@ judges_told (Some verdict) end out out' told = refl
 pub judged_done : (verdict : Option Verdict) (t : Told) (out out' : Shown (List ℕ)) (end : End) (n : ℕ) → n ≡ status_of end → TellsVerdict verdict end out out' → IsDone (judged_by verdict) t t out out' n
 judged_done None t out out' end n is told = absurd told
 judged_done (Some verdict) t out out' end n is told = record {
-  logged = adds_none t;
+  logged = sym (adds_none t);
   put = told.1 ∙ ap (λ bs. followed (adds_bytes bs) out) (sym (append-nil (verdict_line verdict)));
   status_is = is ∙ ap status_of told.0;
 }
@@ -101,7 +101,7 @@ obeys_strict false setting locks is = absurd (false≢true is)
 
 pub text_done : (text : List ℕ) (t : Told) (out out' : Shown (List ℕ)) (end : End) (n : ℕ) → n ≡ status_of end → TextPut text out out' (Ok end) → IsDone (shown text) t t out out' n
 text_done text t out out' end n is put = record {
-  logged = adds_none t;
+  logged = sym (adds_none t);
   put = put.put.1 ∙ ap (λ bs. followed (adds_bytes bs) out) (sym (append-nil text));
   status_is = is ∙ ap status_of put.put.0;
 }

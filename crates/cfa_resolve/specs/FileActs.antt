@@ -29,6 +29,7 @@ use Rattle.cfa_edits.specs.declared.edits.EditErr.TheVariants.{NoAnchor, FieldCo
 use Rattle.cfa_edits.specs.Edits.{Lines, edited}
 use Rattle.cfa_scripts.specs.declared.scripting.Scripted.{Scripted}
 use Rattle.cfa_scripts.specs.declared.scripting.Scripted.TheVariants.{Script as a_script, Unresolved as no_script, TooMany as script_many, TooLong as script_long, BadPattern as bad_pattern, BadValue as bad_value}
+use Rattle.cfa_scripts.specs.EditPromises.{is_right}
 use Rattle.cfa_bodies.specs.declared.sayings.Said.{Said}
 use Rattle.cfa_bodies.specs.Bodies.{Sayings, Bodies, said_in, text_in, items_in, whole_or_empty, text_or_empty}
 
@@ -91,13 +92,9 @@ abbrev pub copy_from : (path : List ℕ) → (source : Option (List ℕ)) → Ac
 copy_from path None = Bust BadPath
 copy_from path (Some source) = Copy source path
 
-abbrev pub is_wrong_digest : Option Said → Bool
-is_wrong_digest None = false
-is_wrong_digest (Some said) = not (has_form Digest (text_in said))
-
 abbrev pub copy_act : (path : List ℕ) → (is_directory : Bool) → Sayings → Act
 copy_act path is_directory sayings =
-    if is_wrong_digest (thing_at sayings (codes "compare")) then Bust BadValue else (
+    if not (is_right Digest (thing_at sayings (codes "compare"))) then Bust BadValue else (
     if is_directory then Bust BadPath else copy_from path (path_of (text_or_empty (thing_at sayings (codes "source")))))
 
 abbrev pub copy_acts : (path : List ℕ) → (is_directory : Bool) → Option Sayings → List Act
@@ -149,14 +146,10 @@ abbrev pub emptied_by : (backup_is_right : Bool) → Option Said → Option Bool
 emptied_by false emptied = None
 emptied_by true emptied = or_false emptied
 
-abbrev pub is_right_backup : Option Said → Bool
-is_right_backup None = true
-is_right_backup (Some said) = has_form NoBackup (text_in said)
-
 abbrev pub is_emptied : Option Sayings → Option Bool
 is_emptied None = Some false
 is_emptied (Some sayings) =
-    emptied_by (is_right_backup (thing_at sayings (codes "edit_backup"))) (thing_at sayings (codes "empty_file_before_editing"))
+    emptied_by (is_right NoBackup (thing_at sayings (codes "edit_backup"))) (thing_at sayings (codes "empty_file_before_editing"))
 
 abbrev pub content_within : (path content : List ℕ) → Act
 content_within path content = if nat_le (length content) MOST_FILE_BYTES then Content path content else Bust TooLong

@@ -15,10 +15,10 @@ use crate::making::{bust_instance, handed_instance, made_instance};
 use crate::reached::Reached;
 use crate::{Instance, ResolveErr};
 use cfa_acts::Reason;
-use cfa_base::{Name, Names, NoMemory, Patterns};
+use cfa_base::{Name, Names, NoMemory, Parts, Patterns};
 use cfa_bodies::{Bodies, Heard, bodies_of, hear};
 use cfa_kinds::PromiseType;
-use cfa_scripts::{Caller, ScriptErr, Scripted, UnsettledList, Walked, walk_bundle};
+use cfa_scripts::{Caller, ScriptErr, Scripted, Unsettled, Walked, walk_bundle};
 use cfa_tree::Value;
 use cfa_values::value_named;
 use cfa_vars::Choice;
@@ -188,7 +188,7 @@ fn add_made(instances: &mut Vec<Instance>, names: &mut Names, made: Made) -> Res
 pub(crate) struct AllMade {
     pub instances: Vec<Instance>,
     pub names: Names,
-    pub unsettled: UnsettledList,
+    pub unsettled: Parts<Unsettled>,
     /// How many visits the edit bundle counted.
     pub visits: u64,
 }
@@ -265,7 +265,7 @@ pub(crate) fn make_all<P: Patterns>(
     let mut all = AllMade {
         instances: room_for_one(alloc)?,
         names: Names::new(alloc),
-        unsettled: UnsettledList::from_vec(Vec::new(alloc)),
+        unsettled: Parts::from_vec(Vec::new(alloc)),
         visits: 0,
     };
     for choice in choices {

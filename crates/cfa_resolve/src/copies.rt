@@ -1,8 +1,8 @@
 // Copies of instances, of ids and of what variables hold.
 ghost use Rattle.std.specs.Prelude.{◌≡◌, IfOk};
 
-use crate::{Data, Instance, Work};
-use cfa_base::{NoMemory, PromiseId};
+use crate::{Instance, Work};
+use cfa_base::{NoMemory, Parts, PromiseId};
 use cfa_vars::Datum;
 use std::alloc::Global;
 
@@ -27,18 +27,15 @@ pub fn copy_datum(alloc: Global, datum: &Datum) -> Result<Datum, NoMemory>
     }
 }
 
-impl Data {
-    /// A copy of the data.
-    pub fn copy(&self, alloc: Global) -> Result<Data, NoMemory>
-        ensures { IfOk result (λ copy. copy ≡ self.now) }
-    {
-        let mut items = Vec::new(alloc);
-        let data = self.as_slice();
-        for datum in data {
-            items.push(copy_datum(alloc, datum)?)?;
-        }
-        Ok(Data::from_vec(items))
+// A copy of the arguments of a call.
+fn copy_data(alloc: Global, given: &[Datum]) -> Result<Parts<Datum>, NoMemory>
+    ensures { IfOk result (λ copy. copy ≡ given.now) }
+{
+    let mut items = Vec::new(alloc);
+    for datum in given {
+        items.push(copy_datum(alloc, datum)?)?;
     }
+    Ok(Parts::from_vec(items))
 }
 
 impl Work {
@@ -48,7 +45,9 @@ impl Work {
     {
         match self {
             Work::Acts(acts) => Ok(Work::Acts(acts.share()?)),
-            Work::Call(name, given) => Ok(Work::Call(name.copy(alloc)?, given.copy(alloc)?)),
+            Work::Call(name, given) => {
+                Ok(Work::Call(name.copy(alloc)?, copy_data(alloc, given.as_slice())?))
+            },
             Work::Report(content) => Ok(Work::Report(content.copy(alloc)?)),
         }
     }

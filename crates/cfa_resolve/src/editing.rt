@@ -3,26 +3,17 @@ ghost use Rattle.std.specs.Prelude.{◌≡◌, [], All, IfOk, option_copied};
 ghost use Rattle.std.specs.List.{cons_option};
 ghost use Rattle.cfa_acts.specs.Acts.{IsAct};
 ghost use Rattle.cfa_edits.specs.Edits.{edited};
-ghost use Rattle.cfa_resolve.specs.FileActs.{is_right_backup, is_emptied, content_within, content_made, script_act, edit_act, edit_acts};
+ghost use Rattle.cfa_resolve.specs.FileActs.{is_emptied, content_within, content_made, script_act, edit_act, edit_acts};
 
 use crate::files::or_false;
 use cfa_acts::{Act, Reason};
 use cfa_base::{Bytes, MOST_FILE_BYTES, Name, Names, NoMemory};
-use cfa_bodies::{Said, Sayings, text_in};
+use cfa_bodies::Sayings;
 use cfa_edits::{EditErr, Script, join_lines};
-use cfa_kinds::{Form, has_form};
+use cfa_kinds::Form;
 use cfa_outside::Path;
-use cfa_scripts::Scripted;
+use cfa_scripts::{Scripted, is_right};
 use std::alloc::Global;
-
-fn is_right_backup(said: Option<&Said>) -> bool
-    ensures { result ≡ is_right_backup (option_copied said.entry) }
-{
-    match said {
-        None => true,
-        Some(said) => has_form(Form::NoBackup, text_in(said)),
-    }
-}
 
 // Whether the file is emptied before it is edited; none where a value is wrong.
 fn is_emptied(defaults: Option<&Sayings>) -> Option<bool>
@@ -31,7 +22,7 @@ fn is_emptied(defaults: Option<&Sayings>) -> Option<bool>
     match defaults {
         None => Some(false),
         Some(sayings) => {
-            if is_right_backup(sayings.get("edit_backup")) {
+            if is_right(Form::NoBackup, sayings.get("edit_backup")) {
                 or_false(sayings.get("empty_file_before_editing"))
             } else {
                 None

@@ -4,7 +4,7 @@ ghost use Rattle.std.specs.List.{cons_option};
 ghost use Rattle.cfa_acts.specs.Acts.{IsAct};
 ghost use Rattle.cfa_outside.specs.Paths.{path_of};
 ghost use Rattle.cfa_resolve.specs.Lengths.{IsShort};
-ghost use Rattle.cfa_resolve.specs.FileActs.{delete_by, or_false, delete_acts, create_by, create_acts, is_wrong_digest, copy_from, copy_act, copy_acts, content_acts, is_directory_form, path_part, placing_acts, acts_at, file_acts};
+ghost use Rattle.cfa_resolve.specs.FileActs.{delete_by, or_false, delete_acts, create_by, create_acts, copy_from, copy_act, copy_acts, content_acts, is_directory_form, path_part, placing_acts, acts_at, file_acts};
 
 use crate::editing::edit_act;
 use crate::permissions::perms_act;
@@ -12,9 +12,9 @@ use crate::values::truth;
 use cfa_acts::{Act, Reason};
 use cfa_base::{Bytes, Name, NoMemory};
 use cfa_bodies::{Bodies, Said, Sayings, text_in, text_or_empty};
-use cfa_kinds::{Form, has_form};
+use cfa_kinds::Form;
 use cfa_outside::{Path, PathErr};
-use cfa_scripts::Scripted;
+use cfa_scripts::{Scripted, is_right};
 use std::alloc::Global;
 
 fn delete_by(path: Path, with_directories: Option<bool>) -> Act
@@ -80,15 +80,6 @@ fn create_act(
     }
 }
 
-fn is_wrong_digest(said: Option<&Said>) -> bool
-    ensures { result ≡ is_wrong_digest (option_copied said.entry) }
-{
-    match said {
-        None => false,
-        Some(said) => !has_form(Form::Digest, text_in(said)),
-    }
-}
-
 /// The path that a text names, if it names one.
 fn read_path(alloc: Global, text: &str) -> Result<Option<Path>, NoMemory>
     ensures { IfOk result (λ path. path ≡ path_of text.now) }
@@ -119,7 +110,7 @@ fn copy_by(
     ensures value { IfOk result (λ act. act ≡ copy_act path.now is_directory sayings.now) }
     ensures fact { IfOk result (λ act. IsAct act) }
 {
-    if is_wrong_digest(sayings.get("compare")) {
+    if !is_right(Form::Digest, sayings.get("compare")) {
         return Ok(Act::Bust(Reason::BadValue));
     }
     if is_directory {

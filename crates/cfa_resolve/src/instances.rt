@@ -5,10 +5,10 @@ ghost use Rattle.cfa_resolve.specs.declared.instances.ResolveErr.TheVariants.{No
 
 use cfa_acts::Act;
 use cfa_base as base;
-use cfa_base::{Name, Names, PromiseId};
+use cfa_base::{Name, Names, Parts, PromiseId};
 use cfa_classes::Statuses;
 use cfa_kinds::PromiseType;
-use cfa_scripts::{ScriptErr, UnsettledList};
+use cfa_scripts::{ScriptErr, Unsettled};
 use cfa_tree::Promise;
 use cfa_vars::{Datum, Scopes};
 use std::alloc::Global;
@@ -63,44 +63,13 @@ impl Acts {
     }
 }
 
-/// What the arguments of a call hold, in their order.
-#[derive(Drop)]
-pub struct Data {
-    items: Vec<Datum>,
-}
-
-impl Model for Data {
-    ghost use Rattle.std.specs.Prelude.{List};
-    ghost use Rattle.cfa_vars.specs.declared.scoping.Datum.{Datum};
-
-    ghost Value = { List Datum };
-
-    ghost view = { λ d. d.items.items };
-}
-
-impl Data {
-    /// The data of a `Vec`, without taking memory.
-    pub fn from_vec(items: Vec<Datum>) -> Data
-        ensures { result ≡ items.items }
-    {
-        Data { items }
-    }
-
-    /// The data, without taking memory.
-    pub fn as_slice(&self) -> &[Datum]
-        ensures { result.now ≡ self.now }
-    {
-        self.items.as_slice()
-    }
-}
-
 /// What an instance asks for.
 #[derive(Drop)]
 pub enum Work {
     /// Acts on the host, one after the other.
     Acts(Acts),
     /// An activation of a bundle with arguments.
-    Call(Name, Data),
+    Call(Name, Parts<Datum>),
     /// A line that is put.
     Report(Name),
 }
@@ -125,52 +94,14 @@ pub struct Instance {
     pub text: Name,
 }
 
-/// Instances, in the order of their combinations.
-#[derive(Drop)]
-pub struct Instances {
-    items: Vec<Instance>,
-}
-
-impl Model for Instances {
-    ghost use Rattle.std.specs.Prelude.{List};
-    ghost use Rattle.cfa_resolve.specs.declared.instances.Instance.{Instance};
-
-    ghost Value = { List Instance };
-
-    ghost view = { λ i. i.items.items };
-}
-
-impl Instances {
-    /// The instances of a `Vec`, without taking memory.
-    pub fn from_vec(items: Vec<Instance>) -> Instances
-        ensures { result ≡ items.items }
-    {
-        Instances { items }
-    }
-
-    /// The instances, without taking memory.
-    pub fn as_slice(&self) -> &[Instance]
-        ensures { result.now ≡ self.now }
-    {
-        self.items.as_slice()
-    }
-
-    /// The instances as a `Vec`, without taking memory.
-    pub fn into_vec(self) -> Vec<Instance>
-        ensures { result.items ≡ self }
-    {
-        self.items
-    }
-}
-
 /// What a promise resolves to.
 #[derive(Drop)]
 pub struct Resolved {
-    pub instances: Instances,
+    pub instances: Parts<Instance>,
     /// The names that kept something from being made, once each, in the order in which they are met.
     pub unresolved: Names,
     /// The promises of its edit bundle whose guards may hold or not, in the order in which they are reached.
-    pub unsettled: UnsettledList,
+    pub unsettled: Parts<Unsettled>,
     /// How many visits the promise counts, those of the promises of its edit bundle included.
     pub visits: u64,
 }

@@ -17,9 +17,9 @@ use crate::keys::key_text;
 use crate::reached::Reached;
 use crate::services::service_act;
 use crate::values::{minutes_written, own_text, short_minutes};
-use crate::{Acts, Data, Instance, Work};
+use crate::{Acts, Instance, Work};
 use cfa_acts::{Act, Reason};
-use cfa_base::{Name, Names, NoMemory, PromiseId};
+use cfa_base::{Name, Names, NoMemory, Parts, PromiseId};
 use cfa_bodies::{Bodies, Said, data_given, empty_text, name_given, text_in};
 use cfa_defines::arguments_of;
 use cfa_kinds::PromiseType;
@@ -114,7 +114,7 @@ fn call_of(
 {
     let name = Name::from_text(alloc, name_given(value))?;
     let arguments = data_given(alloc, arguments_of(value), &reached.scopes, choice)?;
-    Ok(Work::Call(name, Data::from_vec(arguments)))
+    Ok(Work::Call(name, Parts::from_vec(arguments)))
 }
 
 // The bundle that a methods promise calls.
@@ -127,7 +127,7 @@ fn call_work(
         (value_of (codes "usebundle") (plain_promise reached.now.promise.now).attributes)) }
 {
     match value_named(reached.promise.attributes.as_slice(), "usebundle") {
-        None => Ok(Work::Call(empty_text(alloc), Data::from_vec(Vec::new(alloc)))),
+        None => Ok(Work::Call(empty_text(alloc), Parts::from_vec(Vec::new(alloc)))),
         Some(value) => call_of(alloc, reached, value, choice),
     }
 }

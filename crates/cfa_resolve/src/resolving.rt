@@ -15,13 +15,13 @@ ghost use Rattle.cfa_resolve.specs.Viewed.{reached_in, too_big_in, IsBuiltAt};
 use crate::combinations::make_all;
 use crate::making::bust_instance;
 use crate::reached::Reached;
-use crate::{FoundPromise, Instances, ResolveErr, Resolved, View};
+use crate::{FoundPromise, ResolveErr, Resolved, View};
 use cfa_acts::Reason;
-use cfa_base::{Name, Names, NoMemory, Patterns, PromiseId};
+use cfa_base::{Name, Names, NoMemory, Parts, Patterns, PromiseId};
 use cfa_defines::{Combined, combine, own_reads};
 use cfa_kinds::PromiseType;
 use cfa_schema::Checked;
-use cfa_scripts::{UnsettledList, count_combined};
+use cfa_scripts::count_combined;
 use cfa_vars::Choice;
 use std::alloc::Global;
 
@@ -42,9 +42,9 @@ fn one_instance(
     let mut instances = Vec::new(alloc);
     instances.push(bust_instance(alloc, reached, reason)?)?;
     Ok(Resolved {
-        instances: Instances::from_vec(instances),
+        instances: Parts::from_vec(instances),
         unresolved: Names::new(alloc),
-        unsettled: UnsettledList::from_vec(Vec::new(alloc)),
+        unsettled: Parts::from_vec(Vec::new(alloc)),
         visits,
     })
 }
@@ -60,9 +60,9 @@ fn one_name(alloc: Global, name: Name) -> Result<Resolved, NoMemory>
     let mut unresolved = Names::new(alloc);
     unresolved.push(name)?;
     Ok(Resolved {
-        instances: Instances::from_vec(Vec::new(alloc)),
+        instances: Parts::from_vec(Vec::new(alloc)),
         unresolved,
-        unsettled: UnsettledList::from_vec(Vec::new(alloc)),
+        unsettled: Parts::from_vec(Vec::new(alloc)),
         visits: 1,
     })
 }
@@ -90,7 +90,7 @@ fn resolved_choices<P: Patterns>(
     };
     let all = make_all(alloc, reached, choices, left - own, pats)?;
     Ok(Resolved {
-        instances: Instances::from_vec(all.instances),
+        instances: Parts::from_vec(all.instances),
         unresolved: all.names,
         unsettled: all.unsettled,
         visits: own + all.visits,

@@ -8,17 +8,17 @@ ghost use Rattle.cfa_scripts.specs.declared.scripting.Scripted.TheVariants.{Scri
 ghost use Rattle.cfa_scripts.specs.Callers.{seen_caller};
 ghost use Rattle.cfa_scripts.specs.Refusals.{too_big_in};
 
-use crate::blaming::UnsettledList;
+use crate::blaming::Unsettled;
 use crate::errors::ScriptErr;
 use crate::numbering::promises_in_order;
 use crate::reaching::walk_promises;
 use crate::scripting::{Scripted, conclude};
 use crate::walking::{Around, Walk};
-use cfa_base::{Name, NoMemory, Patterns};
+use cfa_base::{Name, NoMemory, Parts, Patterns};
 use cfa_bodies::{bind, name_given};
 use cfa_classes::Statuses;
 use cfa_defines::arguments_of;
-use cfa_edits::{Edits, Script};
+use cfa_edits::Script;
 use cfa_schema::Checked;
 use cfa_tree::{Block, Bundle, Value};
 use cfa_vars::Scopes;
@@ -39,7 +39,7 @@ pub struct Walked {
     /// How many visits its promises count.
     pub visits: u64,
     /// Its promises whose guards may hold or not, in the order in which they are reached.
-    pub unsettled: UnsettledList,
+    pub unsettled: Parts<Unsettled>,
     pub scripted: Scripted,
 }
 
@@ -109,10 +109,10 @@ fn walked_in<P: Patterns>(
 fn nothing_walked(alloc: Global) -> Result<Walked, NoMemory>
     ensures { IfOk result (λ w. w ≡ record { visits = 0; unsettled = []; scripted = a_script [] }) }
 {
-    let none = Edits::from_vec(Vec::new(alloc));
+    let none = Parts::from_vec(Vec::new(alloc));
     Ok(Walked {
         visits: 0,
-        unsettled: UnsettledList::from_vec(Vec::new(alloc)),
+        unsettled: Parts::from_vec(Vec::new(alloc)),
         scripted: Scripted::Script(Script::new(alloc, none)?),
     })
 }

@@ -11,9 +11,9 @@ ghost use Rattle.cfa_scripts.specs.EditPromises.{whole_text, edits_by, count_com
 ghost use Rattle.cfa_scripts.specs.ScriptBuilds.{BuiltFor};
 ghost use Rattle.cfa_scripts.specs.Walking.{built_in, contribution_of, built_among};
 
-use crate::contributing::{Contribution, Contributions};
+use crate::contributing::Contribution;
 use crate::editing::edit_for;
-use cfa_base::{Name, NoMemory, Patterns};
+use cfa_base::{Name, NoMemory, Parts, Patterns};
 use cfa_bodies::{Heard, bodies_of, empty_text, hear};
 use cfa_defines::{Combined, combine, own_reads};
 use cfa_functions::CallErr;
@@ -81,12 +81,12 @@ fn contributions_for<P: Patterns>(
     editor: &Editor<'_>,
     choices: &[Choice],
     pats: &mut P,
-) -> Result<Contributions, CallErr>
+) -> Result<Parts<Contribution>, CallErr>
     ensures value { IfOk result (λ c. c ≡ map (contribution_of editor.now) choices.now) }
     ensures sizes { SizeRefusal (built_among editor.now choices.now) (refused_in result)
         (P.shown pats.old) (P.shown pats.new) }
 {
-    let mut contributions = Contributions::from_vec(Vec::new(alloc));
+    let mut contributions = Parts::from_vec(Vec::new(alloc));
     for choice in choices {
         let contribution = contribution(alloc, editor, choice.as_slice(), pats)?;
         contributions.push(contribution)?;
@@ -94,10 +94,13 @@ fn contributions_for<P: Patterns>(
     Ok(contributions)
 }
 
-fn one_contribution(alloc: Global, contribution: Contribution) -> Result<Contributions, NoMemory>
+fn one_contribution(
+    alloc: Global,
+    contribution: Contribution,
+) -> Result<Parts<Contribution>, NoMemory>
     ensures { IfOk result (λ c. c ≡ contribution ∷ []) }
 {
-    let mut contributions = Contributions::from_vec(Vec::new(alloc));
+    let mut contributions = Parts::from_vec(Vec::new(alloc));
     contributions.push(contribution)?;
     Ok(contributions)
 }
@@ -108,7 +111,7 @@ pub(crate) fn edits_by<P: Patterns>(
     editor: &Editor<'_>,
     combined: Combined,
     pats: &mut P,
-) -> Result<Contributions, CallErr>
+) -> Result<Parts<Contribution>, CallErr>
     ensures value { IfOk result (λ c. c ≡ edits_by (tree_of editor.now.checked.now)
         (in_scope editor.now.scopes) editor.now.promise_type
         (plain_promise editor.now.promise.now) combined) }

@@ -19,7 +19,8 @@ use cfa_functions::CallErr;
 use cfa_kinds::{Form, PromiseType, has_form};
 use std::alloc::{AllocError, Global};
 
-fn is_right(form: Form, said: Option<&Said>) -> bool
+/// Whether what is said, if anything, has a form.
+pub fn is_right(form: Form, said: Option<&Said>) -> bool
     ensures { result ≡ is_right form (option_copied said.entry) }
 {
     match said {

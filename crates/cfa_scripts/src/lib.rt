@@ -1,7 +1,6 @@
 //! Edit bundles: the walk of one for a combination of the promise that calls it, and the script that comes of it.
 #![tactic(auto)]
 
-mod appending;
 mod blaming;
 mod calling;
 mod contributing;
@@ -14,8 +13,9 @@ mod reaching;
 mod scripting;
 mod walking;
 
-pub use blaming::{Unsettled, UnsettledList};
+pub use blaming::Unsettled;
 pub use calling::{Caller, Walked, walk_bundle};
 pub use edit_making::count_combined;
+pub use editing::is_right;
 pub use errors::ScriptErr;
 pub use scripting::Scripted;

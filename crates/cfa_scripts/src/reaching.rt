@@ -11,8 +11,8 @@ ghost use Rattle.cfa_scripts.specs.ScriptBuilds.{BuiltFor, BuiltForEdits, BuiltB
 ghost use Rattle.cfa_scripts.specs.Walking.{seen_around, seen_numbered};
 ghost use Rattle.cfa_scripts.specs.Refusals.{too_big_in};
 
-use crate::blaming::{Unsettled, UnsettledList};
-use crate::contributing::Contributions;
+use crate::blaming::Unsettled;
+use crate::contributing::Contribution;
 use crate::edit_making::{Editor, combine_edits, count_combined, edits_by};
 use crate::errors::ScriptErr;
 use crate::numbering::Numbered;
@@ -21,7 +21,7 @@ use crate::raising::{
     values_at,
 };
 use crate::walking::{Around, Inside, Walk};
-use cfa_base::{NoMemory, Patterns};
+use cfa_base::{NoMemory, Parts, Patterns};
 use cfa_classes::Status;
 use cfa_defines::{Combined, count_choices};
 use cfa_functions::CallErr;
@@ -43,7 +43,7 @@ fn count(walk: &mut Walk, visits: u64, left: u64) -> Result<(), ScriptErr>
     Ok(())
 }
 
-fn add_unsettled(list: &mut UnsettledList, unsettled: Option<Unsettled>) -> Result<(), NoMemory>
+fn add_unsettled(list: &mut Parts<Unsettled>, unsettled: Option<Unsettled>) -> Result<(), NoMemory>
     ensures { OnOk result (list.new ≡ list.old ++ cons_option unsettled []) }
 {
     match unsettled {
@@ -144,7 +144,7 @@ fn edits_at<P: Patterns>(
     promise: &Numbered<'_>,
     combined: Combined,
     pats: &mut P,
-) -> Result<Contributions, CallErr>
+) -> Result<Parts<Contribution>, CallErr>
     ensures value { IfOk result (λ c. c ≡ edits_by (seen_around around.now).policy
         (scopes_at (seen_around around.now) inside.now) (seen_numbered promise.now).type
         (seen_numbered promise.now).promise combined) }

@@ -4,9 +4,9 @@ ghost use Rattle.std.specs.List.{cons_option, filter_map};
 ghost use Rattle.cfa_edits.specs.Scripts.{AreEdits};
 ghost use Rattle.cfa_scripts.specs.EditScripts.{edit_in, edits_among, unresolved_or, first_unresolved, first_handed, first_bad, concluded};
 
-use crate::contributing::{Contribution, Contributions};
-use cfa_base::{Name, NoMemory};
-use cfa_edits::{Edit, Edits, Script};
+use crate::contributing::Contribution;
+use cfa_base::{Name, NoMemory, Parts};
+use cfa_edits::{Edit, Script};
 use std::alloc::Global;
 
 /// What the edits of a bundle come to.
@@ -107,7 +107,10 @@ fn copy_name(alloc: Global, name: &Option<Name>) -> Result<Option<Name>, NoMemor
 /// What contributions come to: one that is unresolved goes before all, then the first that is too many or too long, and then
 /// the first that can't be made.
 #[tactic(auto, unfolding(crate::specs::EditScripts::concluded))]
-pub(crate) fn conclude(alloc: Global, contributions: Contributions) -> Result<Scripted, NoMemory>
+pub(crate) fn conclude(
+    alloc: Global,
+    contributions: Parts<Contribution>,
+) -> Result<Scripted, NoMemory>
     requires { AreEdits (edits_among contributions) }
     ensures { IfOk result (λ s. s ≡ concluded contributions) }
 {
@@ -121,5 +124,5 @@ pub(crate) fn conclude(alloc: Global, contributions: Contributions) -> Result<Sc
         return Ok(bad);
     }
     let edits = edits_among(alloc, contributions.into_vec())?;
-    Ok(Scripted::Script(Script::new(alloc, Edits::from_vec(edits))?))
+    Ok(Scripted::Script(Script::new(alloc, Parts::from_vec(edits))?))
 }

@@ -2,9 +2,9 @@
 ghost use Rattle.std.specs.Prelude.{◌≡◌};
 ghost use Rattle.cfa_scripts.specs.EditBundles.{walk_at_first};
 
-use crate::blaming::UnsettledList;
-use crate::contributing::Contributions;
-use cfa_base::{Name, TextMap};
+use crate::blaming::Unsettled;
+use crate::contributing::Contribution;
+use cfa_base::{Name, Parts, TextMap};
 use cfa_classes::Statuses;
 use cfa_schema::Checked;
 use cfa_vars::{Scope, Scopes};
@@ -24,8 +24,8 @@ pub(crate) struct Walk {
     pub inside: Inside,
     /// How many visits were counted.
     pub visits: u64,
-    pub unsettled: UnsettledList,
-    pub edits: Contributions,
+    pub unsettled: Parts<Unsettled>,
+    pub edits: Parts<Contribution>,
 }
 
 /// What an edit bundle is walked in.
@@ -49,8 +49,8 @@ impl Walk {
                 origins: TextMap::new(alloc),
             },
             visits: 0,
-            unsettled: UnsettledList::from_vec(Vec::new(alloc)),
-            edits: Contributions::from_vec(Vec::new(alloc)),
+            unsettled: Parts::from_vec(Vec::new(alloc)),
+            edits: Parts::from_vec(Vec::new(alloc)),
         }
     }
 }

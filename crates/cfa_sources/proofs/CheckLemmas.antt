@@ -4,6 +4,7 @@ use Rattle.std.specs.List.{flat_map}
 use Rattle.std.proofs.lemmas.List.{length-take}
 use Rattle.std.specs.declared.alloc.Global.{Global}
 use Rattle.std.specs.declared.vec.Vec.{Vec}
+use Rattle.std.proofs.lemmas.Option.{IfSome_then}
 use Rattle.cfa_base.specs.declared.limits.TheConstants.{MOST_INPUTS}
 use Rattle.cfa_base.specs.Shown.{Shown}
 use Rattle.cfa_outside.specs.Inputs.{Library}
@@ -23,7 +24,7 @@ use Rattle.cfa_sources.specs.Sources.{Texts, ReadsFile, RefusesFile, ReadsFiles,
 use Rattle.cfa_sources.specs.Checks.{RefusesTree, of_file, of_tree}
 use Rattle.cfa_sources.specs.Readings.{TreeRead, PolicyRead}
 use Rattle.cfa_sources.specs.Steps.{AreOfInputs, RefusesInput, IsNextInput, PartsRead, InputsRead, TreeChecked}
-use Rattle.cfa_sources.proofs.TextLemmas.{left, some_weaker}
+use Rattle.cfa_sources.proofs.TextLemmas.{left}
 use Rattle.cfa_sources.proofs.InputLemmas.{both_some}
 
 joined_flat : (parts : List Policy) → joined (map plain_policy parts) ≡ flat_map plain_policy parts
@@ -56,7 +57,7 @@ pub main_failed : (policy : List ℕ) (start after : Shown Library) (pats : Show
 main_failed policy start after pats (Refused line) here = record {
   valid = tt;
   checked = tt;
-  refused = some_weaker start.told _ _ (λ (lib : Library) (r : RefusesFile lib.texts 0 policy line). of_file main_file r) here.refused;
+  refused = IfSome_then start.told here.refused (λ (lib : Library) (r : RefusesFile lib.texts 0 policy line). of_file main_file r);
   inputs_are = here.inputs_are;
   patterns_are = refl;
 }
@@ -66,7 +67,7 @@ main_failed policy start after pats (Stopped (Outside Inputs)) here = record {
   refused = tt;
   inputs_are = record {
     name = here.inputs_are.name;
-    next = some_weaker start.told _ _ (λ (lib : Library) (e : here.inputs_are.name ≡ policy). (0, subst (λ (n : List ℕ). IsNext lib.texts policy 0 n) (sym e) main_file)) here.inputs_are.next;
+    next = IfSome_then start.told here.inputs_are.next (λ (lib : Library) (e : here.inputs_are.name ≡ policy). (0, subst (λ (n : List ℕ). IsNext lib.texts policy 0 n) (sym e) main_file));
     failed = here.inputs_are.failed;
   };
   patterns_are = refl;

@@ -1,5 +1,6 @@
 -- A file, by what its lexing and parsing answer.
 use Rattle.std.proofs.Common.{◌≡◌, ℕ, ◌<◌, List, length, Result, Ok, Err, Option, Some, None, refl, sym, ap, subst, ◌∙◌, ◌↔◌, arith, IsErrOf, IsErrAnd, IfSome}
+use Rattle.std.proofs.lemmas.Option.{IfSome_then}
 use Rattle.cfa_base.specs.declared.places.Place.{Place}
 use Rattle.cfa_base.specs.Shown.{Shown, IsLeft}
 use Rattle.cfa_base.specs.Tokens.{Token}
@@ -79,10 +80,6 @@ parse_refused file name source line tokens end error text lexes at why told = re
 
 -- ---- a file
 
-pub some_weaker : {A : Type 0} (o : Option A) (P Q : A → Type 0) → ((x : A) → P x → Q x) → IfSome o P → IfSome o Q
-some_weaker None P Q f h = tt
-some_weaker (Some x) P Q f h = f x h
-
 -- what is untouched is left
 pub left : {T : Type 0} (before after : Shown T) → after ≡ before → IsLeft before after
 left {T} before after same = record {
@@ -98,7 +95,7 @@ pub file_read : (file : ℕ) (name source seen : List ℕ) (before after : Shown
     → SourceRead name before after (Ok source) → TextRead file name seen result → TreeRead file name before after result
 file_read file name source seen before after (Ok tree) same found read = record {
   is_read = read_of file seen (plain_policy tree) read.tree;
-  tree = some_weaker before.told _ _ (λ (lib : Library) (is : source_of lib.texts name ≡ Some source). record { source = seen; found = is ∙ ap Some (sym same); reads = read.tree }) found.source;
+  tree = IfSome_then before.told found.source (λ (lib : Library) (is : source_of lib.texts name ≡ Some source). record { source = seen; found = is ∙ ap Some (sym same); reads = read.tree });
   refused = tt;
   inputs_are = found.inputs_are;
   no_pattern = refl;
@@ -106,7 +103,7 @@ file_read file name source seen before after (Ok tree) same found read = record 
 file_read file name source seen before after (Err (Refused line)) same found read = record {
   is_read = tt;
   tree = tt;
-  refused = some_weaker before.told _ _ (λ (lib : Library) (is : source_of lib.texts name ≡ Some source). record { source = seen; found = is ∙ ap Some (sym same); refuses = read.refused }) found.source;
+  refused = IfSome_then before.told found.source (λ (lib : Library) (is : source_of lib.texts name ≡ Some source). record { source = seen; found = is ∙ ap Some (sym same); refuses = read.refused });
   inputs_are = found.inputs_are;
   no_pattern = refl;
 }

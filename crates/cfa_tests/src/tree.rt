@@ -1,6 +1,6 @@
 // Class texts and the expressions that they read as, and the joining of policies.
-use cfa_base::{Name, NoMemory, Place};
-use cfa_tree::{Block, Body, Expr, ExprErr, Named, Parts, Policy, join, read_expr};
+use cfa_base::{Name, NoMemory, Parts, Place};
+use cfa_tree::{Block, Body, Expr, ExprErr, Named, Policy, join, read_expr};
 use std::alloc::Global;
 use std::process::Abort;
 use std::test::Fail;

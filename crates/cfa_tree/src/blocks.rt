@@ -1,6 +1,6 @@
 // Blocks: bundles and bodies.
-use crate::{Attribute, Parts, Section};
-use cfa_base::{Name, Place};
+use crate::{Attribute, Section};
+use cfa_base::{Name, Parts, Place};
 
 /// A word, with its place.
 #[derive(Drop)]

@@ -2,8 +2,8 @@
 ghost use Rattle.std.specs.Prelude.{◌≡◌, ◌∷◌, ◌++◌, [], None, Some, IfOk, IsTrue, length};
 ghost use Rattle.cfa_tree.specs.Repeats.{guard_before};
 
-use crate::{Attribute, Expr, Guard, Parts, Promise, Promises, Value};
-use cfa_base::{Name, NoMemory, Place};
+use crate::{Attribute, Expr, Guard, Promise, Promises, Value};
+use cfa_base::{Name, NoMemory, Parts, Place};
 use std::alloc::Global;
 
 /// The promises of a section so far, and the guard that holds for the next.

@@ -3,8 +3,8 @@ ghost use Rattle.std.specs.Prelude.{◌≡◌, IfOk};
 ghost use Rattle.std.specs.List.{flat_map};
 ghost use Rattle.cfa_tree.specs.Plain.{plain_policy};
 
-use crate::{Parts, Policy};
-use cfa_base::NoMemory;
+use crate::Policy;
+use cfa_base::{NoMemory, Parts};
 use std::alloc::Global;
 
 /// One policy of several, as of its files: the blocks of the first, then those of the next, and so on.

@@ -10,7 +10,6 @@ mod guarded;
 mod guards;
 mod joining;
 mod laws;
-mod parts;
 mod promises;
 mod sections;
 mod values;
@@ -26,7 +25,6 @@ pub use guards::{
 };
 pub use joining::join;
 pub use laws::expressions_are_read;
-pub use parts::Parts;
 pub use promises::{Guard, Promise, Promises};
 pub use sections::Section;
 pub use values::Value;

@@ -1,8 +1,8 @@
 // Promises.
 ghost use Rattle.std.specs.Prelude.{◌≡◌, ◌<◌, ◌∷◌, ◌++◌, [], IfOk, IsTrue, length};
 
-use crate::{Attribute, Expr, Parts, Value};
-use cfa_base::{Name, NoMemory, Place};
+use crate::{Attribute, Expr, Value};
+use cfa_base::{Name, NoMemory, Parts, Place};
 use std::alloc::Global;
 use std::marker::Model;
 use std::rc::Rc;

@@ -1,12 +1,12 @@
 -- What an activation's own events make of what is kept of it, and what is kept of one that begins.
-use Rattle.std.proofs.Common.{◌≡◌, ◌≢◌, ℕ, ◌+◌, ◌≤◌, true, false, List, [], ◌∷◌, length, map, Option, Some, None, refl, sym, ap, subst, ◌∙◌, arith}
+use Rattle.std.proofs.Common.{◌≡◌, ◌≢◌, ℕ, ◌+◌, ◌≤◌, true, false, cond, List, [], ◌∷◌, length, map, Option, Some, None, refl, sym, ap, subst, ◌∙◌, arith}
 use Rattle.std.specs.Prelude.{◌&&◌, option_and_then, slice_get, slice_set, option_map, unwrap_or}
 use Rattle.std.specs.declared.alloc.Global.{Global}
 use Rattle.std.specs.declared.vec.Vec.{Vec}
 use Rattle.std.specs.Option.{option_or}
 use Rattle.std.specs.Str.{bytes_eq}
 use Rattle.std.proofs.Math.Path.{fun_ext}
-use Rattle.std.proofs.lemmas.Option.{slice_get-map, slice_get_within}
+use Rattle.std.proofs.lemmas.Option.{none-some, same_Some, slice_get-map, slice_get_within}
 use Rattle.std.proofs.lemmas.Slice.Eq.{bytes_eq-Decides}
 use Rattle.cfa_base.specs.declared.places.PromiseId.{PromiseId}
 use Rattle.cfa_base.specs.declared.texts.Name.{Name}
@@ -19,7 +19,7 @@ use Rattle.cfa_outcomes.specs.declared.outcomes.Outcome.TheVariants.{Kept}
 use Rattle.cfa_tree.specs.Tree.{ExprTree}
 use Rattle.cfa_vars.specs.declared.scoping.Datum.{Datum}
 use Rattle.cfa_vars.specs.declared.scoping.Scope.{Scope}
-use Rattle.cfa_vars.specs.Named.{put}
+use Rattle.cfa_vars.specs.Named.{put, thing_at}
 use Rattle.cfa_vars.specs.Scopes.{Table, InScope}
 use Rattle.cfa_resolve.specs.Resolution.{is_listed}
 use Rattle.cfa_walk.specs.declared.activations.Activation.{Activation}
@@ -32,11 +32,12 @@ use Rattle.cfa_walk.specs.Logs.{Rows}
 use Rattle.cfa_walk.specs.Tellers.{worst_in}
 use Rattle.cfa_defines.specs.FirstMaybe.{first_maybe_of_guard}
 use Rattle.cfa_walk.specs.Waits.{wait_on, wait_of_guard, waits_in}
-use Rattle.cfa_walk.specs.Views.{Setting, global_status, status_in, scopes_in, shared_names, shared_in}
+use Rattle.cfa_walk.specs.Remembered.{scopes_now}
+use Rattle.cfa_walk.specs.Views.{Setting, status_in, scopes_in, shared_names, shared_in}
 use Rattle.cfa_walk.proofs.SharedLemmas.{same_name, is_same, names_of_pairs, with_its, shared_once, set_in_place}
-use Rattle.cfa_walk.proofs.KeptLemmas.{counts_same, changed, greater_turned, keeps_begun, keeps_set, other_begun, other_set}
+use Rattle.cfa_walk.proofs.KeptLemmas.{counts_same, changed, greater_turned, keeps_begun, keeps_set}
 use Rattle.cfa_walk.proofs.WaitLemmas.{no_waits}
-use Rattle.cfa_walk.proofs.LocalLemmas.{own_scope_same, own_set, own_is_unshared, has_own, shared_at, is_shared_at}
+use Rattle.cfa_walk.proofs.LocalLemmas.{statuses_are, other_begun, other_set, own_scope_same, own_set, own_is_unshared, has_own, shared_at, is_shared_at}
 
 -- ---- classes that are raised in it
 
@@ -142,17 +143,14 @@ scopes_are s st a h own shared stands is_own is_shared =
     ap (λ t. in_scopes t a.bundle shared) (is_own ∙ scope_is s st h a.place a.own a.path stands.0 stands.1.1.1.1)
     ∙ ap (in_scopes (scope_in h a.path) a.bundle) (is_shared ∙ stands.0.1.1.1.0)
 
-module _ (s : Setting) (st : State) (a : Activation) (h : History) where
-  statuses_are : (global local : StatusMap) → Stands s st a h → global ≡ st.environment.statuses → local ≡ a.local.statuses → greater_in global local ≡ status_in s h a.path
-  unfolding greater_in
-  statuses_are global local stands is_global is_local =
-      fun_ext (λ name.
-      ap (λ m. greater_in m local name) is_global ∙ ap (λ m. greater_in st.environment.statuses m name) is_local
-      ∙ ap (λ x. greater x (status_of a.local name)) (stands.0.0 name) ∙ ap (greater (global_status s h name)) (stands.1.0 name))
+pub scopes_found : (st : State) (a : Activation) (own : Table) (shared : List (List ℕ × Table)) → own ≡ scope_at st.shared.items a.place a.own → shared ≡ st.shared.items →
+    in_scopes own a.bundle shared ≡ scopes_now st a
+scopes_found st a own shared is_own is_shared = ap (λ t. in_scopes t a.bundle shared) is_own ∙ ap (in_scopes (scope_at st.shared.items a.place a.own) a.bundle) is_shared
 
+module _ (s : Setting) (st : State) (a : Activation) (h : History) where
   pub guard_is : (guard : ExprTree) (global local : StatusMap) → Stands s st a h → global ≡ st.environment.statuses → local ≡ a.local.statuses →
       value_of guard (greater_in global local) ≡ value_of guard (status_in s h a.path)
-  guard_is guard global local stands is_global is_local = ap (value_of guard) (statuses_are global local stands is_global is_local)
+  guard_is guard global local stands is_global is_local = ap (value_of guard) (statuses_are s st a h global local stands is_global is_local)
 
   module _ (guard : Option ExprTree) (global local : StatusMap) (found : Option (List ℕ)) (stands : Stands s st a h) (is_global : global ≡ st.environment.statuses)
       (is_local : local ≡ a.local.statuses) (found_is : found ≡ first_maybe_of_guard guard (greater_in global local)) where
@@ -160,7 +158,7 @@ module _ (s : Setting) (st : State) (a : Activation) (h : History) where
     waits_for wait is =
         is
         ∙ ap (option_and_then (λ class. wait_on class (source_in h a.path class)))
-        (found_is ∙ ap (first_maybe_of_guard guard) (statuses_are global local stands is_global is_local))
+        (found_is ∙ ap (first_maybe_of_guard guard) (statuses_are s st a h global local stands is_global is_local))
 
     pub nothing_waits : found ≡ None → ◌≡◌ {A = Option Wait} None (wait_of_guard s h a.path guard)
     nothing_waits none = waits_for None (ap (option_and_then (λ class. wait_on class (source_in h a.path class))) (sym none))
@@ -199,6 +197,39 @@ stands_set_shared s st a h variable datum place shared at is stands =
     let counts = counts_same s st h k refl (λ _. refl) refl refl refl keeps.1.1.1.1 in (
       (keeps.0, (keeps.1.0, (keeps.1.1.0, (shared_changed s st h keeps (Set a.path variable datum) place a.path shared.items found (other_set a.path variable datum h) (now ∙ set), counts)))),
       (stands.1.0, (stands.1.1.0, (stands.1.1.1.0, is_shared_at s.policy a.place place a.own a.path k at found))),
+    )
+
+-- a variable is set to what it holds
+module _ (s : Setting) (h : History) (path variable : List ℕ) (datum : Datum) (held : thing_at (scope_in h path) variable ≡ Some datum) where
+  put_again : (things : Table) → thing_at things variable ≡ Some datum → put things variable datum ≡ things
+  put_again [] is = absurd (none-some datum is)
+  put_again (e ∷ es) is =
+      elim (bytes_eq variable e.0) as (λ b. b ≡ bytes_eq variable e.0 → cond b (Some e.1) (thing_at es variable) ≡ Some datum
+      → cond b ((e.0, datum) ∷ es) (e ∷ put es variable datum) ≡ e ∷ es) [
+        | true ↦ λ same found. ap (λ (x : Datum). (e.0, x) ∷ es) (sym (same_Some e.1 datum found))
+        | false ↦ λ other found. ap (λ rest. e ∷ rest) (put_again es found)
+      ] refl is
+
+  scope_again : (other : List ℕ) → scope_in (Set path variable datum ∷ h) other ≡ scope_in h other
+  scope_again other =
+      elim (bytes_eq path other) as (λ b. b ≡ bytes_eq path other → (elim b [ true ↦ put (scope_in h other) variable datum | false ↦ scope_in h other ]) ≡ scope_in h other) [
+        | true ↦ λ same.
+            put_again (scope_in h other) (ap (λ (p : List ℕ). thing_at (scope_in h p) variable) (sym ((bytes_eq-Decides path other).0 (sym same))) ∙ held)
+        | false ↦ λ other_path. refl
+      ] refl
+
+pub stands_again : (s : Setting) (st : State) (a : Activation) (h : History) (variable : List ℕ) (datum : Datum) → thing_at (scope_at st.shared.items a.place a.own) variable ≡ Some datum →
+    Stands s st a h → Stands s st a (Set a.path variable datum ∷ h)
+unfolding shared_in
+stands_again s st a h variable datum holds stands =
+    let k : History = Set a.path variable datum ∷ h in
+    let held : thing_at (scope_in h a.path) variable ≡ Some datum =
+    ap (λ (t : Table). thing_at t variable) (sym (scope_is s st h a.place a.own a.path stands.0 stands.1.1.1.1)) ∙ holds in
+    let shared : shared_in s.policy h ≡ shared_in s.policy k =
+    ap (λ (scope : List ℕ → Table). map (λ name. (name, scope name)) (shared_names s.policy)) (fun_ext (λ name. sym (scope_again s h a.path variable datum held name))) in
+    let keeps = stands.0 in (
+      (keeps.0, (keeps.1.0, (keeps.1.1.0, (keeps.1.1.1.0 ∙ shared, counts_same s st h k refl (λ _. refl) refl refl refl keeps.1.1.1.1)))),
+      (stands.1.0, (stands.1.1.0, (stands.1.1.1.0, own_scope_same s.policy a.place a.own a.path h k (scope_again s h a.path variable datum held a.path) stands.1.1.1.1))),
     )
 
 pub never_past : (s : Setting) (st : State) (a : Activation) (h : History) (place : ℕ) → a.place ≡ Some place → length st.shared.items ≤ place → Stands s st a h → ⊥

@@ -1,7 +1,6 @@
 -- A call goes through its bundle: a fresh scope, the parameters, and three passes.
 use Rattle.std.proofs.Common.{◌≡◌, ℕ, suc, false, List, [], ◌∷◌, length, IsTrue, Option, Some, None, refl, sym, ap, subst, ◌∙◌, arith}
-use Rattle.std.specs.Prelude.{Result, Ok, Err}
-use Rattle.std.specs.Result.{IsErrAnd}
+use Rattle.std.specs.Prelude.{Ok, Err}
 use Rattle.cfa_acts.specs.declared.acts.Act.{Act}
 use Rattle.cfa_base.specs.Shown.{Shown}
 use Rattle.cfa_classes.specs.declared.levels.Status.{Status}
@@ -81,11 +80,6 @@ abbrev pub Begins : (path : List ℕ) → Activation → Type 0
 Begins path a =
     (s : Setting) (state : State) (h : History) (values : List Datum) → Keeps s state h → is_listed (shared_names s.policy) path ≡ false →
     Stands s state a (Begun path values ∷ h)
-
--- what the exit of a `?` answers
-pub halted : {Y : Type 0} (P : Result Y Stop → Type 0) (result : Result Y Stop) (stop : Stop) → IsErrAnd result (λ e. e ≡ stop) → P (Err stop) → P result
-halted P (Ok answer) stop same stopped = absurd same
-halted P (Err e) stop same stopped = subst (λ (x : Stop). P (Err x)) (sym same) stopped
 
 -- ---- how a call ends
 

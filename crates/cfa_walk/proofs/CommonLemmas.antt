@@ -22,12 +22,12 @@ use Rattle.cfa_walk.specs.Levels.{StandsAt, HasQuietlyDone, QuietDone}
 use Rattle.cfa_walk.specs.Bundles.{is_in_common}
 use Rattle.cfa_walk.specs.History.{History, Where, everywhere}
 use Rattle.cfa_walk.specs.Numbered.{Numbered, is_type, of_type}
-use Rattle.cfa_walk.specs.Passes.{Course, goes, too_large, then_on, Calls, each, kept_by, guarded, reach, calls_of}
+use Rattle.cfa_walk.specs.Passes.{Course, goes, then_on, Calls, each, kept_by, guarded, reach, calls_of}
 use Rattle.cfa_walk.specs.Steps.{idle_level, vars_level, classes_level, common_type_level}
 use Rattle.cfa_walk.specs.Tellers.{Teller}
 use Rattle.cfa_walk.specs.Views.{Setting, Home, guard_status}
 use Rattle.cfa_walk.proofs.BuiltLemmas.{calls_kept, promises_kept}
-use Rattle.cfa_walk.proofs.LevelLemmas.{QuietKeeps, then_assoc, each_one, quiet_is, quiet_nothing, quiet_then, quiet_stops}
+use Rattle.cfa_walk.proofs.LevelLemmas.{QuietKeeps, then_assoc, then_same, each_one, quiet_is, quiet_nothing, quiet_then, quiet_stops}
 
 -- ---- types
 
@@ -182,14 +182,10 @@ module _ (policy : PolicyTree) (st : State) (a : Activation) (p : Numbered) (gua
 
 -- ---- some after others
 
-then_alike : (c : Course) (f g : History → Course) → ((k : History) → f k ≡ g k) → then_on c f ≡ then_on c g
-then_alike (goes h) f g same = same h
-then_alike (too_large h) f g same = refl
-
 pub each_append : {X : Type 0} (does : X → History → Course) (xs ys : List X) (h : History) → each does (xs ++ ys) h ≡ then_on (each does xs h) (each does ys)
 each_append does [] ys h = refl
 each_append does (x ∷ xs) ys h =
-    then_alike (does x h) (each does (xs ++ ys)) (λ k. then_on (each does xs k) (each does ys)) (each_append does xs ys)
+    then_same (does x h) (each does (xs ++ ys)) (λ k. then_on (each does xs k) (each does ys)) (each_append does xs ys)
     ∙ sym (then_assoc (does x h) (each does xs) (each does ys))
 
 -- what was built before stays so
@@ -234,8 +230,8 @@ pub in_parts : {X Y : Type 0} (f : X → Y) (xs : List X) (i : ℕ) → map f xs
 in_parts f xs i = ap (map f) (sym (take-append-drop i xs)) ∙ map-append f (take i xs) (drop i xs)
 
 -- what the exit of a `?` answers
-pub on_stop : (P : Result (Unit {0}) Stop → Type 0) (result : Result (Unit {0}) Stop) (stop : Stop) → IsErrAnd result (λ e. e ≡ stop) → P (Err stop) → P result
-on_stop P (Ok done) stop same stopped = absurd same
+pub on_stop : {Y : Type 0} (P : Result Y Stop → Type 0) (result : Result Y Stop) (stop : Stop) → IsErrAnd result (λ e. e ≡ stop) → P (Err stop) → P result
+on_stop P (Ok answer) stop same stopped = absurd same
 on_stop P (Err e) stop same stopped = subst (λ (x : Stop). P (Err x)) (sym same) stopped
 
 pub of_some : {X : Type 0} (P : X → Type 0) (found : Option X) (x : X) → found ≡ Some x → IfSome found P → P x

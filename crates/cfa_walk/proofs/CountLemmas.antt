@@ -29,7 +29,9 @@ use Rattle.cfa_walk.specs.History.{History, Event, within, Reached, visits_in, g
 use Rattle.cfa_walk.specs.Logs.{logged_blames}
 use Rattle.cfa_walk.specs.Waits.{waits_in, waits_by}
 use Rattle.cfa_walk.specs.Walks.{blame_edit, own_unsettled, edits_unsettled}
-use Rattle.cfa_walk.specs.Kept.{Stands, SpareShorter, home_of}
+use Rattle.cfa_walk.specs.Kept.{Stands, SpareShorter, home_of, scope_at}
+use Rattle.cfa_walk.specs.Later.{AreLater}
+use Rattle.cfa_walk.specs.Remembered.{reached_now, scopes_now}
 use Rattle.cfa_walk.specs.Levels.{GoesTo, IsTooLarge, is_quiet, Faults, StandsAt, LevelDone, PatternsAre, Ends}
 use Rattle.cfa_walk.specs.Numbered.{Numbered}
 use Rattle.cfa_walk.specs.Builds.{BuiltOn, BuiltWhere}
@@ -41,7 +43,9 @@ use Rattle.cfa_base.specs.Patterns.{SizeRefusal}
 use Rattle.cfa_walk.proofs.BuiltLemmas.{size_refused, built_where, calls_kept, instances_kept, limited_kept}
 use Rattle.cfa_walk.proofs.LevelLemmas.{goes_weaker, patterns_then}
 use Rattle.cfa_walk.proofs.SpareLemmas.{spare_then, spare_reached}
+use Rattle.cfa_walk.proofs.ActivationLemmas.{scopes_are}
 use Rattle.cfa_walk.proofs.KeptLemmas.{keeps_reached}
+use Rattle.cfa_walk.proofs.LaterLemmas.{here_by, later_by}
 use Rattle.cfa_walk.proofs.LocalLemmas.{local_waits}
 use Rattle.cfa_walk.proofs.WaitLemmas.{waits_here}
 use Rattle.cfa_walk.proofs.DefiningLemmas.{fits, exceeds}
@@ -231,3 +235,21 @@ all_at policy p scopes statuses path resolved is id named =
     let r : ReachedAt = seen_at policy p scopes statuses path in
     subst (λ (x : Resolved). All (IsAt path) x.instances) (sym is)
     (All-weaker (IsInstanceOf r) (IsAt path) (λ instance of. (of.path, subst (λ (x : PromiseId). IsCounted x) (sym of.source) id)) (resolution r).instances (named r))
+
+-- what its texts may refer to now is what they may by the history
+pub scopes_stand : (st : State) (a : Activation) → (s : Setting) (h : History) → Stands s st a h → scopes_now st a ≡ scopes_in s h (home_of a)
+scopes_stand st a = λ s h stands. scopes_are s st a h (scope_at st.shared.items a.place a.own) st.shared.items stands refl refl
+
+-- counting changes nothing that is read of a state
+pub counted_later : (st st' : State) (a : Activation) (waits : Option Wait) (left : ℕ) (unsettled : List Unsettled) →
+    st' ≡ record st { left = left; log = logged_blames (filter_map (blame_edit (source_of st.environment)) unsettled) st.log } → AreLater st st' a (record a { waits = waits })
+counted_later st st' a waits left unsettled notes = record {
+  state = later_by st st' (ap (λ (x : State). x.changes) notes) (ap (λ (x : State). x.environment.statuses) notes) (ap (λ (x : State). x.shared.items) notes);
+  here = here_by a (record a { waits = waits }) refl refl refl refl refl refl;
+}
+
+-- what a promise is reached at, by what it is looked at with
+pub viewed : (policy : PolicyTree) (p : Numbered) (st : State) (a : Activation) (scopes : InScope) (statuses : Statuses) → scopes ≡ scopes_now st a → statuses ≡ st.environment.statuses →
+    seen_at policy p scopes statuses a.path ≡ reached_now policy p st a
+viewed policy p st a scopes statuses own global =
+    ap (λ (x : InScope). seen_at policy p x statuses a.path) own ∙ ap (λ (x : Statuses). seen_at policy p (scopes_now st a) x a.path) global

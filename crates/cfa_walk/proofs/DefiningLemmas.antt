@@ -1,16 +1,13 @@
 -- Promises that define variables and classes, by what they do to what is kept of a history.
-use Rattle.std.proofs.Common.{◌≡◌, ℕ, ◌+◌, ◌-◌, ◌≤◌, ◌<◌, Bool, true, false, List, [], ◌∷◌, ◌++◌, length, map, Option, inl, inr, refl, sym, ap, subst, ◌∙◌, arith, Some}
+use Rattle.std.proofs.Common.{◌≡◌, ℕ, ◌+◌, ◌-◌, ◌≤◌, ◌<◌, Bool, true, false, List, [], ◌∷◌, ◌++◌, length, map, Option, inl, inr, refl, sym, ap, subst, ◌∙◌, arith, Some, append-nil}
 use Rattle.std.specs.Prelude.{Result, Ok, Err, OnOk}
-use Rattle.std.proofs.Math.Path.{fun_ext}
 use Rattle.std.proofs.lemmas.Bool.{le-leb, lt-leb}
 use Rattle.std.proofs.lemmas.List.{map-append}
 use Rattle.cfa_base.specs.declared.places.PromiseId.{PromiseId}
 use Rattle.cfa_classes.specs.declared.levels.Status.{Status}
 use Rattle.cfa_classes.specs.declared.levels.Status.TheVariants.{No}
-use Rattle.cfa_classes.specs.Status.{greater}
 use Rattle.cfa_classes.specs.Raised.{Raised as Statuses, greater_in}
 use Rattle.cfa_kinds.specs.declared.kinds.PromiseType.TheVariants as promises
-use Rattle.cfa_outcomes.specs.Environments.{status_of}
 use Rattle.cfa_tree.specs.Tree.{NamedTree, PromiseTree, PolicyTree}
 use Rattle.cfa_vars.specs.declared.scoping.Datum.{Datum}
 use Rattle.cfa_vars.specs.Expansion.{Chosen}
@@ -25,7 +22,7 @@ use Rattle.cfa_walk.specs.declared.states.State.{State}
 use Rattle.cfa_walk.specs.declared.activations.Activation.{Activation}
 use Rattle.cfa_walk.specs.declared.defining.Handed.{Handed}
 use Rattle.cfa_walk.specs.History.{History, Event, Where, everywhere, within, Set, Raised, Reached, visits_in}
-use Rattle.cfa_walk.specs.Kept.{KeepsLocally, Stands, home_of, IsSame, SpareShorter, SpareLocals}
+use Rattle.cfa_walk.specs.Kept.{KeepsLocally, Stands, home_of, IsSame, SpareShorter}
 use Rattle.cfa_walk.specs.Levels.{HasQuietlyBuilt, GoesTo, IsTooLarge, QuietLevel, Quietly, nothing, one_more, StandsAt, SpareIf, HasQuietlyDone}
 use Rattle.cfa_walk.specs.Numbered.{Numbered}
 use Rattle.cfa_walk.specs.Passes.{Course, goes, most_visits, within_limit, reached, set_each, raise_event, raise_all, bind, sets_variable}
@@ -36,29 +33,21 @@ use Rattle.cfa_walk.specs.declared.walks.Blame.{Blame}
 use Rattle.cfa_walk.specs.Logs.{logged_blames}
 use Rattle.cfa_walk.specs.Walks.{own_unsettled, edits_unsettled}
 use Rattle.cfa_resolve.specs.Resolution.{is_acting}
-use Rattle.cfa_walk.specs.Views.{Setting, Home, scopes_in, global_status, status_in}
+use Rattle.cfa_walk.specs.Views.{Setting, Home, scopes_in, status_in}
 use Rattle.cfa_base.specs.Patterns.{SizeRefusal}
 use Rattle.cfa_base.specs.Shown.{Shown}
 use Rattle.cfa_walk.proofs.BuiltLemmas.{size_refused, built_where, classes_built}
 use Rattle.cfa_walk.proofs.LevelLemmas.{goes_weaker, quietly_then}
-use Rattle.cfa_walk.proofs.WaitLemmas.{IsIdle, waits_idle, no_edits, none_unsettled, append_none}
+use Rattle.cfa_walk.proofs.WaitLemmas.{IsIdle, waits_idle, no_edits, none_unsettled}
 use Rattle.cfa_walk.proofs.KeptLemmas.{keeps_reached, keeps_counted, keeps_raised_within}
-use Rattle.cfa_walk.proofs.LocalLemmas.{local_reached}
-use Rattle.cfa_walk.proofs.SpareLemmas.{spare_none, spare_then, locals_none, locals_then, locals_set, locals_raised_everywhere, locals_reached, spare_set, spare_raised_within, spare_raised_everywhere, spare_reached}
+use Rattle.cfa_walk.proofs.LocalLemmas.{statuses_are, local_reached}
+use Rattle.cfa_walk.proofs.SpareLemmas.{spare_none, spare_then, locals_none, spare_if, spare_if_then, locals_set, locals_raised_everywhere, locals_reached, spare_set, spare_raised_within, spare_raised_everywhere, spare_reached}
 use Rattle.cfa_walk.proofs.LastLemmas.{set_each-last}
 
 -- ---- what is local to shorter paths, and in a common bundle to any, is as it was
 
 abbrev pub Passed : (is_common : Bool) → (path : List ℕ) → (h k : History) → Type 0
 Passed is_common path h k = Quietly h k × (SpareShorter (length path) h k × SpareIf is_common h k)
-
-spare_if : (is_common : Bool) (h k : History) → SpareLocals h k → SpareIf is_common h k
-spare_if true h k spares = spares
-spare_if false h k spares = tt
-
-spare_if_then : (is_common : Bool) (h k m : History) → SpareIf is_common h k → SpareIf is_common k m → SpareIf is_common h m
-spare_if_then true h k m hk km = locals_then h k m hk km
-spare_if_then false h k m hk km = tt
 
 pub passed_then : (is_common : Bool) (path : List ℕ) (h k m : History) → Passed is_common path h k → Passed is_common path k m → Passed is_common path h m
 passed_then is_common path h k m hk km =
@@ -230,7 +219,7 @@ module _ (policy : PolicyTree) (is_common : Bool) (p : Numbered) (guard : Status
       let P : History → Type 0 = λ k. Stands s st' a' k × Passed is_common a.path h k in
       let k : History = Reached (home_of a) p guard true visits ∷ h in
       let owns : blames ≡ own_unsettled s h home p guard true ++ edits_unsettled s h home p guard =
-      unsettled s h stands ∙ (sym (append_none (own_unsettled s h home p guard true)) ∙ ap (λ (x : List Blame). own_unsettled s h home p guard true ++ x) (sym (no_edits s h home p guard (inr acts)))) in
+      unsettled s h stands ∙ (sym (append-nil (own_unsettled s h home p guard true)) ∙ ap (λ (x : List Blame). own_unsettled s h home p guard true ++ x) (sym (no_edits s h home p guard (inr acts)))) in
       let done : GoesTo (reached home p guard true visits (λ x. goes (set_each a.path p.promise.promiser set x)) h) P =
       reached_goes home p guard true visits (λ x. goes (set_each a.path p.promise.promiser set x)) h P (fits st.left visits (visits_in h) enough stands.0.1.1.1.1.0) (
         does s k (subst (λ (x : State). Stands s x a k) (sym counts) (stands_reached s st a (home_of a) p guard true visits blames h enough owns (inr acts) stands)),
@@ -255,21 +244,13 @@ handed_one_more before path guard in_guard raises raise handed after one so_far 
     adds ∙ (ap (λ (x : List Handed). x ++ one ∷ []) so_far ∙ (ap (λ (x : Handed). map give (map seen_raise raises) ++ x ∷ []) is
     ∙ (sym (map-append give (map seen_raise raises) (seen_raise raise ∷ [])) ∙ ap (map give) (sym (map-append seen_raise raises (raise ∷ []))))))
 
--- the statuses that are kept are those of the history
-pub same_statuses : (s : Setting) (st : State) (a : Activation) (h : History) → Stands s st a h → greater_in st.environment.statuses a.local.statuses ≡ status_in s h a.path
-unfolding greater_in
-same_statuses s st a h stands = fun_ext (λ (class : List ℕ).
-    ap (λ (x : Status). greater x (status_of a.local class)) (stands.0.0 class)
-    ∙ ap (λ (x : Status). greater (global_status s h class) x) (stands.1.0 class))
-
 pub handed_over : (s : Setting) (st : State) (a : Activation) (h : History) (guard : Status) (scopes : InScope) (promise : PromiseTree) (choices : Option (List Chosen))
     (global local : Statuses) (in_guard : Option (List ℕ)) (raises : List Raise) (handed : List Handed) →
     Stands s st a h → global ≡ st.environment.statuses → local ≡ a.local.statuses →
     raises ≡ raises_of (greater_in global local) scopes promise choices → in_guard ≡ first_maybe_of_guard promise.guard (greater_in global local) →
     handed ≡ map (hand h a.path guard in_guard) raises → handed ≡ handed_by s h a.path guard scopes promise choices
 handed_over s st a h guard scopes promise choices global local in_guard raises handed stands globals locals raising waiting handing =
-    let statuses : greater_in global local ≡ status_in s h a.path =
-    ap (λ (x : Statuses). greater_in x local) globals ∙ (ap (λ (x : Statuses). greater_in st.environment.statuses x) locals ∙ same_statuses s st a h stands) in
+    let statuses : greater_in global local ≡ status_in s h a.path = statuses_are s st a h global local stands globals locals in
     let raised : raises ≡ raises_of (status_in s h a.path) scopes promise choices =
     raising ∙ ap (λ (x : List ℕ → Status). raises_of x scopes promise choices) statuses in
     let waits : in_guard ≡ first_maybe_of_guard promise.guard (status_in s h a.path) = waiting ∙ ap (first_maybe_of_guard promise.guard) statuses in

@@ -1,16 +1,16 @@
 -- That shared names are plain is a proposition, and the ids of promises are counted.
-use Rattle.std.proofs.Common.{◌≡◌, ◌∙◌, ℕ, ◌+◌, Bool, false, List, [], ◌∷◌, ◌++◌, map, All, Option, Some, None, refl, ap, sym, subst}
+use Rattle.std.proofs.Common.{ℕ, ◌+◌, false, List, [], ◌∷◌, ◌++◌, map, All, Option, Some, None, sym, subst}
 use Rattle.std.specs.List.{Contains, cons_option, flat_map}
 use Rattle.std.proofs.Math.Bool.{Bool-set}
 use Rattle.std.proofs.Math.Bridge.{le_prop}
-use Rattle.std.proofs.lemmas.List.{map-append}
 use Rattle.std.proofs.lemmas.List.Elements.{All-cons, All-contains, All-contains_itself, All-head, All-nil, All-tail, All-weaker, Contains-append_left, Contains-append_right}
 use Rattle.cfa_kinds.specs.declared.kinds.PromiseType.{PromiseType}
 use Rattle.cfa_kinds.specs.Kinds.{promise_type}
-use Rattle.cfa_served.specs.Checked.{promises_of, worded_promises_of, ids_from, ids_in_block, promise_ids_of}
+use Rattle.cfa_served.specs.Checked.{worded_promises_of, ids_from, ids_in_block, promise_ids_of}
+use Rattle.cfa_served.specs.lemmas.Promises.{second, seconds_in}
 use Rattle.cfa_schema.specs.Laws.{IsCounted, IdsAreCounted, NamedBundleStands}
 use Rattle.cfa_schema.specs.Sourced.{IsSourced}
-use Rattle.cfa_tree.specs.Tree.{PromiseTree, SectionTree, BlockTree, bundle, body, PolicyTree}
+use Rattle.cfa_tree.specs.Tree.{PromiseTree, BlockTree, bundle, body, PolicyTree}
 use Rattle.cfa_resolve.specs.Resolution.{is_listed}
 use Rattle.cfa_walk.specs.Facts.{HasCountedIds}
 use Rattle.cfa_walk.specs.Levels.{HasPlainNames}
@@ -30,20 +30,6 @@ pub plain_names_prop : (policy : PolicyTree) → IsProp (HasPlainNames policy)
 plain_names_prop policy = λ x y i path newline. Bool-set (is_listed (shared_names policy) path) false (x path newline) (y path newline) i
 
 -- ---- ids
-
-abbrev second : List ℕ × PromiseTree → PromiseTree
-second x = x.1
-
-seconds_with : (kind : List ℕ) (ps : List PromiseTree) → map second (map (λ p. (kind, p)) ps) ≡ ps
-seconds_with kind [] = refl
-seconds_with kind (p ∷ ps) = ap (λ rest. p ∷ rest) (seconds_with kind ps)
-
-seconds_in : (sections : List SectionTree) → map second (flat_map worded_promises_of sections) ≡ flat_map promises_of sections
-seconds_in [] = refl
-seconds_in (section ∷ sections) =
-    map-append second (worded_promises_of section) (flat_map worded_promises_of sections)
-    ∙ ap (λ ps. ps ++ map second (flat_map worded_promises_of sections)) (seconds_with section.kind section.promises)
-    ∙ ap (λ rest. section.promises ++ rest) (seconds_in sections)
 
 abbrev IsOne : Numbered → Type 0
 IsOne p = IsCounted p.id

@@ -1,14 +1,15 @@
 -- What is found in an index of names, or of instances, is in the list.
-use Rattle.std.proofs.Common.{◌≡◌, ℕ, ◌+◌, Bool, ◌||◌, ◌&&◌, cond, List, [], ◌∷◌, map, Option, Some, is_some, position, refl, sym, ap, ◌∙◌}
+use Rattle.std.proofs.Common.{◌≡◌, ℕ, ◌+◌, Bool, ◌||◌, cond, List, [], ◌∷◌, map, Option, Some, is_some, position, refl, sym, ap, ◌∙◌}
 use Rattle.std.specs.List.{list_any, position_from}
 use Rattle.std.specs.Str.{bytes_eq}
 use Rattle.std.proofs.lemmas.Iterator.Adapters.{position_from-zero}
 use Rattle.cfa_base.specs.Index.{place_of, same_pair, pair_place_of}
 use Rattle.cfa_resolve.specs.declared.instances.Instance.{Instance}
+use Rattle.cfa_values.specs.Lookups.{has_position}
 use Rattle.cfa_resolve.specs.Resolution.{is_listed}
 use Rattle.cfa_walk.specs.History.{is_named}
-use Rattle.cfa_walk.specs.Logs.{name_of}
-use Rattle.cfa_walk.specs.lemmas.Found.{found_from, same_bytes}
+use Rattle.cfa_walk.specs.Names.{name_of}
+use Rattle.cfa_walk.specs.lemmas.Names.{same_bytes, same_instance}
 
 turned : (classes : List (List ℕ)) (class : List ℕ) → list_any (λ other. bytes_eq class other) classes ≡ is_listed classes class
 turned [] class = refl
@@ -17,14 +18,7 @@ turned (x ∷ xs) class =
     ∙ ap (λ (b : Bool). bytes_eq x class || b) (turned xs class)
 
 pub class_among : (classes : List (List ℕ)) (class : List ℕ) → is_some (place_of classes class) ≡ is_listed classes class
-class_among classes class =
-    ap is_some (position_from-zero (λ other. bytes_eq class other) classes)
-    ∙ (found_from (λ other. bytes_eq class other) classes 0 ∙ turned classes class)
-
-same_instance : (path text : List ℕ) (instance : Instance) → same_pair (path, text) (name_of instance) ≡ is_named path text instance
-same_instance path text instance =
-    ap (λ (b : Bool). b && bytes_eq text instance.text) (same_bytes path instance.path)
-    ∙ ap (λ (b : Bool). bytes_eq instance.path path && b) (same_bytes text instance.text)
+class_among classes class = has_position (λ other. bytes_eq class other) classes ∙ turned classes class
 
 place_from : (path text : List ℕ) (instances : List Instance) (i : ℕ) →
     position_from (same_pair (path, text)) i (map name_of instances) ≡ position_from (is_named path text) i instances

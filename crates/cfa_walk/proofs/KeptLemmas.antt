@@ -3,11 +3,12 @@ use Rattle.std.proofs.Common.{◌≡◌, ◌≢◌, ℕ, ◌+◌, ◌-◌, ◌�
 use Rattle.std.specs.Prelude.{◌&&◌}
 use Rattle.std.specs.Option.{option_or}
 use Rattle.std.specs.Str.{bytes_eq}
-use Rattle.std.proofs.lemmas.Bool.{false≢true}
+use Rattle.std.proofs.lemmas.Bool.{false≢true, and_parts}
 use Rattle.cfa_base.specs.declared.places.PromiseId.{PromiseId}
 use Rattle.cfa_classes.specs.declared.levels.Status.{Status}
 use Rattle.cfa_classes.specs.declared.levels.Status.TheVariants.{No, Maybe, Yes}
 use Rattle.cfa_classes.specs.Status.{greater}
+use Rattle.cfa_classes.specs.lemmas.Orders.{greater_No}
 use Rattle.cfa_outcomes.specs.Environments.{EnvironmentMaps, status_of, source_of, mark_of}
 use Rattle.cfa_outcomes.specs.declared.outcomes.Outcome.{Outcome}
 use Rattle.cfa_resolve.specs.declared.instances.Instance.{Instance}
@@ -27,6 +28,7 @@ use Rattle.cfa_walk.specs.Views.{Setting, from_start, global_status, shared_name
 use Rattle.cfa_walk.specs.Waits.{wait_of_call}
 use Rattle.cfa_walk.specs.Walks.{listed_instances, listings, unsettled_promises, own_unsettled, edits_unsettled}
 use Rattle.cfa_walk.proofs.SharedLemmas.{same_name, is_same, as_it_was}
+use Rattle.cfa_walk.proofs.LocalLemmas.{other_begun, other_set}
 use Rattle.cfa_walk.proofs.WaitLemmas.{log_reached, logged_none}
 
 -- ---- what is counted, waited for and listed
@@ -76,12 +78,6 @@ keeps_counted s st h home promise guard sets visits enough is keeps =
 
 -- ---- scopes that aren't shared
 
-pub other_begun : (path : List ℕ) (arguments : List Datum) (h : History) (name : List ℕ) → bytes_eq path name ≡ false → scope_in (Begun path arguments ∷ h) name ≡ scope_in h name
-other_begun path arguments h name differ = rw (differ, scope_in) refl
-
-pub other_set : (path variable : List ℕ) (datum : Datum) (h : History) (name : List ℕ) → bytes_eq path name ≡ false → scope_in (Set path variable datum ∷ h) name ≡ scope_in h name
-other_set path variable datum h name differ = rw (differ, scope_in) refl
-
 pub shared_begun : (policy : PolicyTree) (h : History) (path : List ℕ) (arguments : List Datum) → is_listed (shared_names policy) path ≡ false →
     shared_in policy (Begun path arguments ∷ h) ≡ shared_in policy h
 unfolding shared_in
@@ -105,10 +101,6 @@ pub keeps_set : (s : Setting) (st : State) (h : History) (path variable : List �
 keeps_set s st h path variable datum own keeps =
     let counts = counts_same s st h (Set path variable datum ∷ h) refl (λ _. refl) refl refl refl keeps.1.1.1.1 in
     (keeps.0, (keeps.1.0, (keeps.1.1.0, (keeps.1.1.1.0 ∙ sym (shared_set s.policy h path variable datum own), counts))))
-
-both_true : (b c : Bool) → (b && c) ≡ true → (b ≡ true) × (c ≡ true)
-both_true true c e = (refl, e)
-both_true false c e = absurd (cc)
 
 -- ---- classes that are raised
 
@@ -135,11 +127,6 @@ greater_by Yes so_far to = refl
 
 pub greater_turned : (status to : Status) → greater status to ≡ greater to status
 greater_turned status to = greater_by No status to
-
-pub greater_with_none : (status : Status) → greater status No ≡ status
-greater_with_none No = refl
-greater_with_none Maybe = refl
-greater_with_none Yes = refl
 
 -- what is told of one name is what it becomes, and of any other what it was
 pub changed : {X : Type 0} (before after : List ℕ → X) (name : List ℕ) (here : X) → after name ≡ here → ((other : List ℕ) → other ≢ name → after other ≡ before other) →
@@ -220,7 +207,7 @@ module _ (s : Setting) (st : State) (e : EnvironmentMaps) (h : History) (keeps :
         let before = mark_of st.environment in
         elim (is_named path text instance) as (λ b. is_named path text instance ≡ b → mark_of e path text ≡ mark_in (Listed instance to ∷ h) path text) [
           | true ↦ λ same.
-              let both = both_true (bytes_eq instance.path path) (bytes_eq instance.text text) same in
+              let both = and_parts (bytes_eq instance.path path) (bytes_eq instance.text text) same in
               let path_is : at ≡ path = is_path ∙ is_same instance.path path both.0 in
               let text_is : key ≡ text = is_text ∙ is_same instance.text text both.1 in
               ap (λ p. mark_of e p text) (sym path_is) ∙ ap (mark_of e at) (sym text_is) ∙ becomes
@@ -257,7 +244,7 @@ pub keeps_first : (s : Setting) (st : State) → ((class : List ℕ) → status_
     st.shared.items ≡ map (λ name. (name, [])) (shared_names s.policy) → st.left ≡ most_visits → st.calls ≡ None → (is_logged : Bool) → st.log ≡ first_log is_logged → Keeps s st []
 unfolding shared_in
 keeps_first s st statuses sources marks shared left none is_logged log = (
-  λ class. statuses class ∙ sym (greater_with_none (from_start s class)),
+  λ class. statuses class ∙ sym (greater_No (from_start s class)),
   (
     sources,
     (

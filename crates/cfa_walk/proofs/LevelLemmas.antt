@@ -1,5 +1,5 @@
 -- Levels one after the other.
-use Rattle.std.proofs.Common.{◌≡◌, ℕ, ◌≤◌, Bool, true, false, List, [], ◌∷◌, ◌++◌, length, IsTrue, refl, sym, subst, ◌∙◌, arith}
+use Rattle.std.proofs.Common.{◌≡◌, ℕ, ◌≤◌, Bool, List, [], ◌∷◌, ◌++◌, length, IsTrue, refl, sym, subst, ◌∙◌, arith}
 use Rattle.std.specs.Prelude.{Result, Ok, Err}
 use Rattle.cfa_base.specs.Shown.{Shown}
 use Rattle.cfa_base.specs.Causes.{Rose}
@@ -11,10 +11,11 @@ use Rattle.cfa_tree.specs.Tree.{PolicyTree}
 use Rattle.cfa_walk.specs.declared.states.State.{State}
 use Rattle.cfa_walk.specs.declared.activations.Activation.{Activation}
 use Rattle.cfa_walk.specs.History.{History, Event}
-use Rattle.cfa_walk.specs.Kept.{SpareShorter, SpareLocals}
+use Rattle.cfa_walk.specs.Kept.{SpareShorter}
 use Rattle.cfa_walk.specs.Levels.{GoesTo, IsTooLarge, is_quiet, Faults, Later, Stops, Level, StandsAt, PatternsAre, HasDone, LevelDone, FaultsAre, Ends, QuietLevel, Quietly, nothing, one_more, SpareIf, HasQuietlyDone, QuietDone}
 use Rattle.cfa_walk.specs.Builds.{BuiltOn}
 use Rattle.cfa_walk.proofs.BuiltLemmas.{KeepsBuilt, then_kept}
+use Rattle.cfa_walk.proofs.SpareLemmas.{spare_none, spare_then, locals_none, spare_if, spare_if_then}
 use Rattle.cfa_walk.specs.Passes.{Course, goes, too_large, then_on, each}
 use Rattle.cfa_walk.specs.Tellers.{Teller}
 use Rattle.cfa_walk.specs.Views.{Setting, Home}
@@ -63,9 +64,12 @@ then_none does (too_large h) = refl
 pub each_one : {X : Type 0} (does : X → History → Course) (x : X) (h : History) → each does (x ∷ []) h ≡ does x h
 each_one does x h = then_none does (does x h)
 
-then_same : (c : Course) (f g : History → Course) → ((k : History) → f k ≡ g k) → then_on c f ≡ then_on c g
+pub then_same : (c : Course) (f g : History → Course) → ((k : History) → f k ≡ g k) → then_on c f ≡ then_on c g
 then_same (goes h) f g same = same h
 then_same (too_large h) f g same = refl
+
+pub then_last : (c : Course) (next : History → Course) → then_on c (λ k. then_on (next k) goes) ≡ then_on c next
+then_last c next = then_same c (λ k. then_on (next k) goes) next (λ k. then_goes (next k))
 
 -- one more is done last
 pub each_more : {X : Type 0} (does : X → History → Course) (xs : List X) (x : X) (h : History) → each does (xs ++ x ∷ []) h ≡ then_on (each does xs h) (does x)
@@ -111,20 +115,6 @@ faults_then f g k (Err stop) later are = stops_later f g k stop later are
 pub patterns_then : (p q r : Shown (List (List ℕ))) (result : Result (Unit {0}) Stop) → q ≡ p → PatternsAre result q r → PatternsAre result p r
 patterns_then p q r result same are = subst (λ x. PatternsAre result x r) same are
 
--- ---- what is local to shorter paths
-
-pub spare_same : (bound : ℕ) (h : History) → SpareShorter bound h h
-spare_same bound h = record { locals = λ path class short. refl; sources = λ path class short. refl; worst = λ path short. refl; waits = λ s path short. refl; scopes = λ path short. refl }
-
-pub spare_then : (bound : ℕ) (h k m : History) → SpareShorter bound h k → SpareShorter bound k m → SpareShorter bound h m
-spare_then bound h k m hk km = record {
-  locals = λ path class short. km.locals path class short ∙ hk.locals path class short;
-  sources = λ path class short. km.sources path class short ∙ hk.sources path class short;
-  worst = λ path short. km.worst path short ∙ hk.worst path short;
-  waits = λ s path short. km.waits s path short ∙ hk.waits s path short;
-  scopes = λ path short. km.scopes path short ∙ hk.scopes path short;
-}
-
 -- ---- levels
 
 module _ {W X : Type 0} (teller : X → Teller) (agrees : W → X → Type 0) (behind : W → X → History → Type 0) (faults : W → Faults) (policy : PolicyTree) where
@@ -134,7 +124,7 @@ module _ {W X : Type 0} (teller : X → Teller) (agrees : W → X → Type 0) (b
   level_nothing level w st a is = λ s home status x h agree. (
     agree,
     λ stands stays. subst (λ c. GoesTo c (λ k. StandsAt policy s home status st a k × (behind w x k × SpareShorter (length home.path) h k)))
-        (sym (is s home status (teller x) h stands)) (stands, (stays, spare_same (length home.path) h)),
+        (sym (is s home status (teller x) h stands)) (stands, (stays, spare_none (length home.path) h)),
   )
 
   -- a level by another that is the same where the state stands
@@ -254,32 +244,13 @@ pub quietly_then : {h k m : History} → Quietly h k → Quietly k m → Quietly
 quietly_then first nothing = first
 quietly_then first (one_more event quiet more) = one_more event quiet (quietly_then first more)
 
-pub spare_all_then : (h k m : History) → SpareLocals h k → SpareLocals k m → SpareLocals h m
-spare_all_then h k m hk km = record {
-  locals = λ path class. km.locals path class ∙ hk.locals path class;
-  sources = λ path class. km.sources path class ∙ hk.sources path class;
-  worst = λ path. km.worst path ∙ hk.worst path;
-  waits = λ s path. km.waits s path ∙ hk.waits s path;
-}
-
-pub spare_all_same : (h : History) → SpareLocals h h
-spare_all_same h = record { locals = λ path class. refl; sources = λ path class. refl; worst = λ path. refl; waits = λ s path. refl }
-
-spare_if_then : (is_common : Bool) (h k m : History) → SpareIf is_common h k → SpareIf is_common k m → SpareIf is_common h m
-spare_if_then true h k m hk km = spare_all_then h k m hk km
-spare_if_then false h k m hk km = tt
-
-spare_if_same : (is_common : Bool) (h : History) → SpareIf is_common h h
-spare_if_same true h = spare_all_same h
-spare_if_same false h = tt
-
 module _ (policy : PolicyTree) (is_common : Bool) where
   pub quiet_nothing : (level : QuietLevel) (st : State) (a : Activation)
       → ((s : Setting) (home : Home) (status : Status) (t : Teller) (h : History) → StandsAt policy s home status st a h → level s home t h ≡ goes h)
       → HasQuietlyDone policy is_common level st st a a
   quiet_nothing level st a is = λ s home status t h stands.
       subst (λ c. GoesTo c (λ k. StandsAt policy s home status st a k × (Quietly h k × (SpareShorter (length home.path) h k × SpareIf is_common h k))))
-      (sym (is s home status t h stands)) (stands, (nothing, (spare_same (length home.path) h, spare_if_same is_common h)))
+      (sym (is s home status t h stands)) (stands, (nothing, (spare_none (length home.path) h, spare_if is_common h h (locals_none h))))
 
   pub quiet_is : (level other : QuietLevel) (st st' : State) (a a' : Activation) (result : Result (Unit {0}) Stop)
       → ((s : Setting) (home : Home) (status : Status) (t : Teller) (h : History) → StandsAt policy s home status st a h → other s home t h ≡ level s home t h)

@@ -14,7 +14,9 @@ pub mod RowLemmas
 pub mod LocalLemmas
 pub mod SpareLemmas
 pub mod LastLemmas
+pub mod LaterLemmas
 pub mod ActivationLemmas
+pub mod RememberedLemmas
 pub mod QuietLemmas
 pub mod ServedLemmas
 pub mod WalkLemmas

@@ -1,20 +1,46 @@
 -- What is kept of an activation stays so over each event of other places.
 use Rattle.std.proofs.Common.{◌≡◌, ℕ, Bool, false, List, ◌∷◌, Option, Some, None, refl, sym, ap, ◌∙◌}
 use Rattle.std.specs.Prelude.{slice_get}
+use Rattle.std.specs.Str.{bytes_eq}
+use Rattle.std.proofs.Math.Path.{fun_ext}
 use Rattle.cfa_base.specs.declared.places.PromiseId.{PromiseId}
 use Rattle.cfa_classes.specs.declared.levels.Status.{Status}
+use Rattle.cfa_classes.specs.Status.{greater}
+use Rattle.cfa_classes.specs.Raised.{Raised as StatusMap, greater_in}
+use Rattle.cfa_outcomes.specs.Environments.{status_of}
 use Rattle.cfa_resolve.specs.declared.instances.Instance.{Instance}
 use Rattle.cfa_tree.specs.Tree.{PolicyTree}
+use Rattle.cfa_vars.specs.declared.scoping.Datum.{Datum}
 use Rattle.cfa_vars.specs.Scopes.{Table}
 use Rattle.cfa_resolve.specs.Resolution.{is_listed}
+use Rattle.cfa_walk.specs.declared.states.State.{State}
 use Rattle.cfa_walk.specs.declared.activations.Activation.{Activation}
-use Rattle.cfa_walk.specs.History.{History, Home, Raised, Reached, Listed, everywhere, scope_in, locally, local_source}
-use Rattle.cfa_walk.specs.Kept.{KeepsLocally, OwnScope}
+use Rattle.cfa_walk.specs.History.{History, Home, Begun, Set, Raised, Reached, Listed, everywhere, scope_in, locally, local_source}
+use Rattle.cfa_walk.specs.Kept.{KeepsLocally, Stands, OwnScope}
 use Rattle.cfa_walk.specs.declared.waits.Wait.{Wait}
 use Rattle.cfa_walk.specs.Numbered.{Numbered}
 use Rattle.cfa_walk.specs.Tellers.{worst_in}
 use Rattle.cfa_walk.specs.Waits.{waits_in}
-use Rattle.cfa_walk.specs.Views.{Setting, shared_names}
+use Rattle.cfa_walk.specs.Views.{Setting, global_status, status_in, shared_names}
+
+-- ---- what is kept of statuses
+
+-- they are those of the history
+pub statuses_are : (s : Setting) (st : State) (a : Activation) (h : History) (global local : StatusMap) → Stands s st a h → global ≡ st.environment.statuses → local ≡ a.local.statuses →
+    greater_in global local ≡ status_in s h a.path
+unfolding greater_in
+statuses_are s st a h global local stands is_global is_local =
+    fun_ext (λ name.
+    ap (λ m. greater_in m local name) is_global ∙ ap (λ m. greater_in st.environment.statuses m name) is_local
+    ∙ ap (λ x. greater x (status_of a.local name)) (stands.0.0 name) ∙ ap (greater (global_status s h name)) (stands.1.0 name))
+
+-- ---- the scope of another path
+
+pub other_begun : (path : List ℕ) (arguments : List Datum) (h : History) (name : List ℕ) → bytes_eq path name ≡ false → scope_in (Begun path arguments ∷ h) name ≡ scope_in h name
+other_begun path arguments h name differ = rw (differ, scope_in) refl
+
+pub other_set : (path variable : List ℕ) (datum : Datum) (h : History) (name : List ℕ) → bytes_eq path name ≡ false → scope_in (Set path variable datum ∷ h) name ≡ scope_in h name
+other_set path variable datum h name differ = rw (differ, scope_in) refl
 
 -- ---- the scope of an activation
 

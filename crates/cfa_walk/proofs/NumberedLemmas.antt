@@ -9,6 +9,7 @@ use Rattle.cfa_tree.specs.Tree.{PromiseTree}
 use Rattle.cfa_kinds.specs.declared.kinds.PromiseType.{PromiseType}
 use Rattle.cfa_kinds.specs.Kinds.{promise_type}
 use Rattle.cfa_served.specs.Checked.{worded_promises_of}
+use Rattle.cfa_served.specs.lemmas.Promises.{pair_with}
 use Rattle.cfa_walk.specs.Numbered.{Numbered, numbered_as, numbered_from}
 
 cons-append : {X : Type 0} (o : Option X) (xs ys : List X) → cons_option o xs ++ ys ≡ cons_option o (xs ++ ys)
@@ -25,12 +26,9 @@ numbered-append name number (p ∷ ps) qs =
     ap (cons_option here) (numbered-append name (number + 1) ps qs ∙ ap (λ n. behind ++ numbered_from name n qs) e)
     ∙ sym (cons-append here behind (numbered_from name (number + suc (length ps)) qs))
 
-abbrev with_word : List ℕ → PromiseTree → List ℕ × PromiseTree
-with_word kind p = (kind, p)
-
 -- the promises of a section, under the word of their type
 abbrev pub worded : (kind : List ℕ) → List Promise → List (List ℕ × PromiseTree)
-worded kind ps = map (with_word kind) (map plain_promise ps)
+worded kind ps = map (pair_with kind) (map plain_promise ps)
 
 pub one_numbered : (name kind : List ℕ) (ps : List Promise) (i : ℕ) (p : Promise) (found : Option PromiseType) (number next : ℕ) (so_far now : List Numbered) →
     i < length ps → p ≡ get_or ps i p → found ≡ promise_type kind → next ≡ number + 1 → now ≡ so_far ++ cons_option (numbered_as name next (plain_promise p) found) [] →
@@ -55,7 +53,7 @@ one_section name sections i section number next so_far now behind is counted e =
     let here = worded_promises_of (plain_section section) in
     let left = left_of (drop (i + 1) sections) in
     let first = length-map section.promises plain_promise in
-    let second = length-map (map plain_promise section.promises) (with_word section.kind) in
+    let second = length-map (map plain_promise section.promises) (pair_with section.kind) in
     let numbers : next + 1 ≡ (number + 1) + length here = omega (arith, first, second, counted) in
     ap (λ all. all ++ numbered_from name (next + 1) left) e ∙ append_assoc so_far (numbered_from name (number + 1) here) (numbered_from name (next + 1) left)
     ∙ ap (λ n. so_far ++ (numbered_from name (number + 1) here ++ numbered_from name n left)) numbers

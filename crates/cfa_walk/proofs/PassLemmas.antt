@@ -24,14 +24,10 @@ use Rattle.cfa_walk.specs.Steps.{type_level, pass_level, passes_level, reach_lev
 use Rattle.cfa_walk.specs.Tellers.{Teller}
 use Rattle.cfa_walk.specs.Views.{Setting, Home, guard_status}
 use Rattle.cfa_walk.proofs.BuiltLemmas.{calls_kept, visit_kept, promises_kept, types_kept}
-use Rattle.cfa_walk.proofs.LevelLemmas.{LevelKeeps, then_goes, each_one, ends_then, ends_stops, ends_is, ends_nothing, later_same, quiet_level}
+use Rattle.cfa_walk.proofs.LevelLemmas.{LevelKeeps, then_goes, then_same, each_one, ends_then, ends_stops, ends_is, ends_nothing, later_same, quiet_level}
 use Rattle.cfa_walk.proofs.CommonLemmas.{each_append, on_stop}
 
 -- ---- three passes
-
-then_same : (c : Course) (f g : History → Course) → ((k : History) → f k ≡ g k) → then_on c f ≡ then_on c g
-then_same (goes h) f g same = same h
-then_same (too_large h) f g same = refl
 
 three : (c : Course) (f : History → Course) → then_on c (λ k. then_on (f k) (λ m. then_on (f m) goes)) ≡ then_on (then_on c f) f
 three (goes k) f = then_same (f k) (λ m. then_on (f m) goes) f (λ m. then_goes (f m))
@@ -301,16 +297,8 @@ module _ {W X : Type 0} (teller : X → Teller) (agrees : W → X → Type 0) (b
 
 -- ---- the path of an activation
 
-pub no_path : (P : Type 0) (result : Result (Unit {0}) Stop) (stop : Stop) → IsErrAnd result (λ e. e ≡ stop) → OnOk result P
-no_path P result stop is = on_stop (λ (r : Result (Unit {0}) Stop). OnOk r P) result stop is tt
-
-pub any_path : (P : Type 0) (result : Result (Unit {0}) Stop) → P → OnOk result P
-any_path P (Ok done) holds = holds
-any_path P (Err stop) holds = tt
-
-pub path_then : (x y z : List ℕ) (result : Result (Unit {0}) Stop) → OnOk result (x ≡ y) → y ≡ z → OnOk result (x ≡ z)
-path_then x y z (Ok done) first next = first ∙ next
-path_then x y z (Err stop) first next = tt
+pub no_answer : {Y : Type 0} (P : Type 0) (result : Result Y Stop) (stop : Stop) → IsErrAnd result (λ e. e ≡ stop) → OnOk result P
+no_answer {Y} P result stop is = on_stop (λ (r : Result Y Stop). OnOk r P) result stop is tt
 
 -- ---- types that have instances
 

@@ -8,29 +8,20 @@ use Rattle.std.specs.Ordering.{nat_cmp}
 use Rattle.std.specs.Prelude.{String, IsSome, option_and_then, unwrap_or}
 use Rattle.std.specs.String.{string_bytes, string_cmp}
 use Rattle.std.specs.FinMap as finite
-use Rattle.std.specs.Option.{option_or}
 use Rattle.std.specs.Str.{bytes_eq}
-use Rattle.std.proofs.lemmas.Bool.{false≢true}
+use Rattle.std.proofs.lemmas.Bool.{and_parts}
 use Rattle.std.proofs.lemmas.Slice.Eq.{bytes_eq-Decides}
 use Rattle.cfa_base.specs.TextMaps.{TextMap, text_cmp, text_map}
 use Rattle.cfa_base.specs.lemmas.TextMaps.{get-put, get-text_map, text_map-put, same_texts}
 use Rattle.cfa_resolve.specs.declared.instances.Instance.{Instance}
 use Rattle.cfa_walk.specs.History.{is_named}
-use Rattle.cfa_walk.specs.Logs.{name_of}
+use Rattle.cfa_walk.specs.Names.{name_of}
 use Rattle.cfa_walk.specs.Places.{Places, placed, with_place, seen_at, NotesPlace, HasPlaces}
-
-option_or-none : {A : Type 0} → (o : Option A) → option_or o None ≡ o
-option_or-none None = refl
-option_or-none (Some x) = refl
-
-both_true : (b c : Bool) → (b && c) ≡ true → (b ≡ true) × (c ≡ true)
-both_true true c e = (refl, e)
-both_true false c e = (e, absurd (false≢true e))
 
 -- who is named so has this path and this key text
 named : (path text : List ℕ) (x : Instance) → is_named path text x ≡ true → (x.path ≡ path) × (x.text ≡ text)
 named path text x is =
-    let both = both_true (bytes_eq x.path path) (bytes_eq x.text text) is in
+    let both = and_parts (bytes_eq x.path path) (bytes_eq x.text text) is in
     ((bytes_eq-Decides x.path path).0 both.0, (bytes_eq-Decides x.text text).0 both.1)
 
 -- ---- a list

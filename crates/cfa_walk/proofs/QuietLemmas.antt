@@ -12,7 +12,7 @@ use Rattle.cfa_walk.specs.declared.activations.Activation.{Activation}
 use Rattle.cfa_walk.specs.Bundles.{Walk, IsClear, KeepsClear, HasQuietlyGone, QuietWalkDone, common_walk, commons_walk, passes_walk}
 use Rattle.cfa_walk.specs.Builds.{BuiltOn}
 use Rattle.cfa_walk.specs.History.{History, everywhere}
-use Rattle.cfa_walk.specs.Kept.{Keeps, Stands, IsOf, IsUntouched, SpareLocals}
+use Rattle.cfa_walk.specs.Kept.{Keeps, Stands, IsOf, IsUntouched, SpareLocals, home_of}
 use Rattle.cfa_walk.specs.Levels.{GoesTo, IsTooLarge, StandsAt, Quietly, nothing, HasQuietlyDone, QuietDone}
 use Rattle.cfa_walk.specs.Numbered.{Numbered, name_of, numbered_in, common_types}
 use Rattle.cfa_walk.specs.Passes.{Course, goes, too_large, then_on, all_calls, through_common, common_passes}
@@ -20,7 +20,7 @@ use Rattle.cfa_walk.specs.Steps.{common_type_level, common_level}
 use Rattle.cfa_walk.specs.Tellers.{Teller}
 use Rattle.cfa_walk.specs.Views.{Setting, Home}
 use Rattle.cfa_walk.proofs.BuiltLemmas.{KeepsBuilt, then_kept, each_kept, types_kept, calls_kept}
-use Rattle.cfa_walk.proofs.LevelLemmas.{built_then, goes_then, past_first, past_then, goes_weaker, then_goes, each_more, quietly_then, quiet_is, quiet_then, quiet_stops}
+use Rattle.cfa_walk.proofs.LevelLemmas.{built_then, goes_then, past_first, past_then, goes_weaker, then_last, each_more, quietly_then, quiet_is, quiet_then, quiet_stops}
 use Rattle.cfa_walk.proofs.CommonLemmas.{common_keeps, each_append}
 
 -- ---- what was built before stays so
@@ -35,6 +35,14 @@ commons_keep blocks text s t =
 
 pub twice_keeps : (blocks : List BlockTree) → WalkKeeps (λ s t h. then_on (commons_walk blocks s t h) (commons_walk blocks s t))
 twice_keeps blocks text s t h built = then_kept s text (commons_walk blocks s t h) (commons_walk blocks s t) (commons_keep blocks text s t h built) (commons_keep blocks text s t)
+
+-- ---- the home of an activation of the name of a bundle
+
+abbrev pub home_for : (name : List ℕ) → Home
+home_for name = record { path = name; bundle = name }
+
+pub home_is : (a : Activation) (name : List ℕ) → IsOf name name Yes a → home_of a ≡ home_for name
+home_is a name of = λ i. record { path = of.path i; bundle = of.bundle i }
 
 -- ---- quiet walks
 
@@ -85,58 +93,37 @@ module _ (policy : PolicyTree) where
   untouched : (h : History) (path : List ℕ) → IsClear h → IsUntouched h path
   untouched h path clear = record { statuses = clear.locals path; sources = clear.sources path; worst = clear.worst path; waits = λ s. clear.waits s path }
 
-  abbrev home_for : (name : List ℕ) → Home
-  home_for name = record { path = name; bundle = name }
+  stands_there : (block : BlockTree) (st : State) (a : Activation) → IsOf (name_of block) (name_of block) Yes a →
+      ((s : Setting) (h : History) → Keeps s st h → IsUntouched h (name_of block) → Stands s st a h) → (s : Setting) (h : History) → KeepsClear policy s st h →
+      StandsAt policy s (home_for (name_of block)) Yes st a h
+  stands_there block st a of stands s h keeps = (keeps.0, (home_is a (name_of block) of, (of.status, stands s h keeps.1.0 (untouched h (name_of block) keeps.1.1))))
 
-  home_is : (a : Activation) (name : List ℕ) → IsOf name name Yes a → record { path = a.path; bundle = a.bundle } ≡ home_for name
-  home_is a name of = λ i. record { path = of.path i; bundle = of.bundle i }
+  common_course : (block : BlockTree) (ps : List Numbered) → ps ≡ numbered_in block → (s : Setting) (t : Teller) (h : History) → s.policy ≡ policy →
+      common_level (length policy) ps s (home_for (name_of block)) t h ≡ common_walk block s t h
+  common_course block ps is s t h same =
+      ap (λ n. common_level n ps s (home_for (name_of block)) t h) (sym (ap length same)) ∙ ap (λ xs. common_level (length s.policy) xs s (home_for (name_of block)) t h) is
 
   -- the types of its promises, in an activation of it
   pub common_gone : (block : BlockTree) (ps : List Numbered) (st st' : State) (a a' : Activation) (result : Result (Unit {0}) Stop) →
       IsOf (name_of block) (name_of block) Yes a → ((s : Setting) (h : History) → Keeps s st h → IsUntouched h (name_of block) → Stands s st a h) → ps ≡ numbered_in block →
       QuietDone policy true (common_level (length policy) ps) st st' a a' result → QuietWalkDone policy (common_walk block) st st' result
   common_gone block ps st st' a a' (Ok done) of stands is does = λ s t h keeps.
-      subst (λ c. GoesTo c (λ k. KeepsClear policy s st' k × Quietly h k)) (course s t h keeps.0)
+      subst (λ c. GoesTo c (λ k. KeepsClear policy s st' k × Quietly h k)) (common_course block ps is s t h keeps.0)
       (goes_weaker (common_level (length policy) ps s (home_for (name_of block)) t h) _ _
       (λ k p. ((p.0.0, (p.0.1.1.1.0, clear_after h k keeps.1.1 p.1.1.1)), p.1.0))
-      (does s (home_for (name_of block)) Yes t h (at s h keeps)))
-    where
-      at : (s : Setting) (h : History) → KeepsClear policy s st h → StandsAt policy s (home_for (name_of block)) Yes st a h
-      at s h keeps = (keeps.0, (home_is a (name_of block) of, (of.status, stands s h keeps.1.0 (untouched h (name_of block) keeps.1.1))))
-
-      course : (s : Setting) (t : Teller) (h : History) → s.policy ≡ policy → common_level (length policy) ps s (home_for (name_of block)) t h ≡ common_walk block s t h
-      course s t h same =
-          ap (λ n. common_level n ps s (home_for (name_of block)) t h) (sym (ap length same)) ∙ ap (λ xs. common_level (length s.policy) xs s (home_for (name_of block)) t h) is
+      (does s (home_for (name_of block)) Yes t h (stands_there block st a of stands s h keeps)))
   common_gone block ps st st' a a' (Err (Outside object)) of stands is does = does
   common_gone block ps st st' a a' (Err Memory) of stands is does = tt
   common_gone block ps st st' a a' (Err Visits) of stands is does = λ s t h keeps.
-      subst (λ c. IsTooLarge c) (course s t h keeps.0) (does s (home_for (name_of block)) Yes t h (at s h keeps))
-    where
-      at : (s : Setting) (h : History) → KeepsClear policy s st h → StandsAt policy s (home_for (name_of block)) Yes st a h
-      at s h keeps = (keeps.0, (home_is a (name_of block) of, (of.status, stands s h keeps.1.0 (untouched h (name_of block) keeps.1.1))))
-
-      course : (s : Setting) (t : Teller) (h : History) → s.policy ≡ policy → common_level (length policy) ps s (home_for (name_of block)) t h ≡ common_walk block s t h
-      course s t h same =
-          ap (λ n. common_level n ps s (home_for (name_of block)) t h) (sym (ap length same)) ∙ ap (λ xs. common_level (length s.policy) xs s (home_for (name_of block)) t h) is
+      subst (λ c. IsTooLarge c) (common_course block ps is s t h keeps.0) (does s (home_for (name_of block)) Yes t h (stands_there block st a of stands s h keeps))
   common_gone block ps st st' a a' (Err (Pattern text)) of stands is does = λ s t h keeps.
-      subst (λ c. BuiltOn s c text) (course s t h keeps.0) (does s (home_for (name_of block)) Yes t h (at s h keeps))
-    where
-      at : (s : Setting) (h : History) → KeepsClear policy s st h → StandsAt policy s (home_for (name_of block)) Yes st a h
-      at s h keeps = (keeps.0, (home_is a (name_of block) of, (of.status, stands s h keeps.1.0 (untouched h (name_of block) keeps.1.1))))
-
-      course : (s : Setting) (t : Teller) (h : History) → s.policy ≡ policy → common_level (length policy) ps s (home_for (name_of block)) t h ≡ common_walk block s t h
-      course s t h same =
-          ap (λ n. common_level n ps s (home_for (name_of block)) t h) (sym (ap length same)) ∙ ap (λ xs. common_level (length s.policy) xs s (home_for (name_of block)) t h) is
+      subst (λ c. BuiltOn s c text) (common_course block ps is s t h keeps.0) (does s (home_for (name_of block)) Yes t h (stands_there block st a of stands s h keeps))
 
 -- vars, and then classes
 module _ (policy : PolicyTree) (depth : ℕ) (ps : List Numbered) where
   both_types : (s : Setting) (home : Home) (t : Teller) (h : History) →
       common_level depth ps s home t h ≡ then_on (common_type_level depth ps Vars s home t h) (common_type_level depth ps Classes s home t)
-  both_types s home t h = then_same_last (common_type_level depth ps Vars s home t h) (common_type_level depth ps Classes s home t)
-    where
-      then_same_last : (c : Course) (next : History → Course) → then_on c (λ k. then_on (next k) goes) ≡ then_on c next
-      then_same_last (goes h) next = then_goes (next h)
-      then_same_last (too_large h) next = refl
+  both_types s home t h = then_last (common_type_level depth ps Vars s home t h) (common_type_level depth ps Classes s home t)
 
   pub types_then : (st st' st'' : State) (a a' a'' : Activation) (result : Result (Unit {0}) Stop) →
       HasQuietlyDone policy true (common_type_level depth ps Vars) st st' a a' → QuietDone policy true (common_type_level depth ps Classes) st' st'' a' a'' result →
@@ -185,12 +172,8 @@ module _ (policy : PolicyTree) where
       walk_is policy (λ s t h. then_on (commons_walk blocks s t h) (λ k. then_on (commons_walk blocks s t k) (commons_walk blocks s t))) passes_walk st st' result
       (λ s t h keeps. thrice s t h ∙ ap (λ bs. then_on (commons_walk bs s t h) (λ k. then_on (commons_walk bs s t k) (commons_walk bs s t))) (ap common_bundles_of keeps.0 ∙ sym is)) does
     where
-      last : (c : Course) (next : History → Course) → then_on c (λ k. then_on (next k) goes) ≡ then_on c next
-      last (goes h) next = then_goes (next h)
-      last (too_large h) next = refl
-
       ends : (c : Course) (next : History → Course) → then_on c (λ k. then_on (next k) (λ m. then_on (next m) goes)) ≡ then_on c (λ k. then_on (next k) next)
-      ends (goes h) next = last (next h) next
+      ends (goes h) next = then_last (next h) next
       ends (too_large h) next = refl
 
       thrice : (s : Setting) (t : Teller) (h : History) →

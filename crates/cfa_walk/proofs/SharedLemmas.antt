@@ -1,12 +1,11 @@
 -- The names of the shared scopes, each of which stands once.
-use Rattle.std.proofs.Common.{◌≡◌, ℕ, ◌<◌, ◌≤◌, length, take, get_or, Bool, true, false, List, [], ◌∷◌, ◌++◌, map, Some, All, refl, sym, ap, subst, ◌∙◌, zero, suc, Bor}
+use Rattle.std.proofs.Common.{◌≡◌, ℕ, ◌<◌, ◌≤◌, length, take, get_or, Bool, true, false, List, [], ◌∷◌, ◌++◌, map, Some, refl, sym, ap, ◌∙◌, zero, suc, Bor}
 use Rattle.std.specs.Prelude.{◌||◌, if◌then◌else◌, slice_get, slice_set, option_map}
 use Rattle.std.specs.List.{list_any, Contains}
 use Rattle.std.specs.Str.{bytes_eq}
-use Rattle.std.proofs.lemmas.Bool.{false_from_ne_true, false≢true}
+use Rattle.std.proofs.lemmas.Bool.{false_from_ne_true, false≢true, or_parts, or_left, or_right}
 use Rattle.std.proofs.lemmas.List.Folds.{list_any-append, list_any_at}
 use Rattle.std.proofs.lemmas.List.{take_all}
-use Rattle.std.proofs.lemmas.List.Elements.{All-append, All-cons, All-head, All-map, All-nil, All-tail}
 use Rattle.std.proofs.lemmas.Option.{slice_get-map, slice_get_read}
 use Rattle.std.proofs.lemmas.Slice.Eq.{bytes_eq-Decides}
 use Rattle.cfa_tree.specs.declared.blocks.Bundle.{Bundle}
@@ -33,10 +32,6 @@ apart name other differ = false_from_ne_true _ (λ e. differ (is_same name other
 
 pub turned : (name other : List ℕ) → bytes_eq name other ≡ false → bytes_eq other name ≡ false
 turned name other differ = apart other name (λ e. false≢true (sym differ ∙ (bytes_eq-Decides name other).1 (sym e)))
-
-pub neither : (b c : Bool) → (b || c) ≡ false → (b ≡ false) × (c ≡ false)
-neither true c e = absurd (cc)
-neither false c e = (refl, e)
 
 -- ---- names that are joined
 
@@ -69,7 +64,7 @@ IsOnce (name ∷ names) = (is_listed names name ≡ false) × IsOnce names
 one_more : (names : List (List ℕ)) (name : List ℕ) → IsOnce names → is_listed names name ≡ false → IsOnce (names ++ name ∷ [])
 one_more [] name once new = (refl, tt)
 one_more (other ∷ names) name once new =
-    let both = neither (bytes_eq other name) (is_listed names name) new in (
+    let both = or_parts (bytes_eq other name) (is_listed names name) new in (
       list_any-append (λ n. bytes_eq n other) names (name ∷ []) ∙ ap (λ b. b || (bytes_eq name other || false)) once.0 ∙ ap (λ b. b || false) (turned other name both.0),
       one_more names name once.1 both.1,
     )
@@ -93,8 +88,8 @@ not_there : (names : List (List ℕ)) (place : ℕ) (path name : List ℕ) → s
 not_there [] place path name at new = absurd (cc)
 not_there (other ∷ names) zero path name at new =
     let is : other ≡ path = cc in
-    ap (λ n. bytes_eq n name) (sym is) ∙ (neither (bytes_eq other name) (is_listed names name) new).0
-not_there (other ∷ names) (suc place) path name at new = not_there names place path name at (neither (bytes_eq other name) (is_listed names name) new).1
+    ap (λ n. bytes_eq n name) (sym is) ∙ (or_parts (bytes_eq other name) (is_listed names name) new).0
+not_there (other ∷ names) (suc place) path name at new = not_there names place path name at (or_parts (bytes_eq other name) (is_listed names name) new).1
 
 abbrev pair : {T : Type 0} → List ℕ → T → List ℕ × T
 pair name t = (name, t)
@@ -107,7 +102,7 @@ module _ {T : Type 0} (path : List ℕ) (f g : List ℕ → T) (others : (name :
   pub as_it_was : (names : List (List ℕ)) → is_listed names path ≡ false → map (with_its g) names ≡ map (with_its f) names
   as_it_was [] new = refl
   as_it_was (name ∷ names) new =
-      let both = neither (bytes_eq name path) (is_listed names path) new in
+      let both = or_parts (bytes_eq name path) (is_listed names path) new in
       ap (λ t. pair name t ∷ map (with_its g) names) (others name (turned name path both.0))
       ∙ ap (λ rest. with_its f name ∷ rest) (as_it_was names both.1)
 
@@ -142,18 +137,10 @@ place_missing pairs items place name same past none =
 
 -- ---- which names are shared
 
-either : (b c : Bool) → b ≡ true → (b || c) ≡ true
-either true c e = refl
-either false c e = absurd (cc)
-
-or_else : (b c : Bool) → c ≡ true → (b || c) ≡ true
-or_else true c e = refl
-or_else false c e = e
-
 still_listed : (found : Bool) (names : List (List ℕ)) (other name : List ℕ) → is_listed names name ≡ true → is_listed (if found then names else names ++ other ∷ []) name ≡ true
 still_listed true names other name listed = listed
 still_listed false names other name listed =
-    list_any-append (λ n. bytes_eq n name) names (other ∷ []) ∙ either (is_listed names name) (bytes_eq other name || false) listed
+    list_any-append (λ n. bytes_eq n name) names (other ∷ []) ∙ or_left (is_listed names name) (bytes_eq other name || false) listed
 
 now_listed : (found : Bool) (names : List (List ℕ)) (name : List ℕ) → is_listed names name ≡ found → is_listed (if found then names else names ++ name ∷ []) name ≡ true
 now_listed true names name e = e
@@ -176,11 +163,11 @@ joined_listed names (other ∷ more) name listed =
     ] refl listed
 
 in_front : (xs ys : List (List ℕ)) (name : List ℕ) → is_listed xs name ≡ true → is_listed (xs ++ ys) name ≡ true
-in_front xs ys name listed = list_any-append (λ n. bytes_eq n name) xs ys ∙ either (is_listed xs name) (is_listed ys name) listed
+in_front xs ys name listed = list_any-append (λ n. bytes_eq n name) xs ys ∙ or_left (is_listed xs name) (is_listed ys name) listed
 
 behind_it : (xs ys : List (List ℕ)) (name : List ℕ) → is_listed ys name ≡ true → is_listed (xs ++ ys) name ≡ true
 behind_it [] ys name listed = listed
-behind_it (x ∷ xs) ys name listed = or_else (bytes_eq x name) (is_listed (xs ++ ys) name) (behind_it xs ys name listed)
+behind_it (x ∷ xs) ys name listed = or_right (bytes_eq x name) (is_listed (xs ++ ys) name) (behind_it xs ys name listed)
 
 -- the bundles of the sequence are shared, and the common bundles
 pub sequence_is_shared : (policy : PolicyTree) (name : List ℕ) → Contains (sequence_of policy) name → is_listed (shared_names policy) name ≡ true
@@ -197,31 +184,3 @@ commons_are_shared policy block has =
     (in_front (map name_of (common_bundles_of policy)) (sequence_of policy) (name_of block)
     (listed_map name_of (common_bundles_of policy) (name_of block)
     ∙ list_any_at (λ b. bytes_eq (name_of b) (name_of block)) (common_bundles_of policy) has.0 block has.1 (ap (λ b. bytes_eq (name_of b) (name_of block)) has.2 ∙ same_name (name_of block))))
-
--- what holds for the names of the common bundles and for those of the sequence holds for each shared name, so a path for which
--- it doesn't hold isn't shared
-module _ (Holds : List ℕ → Type 0) where
-  all_added : (found : Bool) (names : List (List ℕ)) (name : List ℕ) → All Holds names → Holds name → All Holds (if found then names else names ++ name ∷ [])
-  all_added true names name all here = all
-  all_added false names name all here = All-append Holds names (name ∷ []) all (All-cons Holds name [] here (All-nil Holds))
-
-  all_joined : (names more : List (List ℕ)) → All Holds names → All Holds more → All Holds (joined_once names more)
-  all_joined names [] all next = all
-  all_joined names (name ∷ more) all next =
-      all_joined (if is_listed names name then names else names ++ name ∷ []) more
-      (all_added (is_listed names name) names name all (All-head Holds name more next)) (All-tail Holds name more next)
-
-  not_listed : (names : List (List ℕ)) (path : List ℕ) → All Holds names → (Holds path → ⊥) → is_listed names path ≡ false
-  not_listed [] path all never = refl
-  not_listed (name ∷ names) path all never =
-      ap (λ b. b || is_listed names path) (apart name path (λ same. never (subst Holds same (All-head Holds name names all))))
-      ∙ not_listed names path (All-tail Holds name names all) never
-
-  pub is_unshared : (policy : PolicyTree) → All (λ block. Holds (name_of block)) (common_bundles_of policy) → All Holds (sequence_of policy) →
-      (path : List ℕ) → (Holds path → ⊥) → is_listed (shared_names policy) path ≡ false
-  unfolding shared_names
-  is_unshared policy commons sequence path never =
-      not_listed (joined_once [] (map name_of (common_bundles_of policy) ++ sequence_of policy)) path
-      (all_joined [] (map name_of (common_bundles_of policy) ++ sequence_of policy) (All-nil Holds)
-      (All-append Holds (map name_of (common_bundles_of policy)) (sequence_of policy) (All-map Holds name_of (common_bundles_of policy) commons) sequence))
-      never

@@ -1,5 +1,5 @@
 -- What is local to a path is spared by each event of another path.
-use Rattle.std.proofs.Common.{◌≡◌, ℕ, ◌≤◌, ◌<◌, Bool, false, List, [], ◌∷◌, length, Option, refl, ap, ◌∙◌, arith}
+use Rattle.std.proofs.Common.{◌≡◌, ℕ, ◌≤◌, ◌<◌, Bool, true, false, List, [], ◌∷◌, length, Option, refl, ap, ◌∙◌, arith}
 use Rattle.std.specs.Prelude.{◌&&◌}
 use Rattle.std.specs.List.{Contains}
 use Rattle.std.specs.Str.{bytes_eq}
@@ -11,24 +11,19 @@ use Rattle.cfa_outcomes.specs.declared.outcomes.Outcome.{Outcome}
 use Rattle.cfa_resolve.specs.declared.instances.Instance.{Instance}
 use Rattle.cfa_vars.specs.declared.scoping.Datum.{Datum}
 use Rattle.cfa_walk.specs.declared.activations.Activation.{Activation}
-use Rattle.cfa_walk.specs.History.{History, Home, Begun, Set, Raised, Reached, Listed, Told, everywhere, within, scope_in, locally, local_source}
+use Rattle.cfa_walk.specs.History.{History, Home, Begun, Set, Raised, Reached, Listed, Told, everywhere, within, locally, local_source}
 use Rattle.cfa_walk.specs.Kept.{KeepsLocally, SpareShorter, SpareLocals, IsUntouched}
+use Rattle.cfa_walk.specs.Levels.{SpareIf}
 use Rattle.cfa_walk.specs.Numbered.{Numbered}
 use Rattle.cfa_walk.specs.Tellers.{worst_in, inner_path}
 use Rattle.cfa_walk.specs.Views.{Setting}
 use Rattle.cfa_walk.proofs.SharedLemmas.{apart}
 use Rattle.cfa_walk.proofs.WaitLemmas.{IsIdle, waits_idle, waits_elsewhere, waits_begun}
-use Rattle.cfa_walk.proofs.LocalLemmas.{local_same}
+use Rattle.cfa_walk.proofs.LocalLemmas.{other_begun, other_set, local_same}
 
 -- ---- events of one path, at another
 
 module _ (h : History) (at path : List ℕ) (differ : bytes_eq at path ≡ false) where
-  pub scope_begun : (given : List Datum) → scope_in (Begun at given ∷ h) path ≡ scope_in h path
-  scope_begun given = rw (differ, scope_in) refl
-
-  pub scope_set : (name : List ℕ) (datum : Datum) → scope_in (Set at name datum ∷ h) path ≡ scope_in h path
-  scope_set name datum = rw (differ, scope_in) refl
-
   pub locally_begun : (given : List Datum) (class : List ℕ) → locally (Begun at given ∷ h) path class ≡ locally h path class
   locally_begun given class = rw (differ, locally) refl
 
@@ -55,10 +50,10 @@ module _ (s : Setting) (a : Activation) (h : History) where
   pub local_begun_elsewhere : (at : List ℕ) (given : List Datum) → bytes_eq at a.path ≡ false → KeepsLocally s a h → KeepsLocally s a (Begun at given ∷ h)
   local_begun_elsewhere at given differ =
       local_same s a h (Begun at given ∷ h) (locally_begun h at a.path differ given) (source_begun h at a.path differ given)
-      (worst_begun h at a.path differ given) (waits_begun s h at given a.path differ) (scope_begun h at a.path differ given)
+      (worst_begun h at a.path differ given) (waits_begun s h at given a.path differ) (other_begun at given h a.path differ)
 
   pub local_set_elsewhere : (at name : List ℕ) (datum : Datum) → bytes_eq at a.path ≡ false → KeepsLocally s a h → KeepsLocally s a (Set at name datum ∷ h)
-  local_set_elsewhere at name datum differ = local_same s a h (Set at name datum ∷ h) (λ _. refl) (λ _. refl) refl refl (scope_set h at a.path differ name datum)
+  local_set_elsewhere at name datum differ = local_same s a h (Set at name datum ∷ h) (λ _. refl) (λ _. refl) refl refl (other_set at name datum h a.path differ)
 
   pub local_raised_elsewhere : (at class : List ℕ) (status : Status) (source : Option PromiseId) → bytes_eq at a.path ≡ false →
       KeepsLocally s a h → KeepsLocally s a (Raised (within at) class status source ∷ h)
@@ -107,7 +102,7 @@ module _ (bound : ℕ) (h : History) where
     sources = λ path class short. source_begun h at path (other at path long short) given class;
     worst = λ path short. worst_begun h at path (other at path long short) given;
     waits = λ s path short. waits_begun s h at given path (other at path long short);
-    scopes = λ path short. scope_begun h at path (other at path long short) given;
+    scopes = λ path short. other_begun at given h path (other at path long short);
   }
 
   pub spare_set : (at name : List ℕ) (datum : Datum) → bound ≤ length at → SpareShorter bound h (Set at name datum ∷ h)
@@ -116,7 +111,7 @@ module _ (bound : ℕ) (h : History) where
     sources = λ path class short. refl;
     worst = λ path short. refl;
     waits = λ s path short. refl;
-    scopes = λ path short. scope_set h at path (other at path long short) name datum;
+    scopes = λ path short. other_set at name datum h path (other at path long short);
   }
 
   pub spare_raised_within : (at class : List ℕ) (status : Status) (source : Option PromiseId) → bound ≤ length at → SpareShorter bound h (Raised (within at) class status source ∷ h)
@@ -171,6 +166,14 @@ locals_then h k l first next = record {
   worst = λ path. next.worst path ∙ first.worst path;
   waits = λ s path. next.waits s path ∙ first.waits s path;
 }
+
+pub spare_if : (is_common : Bool) (h k : History) → SpareLocals h k → SpareIf is_common h k
+spare_if true h k spares = spares
+spare_if false h k spares = tt
+
+pub spare_if_then : (is_common : Bool) (h k l : History) → SpareIf is_common h k → SpareIf is_common k l → SpareIf is_common h l
+spare_if_then true h k l first next = locals_then h k l first next
+spare_if_then false h k l first next = tt
 
 pub locals_set : (h : History) (at name : List ℕ) (datum : Datum) → SpareLocals h (Set at name datum ∷ h)
 locals_set h at name datum = record { locals = λ path class. refl; sources = λ path class. refl; worst = λ path. refl; waits = λ s path. refl }

@@ -1,6 +1,7 @@
 -- What instances wait for stays so over each event of another path, and over promises that have no instances.
-use Rattle.std.proofs.Common.{◌≡◌, ℕ, Bool, true, false, cond, List, [], ◌∷◌, ◌++◌, Option, Some, None, ◌⊎◌, inl, inr, refl, sym, ap, subst, ◌∙◌}
+use Rattle.std.proofs.Common.{◌≡◌, ℕ, Bool, true, false, cond, List, [], ◌∷◌, ◌++◌, Option, Some, None, ◌⊎◌, inl, inr, refl, sym, ap, subst, ◌∙◌, append-nil}
 use Rattle.std.specs.Prelude.{◌&&◌}
+use Rattle.std.proofs.Math.Bool.{and-false}
 use Rattle.std.specs.Str.{bytes_eq}
 use Rattle.cfa_base.specs.TextMaps.{TextMap, text_cmp}
 use Rattle.cfa_classes.specs.declared.levels.Status.{Status}
@@ -22,11 +23,7 @@ use Rattle.std.specs.Cmp.Lexicographic.{nat_list_cmp_total}
 use Rattle.std.proofs.lemmas.Map.Text.{is_eq-slice_cmp}
 use Rattle.cfa_base.specs.lemmas.TextMaps.{get-put}
 use Rattle.cfa_walk.proofs.SharedLemmas.{same_name}
-use Rattle.cfa_walk.specs.lemmas.Found.{same_bytes}
-
-and_false : (b : Bool) → (b && false) ≡ false
-and_false true = refl
-and_false false = refl
+use Rattle.cfa_walk.specs.lemmas.Names.{same_bytes}
 
 -- ---- promises that are reached
 
@@ -45,7 +42,7 @@ module _ (s : Setting) (home : Home) (p : Numbered) (sets : Bool) (visits : ℕ)
   waits_idle guard (inr idle) = waits_skip guard (ap (λ (b : Bool). b && bytes_eq home.path path) idle)
 
   pub waits_elsewhere : (guard : Status) → bytes_eq home.path path ≡ false → waits_in s (Reached home p guard sets visits ∷ h) path ≡ waits_in s h path
-  waits_elsewhere guard differ = waits_skip guard (ap (λ (b : Bool). is_acting p.type && b) differ ∙ and_false (is_acting p.type))
+  waits_elsewhere guard differ = waits_skip guard (ap (λ (b : Bool). is_acting p.type && b) differ ∙ and-false (is_acting p.type))
 
 here : {acting : Bool} (path : List ℕ) → acting ≡ true → (acting && bytes_eq path path) ≡ true
 here path is = ap (λ (b : Bool). b && bytes_eq path path) is ∙ same_name path
@@ -123,13 +120,9 @@ log_listed s h instance status (Some rows) first waits is same keeps = (
 
 -- ---- what is unsettled
 
-pub append_none : (xs : List Blame) → xs ++ [] ≡ xs
-append_none [] = refl
-append_none (x ∷ xs) = ap (λ (ys : List Blame). x ∷ ys) (append_none xs)
-
 pub logged_none : (log : Option Rows) → logged_blames [] log ≡ log
 logged_none None = refl
-logged_none (Some rows) = ap (λ (x : List Blame). Some (rows.0, rows.1, x)) (append_none rows.2)
+logged_none (Some rows) = ap (λ (x : List Blame). Some (rows.0, rows.1, x)) (append-nil rows.2)
 
 pub log_reached : (s : Setting) (h : History) (home : Home) (p : Numbered) (guard : Status) (sets : Bool) (visits : ℕ) (log : Option Rows) (blames : List Blame) →
     blames ≡ own_unsettled s h home p guard sets ++ edits_unsettled s h home p guard → KeepsLog s log h → KeepsLog s (logged_blames blames log) (Reached home p guard sets visits ∷ h)

@@ -1,5 +1,5 @@
 -- Bundles of the sequence one after the other, and the whole run.
-use Rattle.std.proofs.Common.{◌≡◌, ◌∙◌, ℕ, List, [], ◌∷◌, ◌++◌, length, IsTrue, IsErrAnd, Option, Some, None, refl, ap, sym, subst}
+use Rattle.std.proofs.Common.{◌≡◌, ◌∙◌, ℕ, List, [], ◌∷◌, ◌++◌, length, IsTrue, Option, Some, None, refl, ap, sym, subst}
 use Rattle.std.specs.Prelude.{Result, Ok, Err}
 use Rattle.cfa_base.specs.Shown.{Shown}
 use Rattle.cfa_classes.specs.declared.levels.Status.TheVariants.{Yes}
@@ -15,16 +15,16 @@ use Rattle.cfa_walk.specs.declared.activations.Activation.{Activation}
 use Rattle.cfa_walk.specs.Bundles.{Walk, IsClear, HasQuietlyGone, QuietWalkDone, passes_walk, HasGone, WalkDone, WalkEnds, agent_walk, sequence_walk, bundle_walk}
 use Rattle.cfa_walk.specs.Builds.{BuiltOn}
 use Rattle.cfa_walk.specs.History.{History, Event, Begun, within}
-use Rattle.cfa_walk.specs.Kept.{Keeps, Stands, IsOf, home_of}
+use Rattle.cfa_walk.specs.Kept.{Keeps, Stands, IsOf}
 use Rattle.cfa_walk.specs.Levels.{GoesTo, IsTooLarge, is_quiet, Faults, FaultsAre, StandsAt, LevelDone, done_of}
 use Rattle.cfa_walk.specs.Numbered.{Numbered, name_of, numbered_in, params_of}
 use Rattle.cfa_walk.specs.Passes.{goes, then_on, passes, calls_of, all_calls, bind, by_type, in_sequence, type_of_block, run}
 use Rattle.cfa_walk.specs.Steps.{passes_level}
 use Rattle.cfa_walk.specs.Tellers.{Teller}
-use Rattle.cfa_walk.specs.Views.{Setting, Home}
+use Rattle.cfa_walk.specs.Views.{Setting}
 use Rattle.cfa_walk.specs.Walked.{HasRun, HasRunTo}
 use Rattle.cfa_walk.proofs.BuiltLemmas.{KeepsBuilt, then_kept, each_kept, calls_kept, activation_kept}
-use Rattle.cfa_walk.proofs.QuietLemmas.{WalkKeeps}
+use Rattle.cfa_walk.proofs.QuietLemmas.{WalkKeeps, home_for, home_is}
 use Rattle.cfa_walk.proofs.LevelLemmas.{built_then, goes_then, past_first, past_then, goes_weaker, each_more, quietly_behind, later_same, faults_then, patterns_then}
 use Rattle.cfa_walk.proofs.CommonLemmas.{each_append}
 
@@ -103,12 +103,6 @@ module _ {W X : Type 0} (teller : X → Teller) (agrees : W → X → Type 0) (b
 bind_none : (path : List ℕ) (params : List NamedTree) (h : History) → bind path params [] h ≡ h
 bind_none path [] h = refl
 bind_none path (p ∷ params) h = refl
-
-abbrev home_for : (name : List ℕ) → Home
-home_for name = record { path = name; bundle = name }
-
-home_is : (a : Activation) (name : List ℕ) → IsOf name name Yes a → home_of a ≡ home_for name
-home_is a name of = λ i. record { path = of.path i; bundle = of.bundle i }
 
 -- an activation of it, by its passes
 agent_course : (policy : PolicyTree) (name : List ℕ) (block : BlockTree) (ps : List Numbered) (depth : ℕ) (s : Setting) (t : Teller) (h : History) →
@@ -265,11 +259,6 @@ module _ {W X : Type 0} (teller : X → Teller) (agrees : W → X → Type 0) (b
   run_alone w' (Err Memory) ran = tt
   run_alone w' (Err Visits) ran = ran
   run_alone w' (Err (Pattern text)) ran = ran
-
--- what the exit of a `?` answers
-pub on_stopped : (P : Result State Stop → Type 0) (result : Result State Stop) (stop : Stop) → IsErrAnd result (λ e. e ≡ stop) → P (Err stop) → P result
-on_stopped P (Ok done) stop same stopped = absurd same
-on_stopped P (Err e) stop same stopped = subst (λ (x : Stop). P (Err x)) (sym same) stopped
 
 -- nothing was told yet
 pub quiet_stop : (policy : PolicyTree) (walk : Walk) (st st' : State) (stop : Stop) (faults : Faults) → QuietWalkDone policy walk st st' (Err stop) → FaultsAre faults faults (Err stop)

@@ -6,6 +6,8 @@ pub mod Tellers
 pub mod Views
 pub mod Settings
 pub mod Kept
+pub mod Later
+pub mod Remembered
 pub mod SeenNumbered
 pub mod Levels
 pub mod Steps
@@ -14,6 +16,7 @@ pub mod Walked
 pub mod Facts
 pub mod Bundles
 pub mod Waits
+pub mod Names
 pub mod Logs
 pub mod Places
 pub mod LogRows

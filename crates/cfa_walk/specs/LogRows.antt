@@ -6,7 +6,7 @@ use Rattle.cfa_walk.specs.declared.logs.Row.{Row}
 use Rattle.cfa_walk.specs.declared.logs.RowOf.{RowOf}
 use Rattle.cfa_walk.specs.declared.logs.RowOf.TheVariants.{Placed, Named}
 use Rattle.cfa_walk.specs.declared.walks.Visit.{Visit}
-use Rattle.cfa_walk.specs.Logs.{name_of}
+use Rattle.cfa_walk.specs.Names.{name_of}
 use Rattle.cfa_walk.specs.Places.{seen_at}
 use Rattle.cfa_walk.specs.Walks.{visit_of}
 

@@ -1,5 +1,5 @@
 -- Of the code alone: what is kept of a walk while it is made: the instances, the visits, and what is unsettled, so far.
-use Rattle.std.specs.Prelude.{ℕ, Bool, true, false, List, [], ◌∷◌, ◌++◌, map, Option, Some, None}
+use Rattle.std.specs.Prelude.{Bool, true, false, List, [], ◌∷◌, ◌++◌, map, Option, Some, None}
 use Rattle.cfa_resolve.specs.declared.instances.Instance.{Instance}
 use Rattle.cfa_walk.specs.declared.logs.Listing.{Listing}
 use Rattle.cfa_classes.specs.declared.levels.Status.{Status}
@@ -31,10 +31,6 @@ with_blames blames rows = (rows.0, rows.1, rows.2 ++ blames)
 abbrev pub logged_blames : List Blame → Option Rows → Option Rows
 logged_blames blames None = None
 logged_blames blames (Some rows) = Some (with_blames blames rows)
-
--- the path and the key text of an instance
-abbrev pub name_of : Instance → List ℕ × List ℕ
-name_of instance = (instance.path, instance.text)
 
 abbrev pub walk_of : Rows → Walk
 walk_of rows = record { instances = rows.0; visits = map (visit_of rows.0) rows.1; unsettled = rows.2 }

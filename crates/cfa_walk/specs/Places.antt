@@ -4,7 +4,7 @@ use Rattle.std.specs.Coded.{Coded, coded_list, coded_ℕ}
 use Rattle.std.specs.FinMap as finite
 use Rattle.cfa_base.specs.TextMaps.{TextMap}
 use Rattle.cfa_resolve.specs.declared.instances.Instance.{Instance}
-use Rattle.cfa_walk.specs.Logs.{name_of}
+use Rattle.cfa_walk.specs.Names.{name_of}
 
 abbrev pub Places : Type 0
 Places = TextMap (TextMap ℕ)

@@ -5,6 +5,7 @@ use Rattle.cfa_schema.specs.Laws.{IsCounted}
 use Rattle.cfa_resolve.specs.declared.instances.Resolved.{Resolved}
 use Rattle.cfa_resolve.specs.Resolution.{resolution}
 use Rattle.cfa_walk.specs.declared.activations.Activation.{Activation}
+use Rattle.cfa_walk.specs.declared.remembering.Found.{Found}
 use Rattle.cfa_output.specs.declared.ends.Stop.{Stop}
 use Rattle.cfa_output.specs.declared.ends.Stop.TheVariants.{Outside, Memory, Visits, Pattern}
 use Rattle.cfa_classes.specs.declared.levels.Status.{Status}
@@ -108,6 +109,11 @@ resolution_at s home p h =
 
 abbrev pub reached_event : Home → Numbered → (guard : Status) → Resolved → History → History
 reached_event home p guard resolved h = Reached home p guard false resolved.visits ∷ h
+
+-- the instances among what was found out
+abbrev pub instances_of : Result Found Stop → Result (List Instance) Stop
+instances_of (Ok found) = Ok found.resolved.instances
+instances_of (Err stop) = Err stop
 
 -- the visits of a promise were counted, and these are its instances
 module _ (policy : PolicyTree) (p : Numbered) (guard : Status) where

@@ -10,9 +10,12 @@ ghost use Rattle.cfa_resolve.specs.Resolution.{is_listed};
 ghost use Rattle.cfa_walk.specs.declared.states.State.{State};
 ghost use Rattle.cfa_walk.specs.History.{History, Begun, Set, Raised, Told, within, source_in};
 ghost use Rattle.cfa_walk.specs.Kept.{Keeps, KeepsLocally, Stands, IsSame, IsOf, IsFresh, IsUntouched, home_of, scope_at};
+ghost use Rattle.cfa_walk.specs.Later.{AreLater, IsLaterHere};
+ghost use Rattle.cfa_walk.specs.Remembered.{guard_value, scopes_now};
 ghost use Rattle.cfa_walk.specs.Tellers.{outcomes_in, worse, worst, inner_path};
 ghost use Rattle.cfa_walk.specs.Views.{Setting, scopes_in, guard_status, shared_names};
 
+use crate::changing::{is_raised, is_set_to, one_more};
 use crate::states::State;
 use crate::tellers::Ending;
 use crate::waits::Wait;
@@ -25,8 +28,8 @@ use cfa_vars::{Datum, Scope, Scopes};
 use std::alloc::Global;
 
 /// An activation: its path and its bundle, the status that it was called with, its local classes, the worst outcome of its
-/// instances so far, what the instances of the promise that was reached last wait for, and the place of its scope among the
-/// shared ones, or a scope of its own.
+/// instances so far, what the instances of the promise that was reached last wait for, the place of its scope among the
+/// shared ones, or a scope of its own, and how many changes of its local classes and of that scope there were.
 #[derive(Drop)]
 pub(crate) struct Activation {
     pub path: Name,
@@ -37,6 +40,7 @@ pub(crate) struct Activation {
     pub waits: Option<Wait>,
     pub place: Option<usize>,
     pub own: Scope,
+    pub changes: u64,
 }
 
 // The scope of an activation.
@@ -55,8 +59,9 @@ fn own_scope<'a>(state: &'a State, activation: &'a Activation) -> &'a Scope
 
 /// What the texts of an activation's promises may refer to.
 pub(crate) fn scopes_of<'a>(state: &'a State, activation: &'a Activation) -> Scopes<'a>
-    ensures { (s : Setting) (h : History) → Stands s state.now activation.now h
+    ensures kept { (s : Setting) (h : History) → Stands s state.now activation.now h
         → in_scope result ≡ scopes_in s h (home_of activation.now) }
+    ensures now { in_scope result ≡ scopes_now state.now activation.now }
 {
     Scopes {
         own: own_scope(state, activation),
@@ -92,13 +97,22 @@ pub(crate) fn set_variable(
     ensures stands { OnOk result ((s : Setting) (h : History)
         → Stands s state.old activation.old h
         → Stands s state.new activation.new (Set activation.old.path name datum ∷ h)) }
+    ensures later { OnOk result (AreLater state.old state.new activation.old activation.new) }
 {
+    if is_set_to(own_scope(state, activation), &name, &datum) {
+        return Ok(());
+    }
     match activation.place {
-        None => activation.own.set(name, datum)?,
+        None => {
+            activation.changes = one_more(activation.changes)?;
+            activation.own.set(name, datum)?;
+        }
         Some(place) => {
             if place < state.shared.len() {
+                state.changes = one_more(state.changes)?;
                 set_shared(&mut state.shared, place, name, datum)?;
             } else {
+                activation.changes = one_more(activation.changes)?;
                 activation.own.set(name, datum)?;
             }
         }
@@ -128,6 +142,7 @@ impl Activation {
             waits: None,
             place,
             own: Scope::new(alloc),
+            changes: 0,
         })
     }
 
@@ -206,7 +221,12 @@ impl Activation {
         ensures same { OnOk result (IsSame self.old self.new) }
         ensures keeps { OnOk result ((s : Setting) (h : History) → KeepsLocally s self.old h
             → KeepsLocally s self.new (Raised (within self.old.path) class to source ∷ h)) }
+        ensures later { OnOk result (IsLaterHere self.old self.new) }
     {
+        if is_raised(&self.local, &class, to, &source) {
+            return Ok(());
+        }
+        self.changes = one_more(self.changes)?;
         self.local.raise(class, to, source)?;
         Ok(())
     }
@@ -217,6 +237,7 @@ impl Activation {
         ensures keeps { (s : Setting) (h : History) (instance : Instance)
             → instance.path ≡ self.old.path → KeepsLocally s self.old h
             → KeepsLocally s self.new (Told instance (outcomes_in ending) ∷ h) }
+        ensures later { IsLaterHere self.old self.new }
     {
         self.worst = worse(worst_of(ending), self.worst);
     }
@@ -254,8 +275,10 @@ pub(crate) fn inner_path(alloc: Global, instance: &Instance) -> Result<Name, NoM
 
 /// The status of a guard in an activation.
 pub(crate) fn guard_status(state: &State, activation: &Activation, guard: &Option<Guard>) -> Status
-    ensures { (s : Setting) (h : History) → Stands s state.now activation.now h
+    ensures kept { (s : Setting) (h : History) → Stands s state.now activation.now h
         → result ≡ guard_status s h activation.now.path (option_map plain_expr guard.now) }
+    ensures now { result ≡ guard_value (option_map plain_expr guard.now)
+        state.now.environment.statuses activation.now.local.statuses }
 {
     match guard {
         None => Status::Yes,

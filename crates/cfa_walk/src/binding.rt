@@ -3,6 +3,7 @@ ghost use Rattle.std.specs.Prelude.{OnOk, map};
 ghost use Rattle.cfa_tree.specs.Plain.{plain_named};
 ghost use Rattle.cfa_walk.specs.History.{History};
 ghost use Rattle.cfa_walk.specs.Kept.{Stands, IsSame};
+ghost use Rattle.cfa_walk.specs.Later.{AreLater};
 ghost use Rattle.cfa_walk.specs.Passes.{bind};
 ghost use Rattle.cfa_walk.specs.Views.{Setting};
 
@@ -27,6 +28,7 @@ pub(crate) fn bind(
         → Stands s state.old activation.old h
         → Stands s state.new activation.new
         (bind activation.old.path (map plain_named params.now) given.now h)) }
+    ensures later { OnOk result (AreLater state.old state.new activation.old activation.new) }
 {
     for (place, param) in params.iter().enumerate() {
         if place >= given.len() {

@@ -1,45 +1,58 @@
 // The instances of a promise that is reached.
-ghost use Rattle.std.specs.Prelude.{◌≡◌, ◌≢◌, All, IfOk, IsTrue, OnOk};
-ghost use Rattle.cfa_resolve.specs.Resolution.{is_acting};
+ghost use Rattle.std.specs.Prelude.{◌≡◌, ◌≢◌, ◌≤◌, ◌<◌, All, IfOk, IsErrOf, IsTrue, OnOk};
+ghost use Rattle.cfa_base.specs.Patterns.{SizeRefusal};
+ghost use Rattle.cfa_resolve.specs.Resolution.{is_acting, IsBuiltFor};
+ghost use Rattle.cfa_resolve.specs.Viewed.{too_big_in};
 ghost use Rattle.cfa_schema.specs.Laws.{IsCounted};
 ghost use Rattle.cfa_schema.specs.Seen.{tree_of};
+ghost use Rattle.cfa_walk.specs.Later.{AreLater};
 ghost use Rattle.cfa_walk.specs.Levels.{PatternsAre, done_of};
+ghost use Rattle.cfa_walk.specs.Remembered.{ResolutionHolds, RowHolds, reached_now, resolution_now};
 ghost use Rattle.cfa_walk.specs.SeenNumbered.{seen_numbered};
-ghost use Rattle.cfa_walk.specs.Steps.{IsAt, Counts};
+ghost use Rattle.cfa_walk.specs.Steps.{IsAt, Counts, instances_of};
 
 use crate::activations::{Activation, scopes_of};
 use crate::numbered::Numbered;
+use crate::remembering::{Found, moment_of, still_found};
 use crate::states::State;
 use crate::waits::waits_of;
 use cfa_base::Patterns;
 use cfa_classes::Status;
 use cfa_output::Stop;
-use cfa_resolve::{
-    FoundPromise, Instances, ResolveErr, View, instances_are_named, resolve_promise,
-};
+use cfa_resolve::{FoundPromise, ResolveErr, Resolved, View, instances_are_named, resolve_promise};
 use cfa_schema::Checked;
 use std::alloc::Global;
 
-/// The instances of a promise that is reached with this status of its guard; its visits are counted.
-pub(crate) fn count_instances<P: Patterns>(
+// What a promise resolves to, where it counts no more visits than are left.
+fn resolve_now<P: Patterns>(
     alloc: Global,
     checked: &Checked,
     promise: &Numbered<'_>,
-    guard: Status,
-    state: &mut State,
-    activation: &mut Activation,
+    kept: Option<Found>,
+    state: &State,
+    activation: &Activation,
     pats: &mut P,
-) -> Result<Instances, Stop>
+) -> Result<Resolved, ResolveErr>
     requires acting { IsTrue (is_acting promise.now.promise_type) }
-    requires id { IsCounted promise.now.id }
-    requires set { guard ≢ Status.No }
-    ensures counted { Counts (tree_of checked.now) (seen_numbered promise.now) guard
-        state.old state.new activation.old activation.new result }
-    ensures at { IfOk result (λ instances. All (IsAt activation.old.path) instances) }
-    ensures path { OnOk result (activation.new.path ≡ activation.old.path) }
-    ensures patterns { PatternsAre (done_of result) (P.shown pats.old) (P.shown pats.new) }
+    requires kept { RowHolds (tree_of checked.now) (seen_numbered promise.now) kept
+        state.now activation.now }
+    ensures resolved { IfOk result (λ r. r
+        ≡ resolution_now (tree_of checked.now) (seen_numbered promise.now)
+        state.now activation.now) }
+    ensures within { IfOk result (λ r. r.visits ≤ state.now.left) }
+    ensures too_large { IsErrOf result ResolveErr.TooLarge → state.now.left
+        < (resolution_now (tree_of checked.now) (seen_numbered promise.now)
+        state.now activation.now).visits }
+    ensures sizes { SizeRefusal (IsBuiltFor (reached_now (tree_of checked.now)
+        (seen_numbered promise.now) state.now activation.now))
+        (too_big_in result) (P.shown pats.old) (P.shown pats.new) }
 {
-    let waits = waits_of(alloc, promise.promise, guard, state, activation)?;
+    if let Some(resolved) = still_found(kept, state, activation) {
+        if resolved.visits > state.left {
+            return Err(ResolveErr::TooLarge);
+        }
+        return Ok(resolved);
+    }
     let found = FoundPromise {
         id: &promise.id,
         promise_type: promise.promise_type,
@@ -50,14 +63,45 @@ pub(crate) fn count_instances<P: Patterns>(
         statuses: state.environment.statuses(),
         path: &activation.path,
     };
-    let left = state.left;
+    resolve_promise(alloc, checked, &found, &view, state.left, pats)
+}
+
+/// What a promise resolves to that is reached with this status of its guard; its visits are counted. It isn't resolved again
+/// where it was before and nothing has changed since.
+pub(crate) fn count_instances<P: Patterns>(
+    alloc: Global,
+    checked: &Checked,
+    promise: &Numbered<'_>,
+    guard: Status,
+    kept: Option<Found>,
+    state: &mut State,
+    activation: &mut Activation,
+    pats: &mut P,
+) -> Result<Found, Stop>
+    requires acting { IsTrue (is_acting promise.now.promise_type) }
+    requires id { IsCounted promise.now.id }
+    requires set { guard ≢ Status.No }
+    requires kept { RowHolds (tree_of checked.now) (seen_numbered promise.now) kept
+        state.old activation.old }
+    ensures counted { Counts (tree_of checked.now) (seen_numbered promise.now) guard
+        state.old state.new activation.old activation.new (instances_of result) }
+    ensures at { IfOk result (λ found.
+        All (IsAt activation.old.path) found.resolved.instances) }
+    ensures path { OnOk result (activation.new.path ≡ activation.old.path) }
+    ensures later { OnOk result (AreLater state.old state.new activation.old activation.new) }
+    ensures holds { IfOk result (λ found. ResolutionHolds (tree_of checked.now)
+        (seen_numbered promise.now) found state.new activation.new) }
+    ensures patterns { PatternsAre (done_of result) (P.shown pats.old) (P.shown pats.new) }
+{
+    let waits = waits_of(alloc, promise.promise, guard, state, activation)?;
+    let moment = moment_of(state, activation);
     instances_are_named();
-    match resolve_promise(alloc, checked, &found, &view, left, pats) {
+    match resolve_now(alloc, checked, promise, kept, state, activation, pats) {
         Ok(resolved) => {
             state.left -= resolved.visits;
             state.log_edits(alloc, resolved.unsettled.as_slice())?;
             activation.waits = waits;
-            Ok(resolved.instances)
+            Ok(Found { moment, resolved })
         }
         Err(ResolveErr::TooLarge) => Err(Stop::Visits),
         Err(ResolveErr::PatternTooBig(text)) => Err(Stop::Pattern(text)),

@@ -12,6 +12,7 @@ ghost use Rattle.cfa_tree.specs.Tree.{PolicyTree};
 ghost use Rattle.cfa_vars.specs.Scopes.{in_scope};
 ghost use Rattle.cfa_walk.specs.History.{History, source_in};
 ghost use Rattle.cfa_walk.specs.Kept.{Stands, IsSame, home_of};
+ghost use Rattle.cfa_walk.specs.Later.{AreLater, IsLater};
 ghost use Rattle.cfa_walk.specs.Levels.{QuietDone, PatternsAre};
 ghost use Rattle.cfa_walk.specs.Logs.{logged_blames};
 ghost use Rattle.cfa_walk.specs.Passes.{handed, set_each};
@@ -48,6 +49,7 @@ pub(crate) fn pass_over(
         (idle_level (seen_numbered promise.now))
         state.old state.new activation.now activation.now result }
     ensures patterns { (pats : Shown (List (List ℕ))) → PatternsAre result pats pats }
+    ensures later { OnOk result (IsLater state.old state.new) }
 {
     if state.count(1) {
         Ok(())
@@ -68,6 +70,7 @@ fn set_each(
     ensures stands { OnOk result ((s : Setting) (h : History)
         → Stands s state.old activation.old h
         → Stands s state.new activation.new (set_each activation.old.path name.now given.items h)) }
+    ensures later { OnOk result (AreLater state.old state.new activation.old activation.new) }
 {
     for datum in given {
         set_variable(state, activation, name.copy(alloc)?, datum)?;
@@ -99,6 +102,7 @@ pub(crate) fn reach_vars(
         state.old state.new activation.old activation.new result }
     ensures patterns { (pats : Shown (List (List ℕ))) → PatternsAre result pats pats }
     ensures path { OnOk result (activation.new.path ≡ activation.old.path) }
+    ensures later { OnOk result (AreLater state.old state.new activation.old activation.new) }
 {
     let scopes = scopes_of(state, activation);
     let choices = setting_choices(alloc, PromiseType::Vars, promise.promise, &scopes)?;
@@ -259,6 +263,7 @@ fn raise_one(
         → Stands s state.old activation.old h
         → Stands s state.new activation.new
         (raise_handed (place_of is_common (home_of activation.old)) (handed ∷ []) h)) }
+    ensures later { OnOk result (AreLater state.old state.new activation.old activation.new) }
 {
     if is_common {
         state.raise(handed.class, handed.to, handed.source)
@@ -278,6 +283,7 @@ fn raise_each(
         → Stands s state.old activation.old h
         → Stands s state.new activation.new
         (raise_handed (place_of is_common (home_of activation.old)) handed.items h)) }
+    ensures later { OnOk result (AreLater state.old state.new activation.old activation.new) }
 {
     for one in handed {
         raise_one(one, is_common, state, activation)?;
@@ -303,6 +309,7 @@ pub(crate) fn reach_classes<P: Patterns>(
         state.old state.new activation.old activation.new result }
     ensures patterns { PatternsAre result (P.shown pats.old) (P.shown pats.new) }
     ensures path { OnOk result (activation.new.path ≡ activation.old.path) }
+    ensures later { OnOk result (AreLater state.old state.new activation.old activation.new) }
 {
     let scopes = scopes_of(state, activation);
     let choices = setting_choices(alloc, PromiseType::Classes, promise.promise, &scopes)?;

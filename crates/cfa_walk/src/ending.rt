@@ -4,6 +4,7 @@ ghost use Rattle.cfa_walk.specs.History.{History};
 ghost use Rattle.cfa_walk.specs.Kept.{Keeps};
 ghost use Rattle.cfa_resolve.specs.declared.instances.Instance.{Instance as AnyInstance};
 ghost use Rattle.cfa_walk.specs.Ending.{raise_ending};
+ghost use Rattle.cfa_walk.specs.Later.{IsLater};
 ghost use Rattle.cfa_walk.specs.Passes.{classes_for, in_every_list, raise_each, raised_to, visit_status};
 ghost use Rattle.cfa_walk.specs.Views.{Setting};
 
@@ -34,8 +35,10 @@ fn raise_outcome(
     status: Status,
     state: &mut State,
 ) -> Result<(), NoMemory>
-    ensures { OnOk result ((s : Setting) (h : History) → Keeps s state.old h → Keeps s state.new
-        (raise_each instance.now (outcome ∷ []) status (classes_for instance.now outcome) h)) }
+    ensures keeps { OnOk result ((s : Setting) (h : History) → Keeps s state.old h
+        → Keeps s state.new (raise_each instance.now (outcome ∷ []) status
+        (classes_for instance.now outcome) h)) }
+    ensures later { OnOk result (IsLater state.old state.new) }
 {
     for class in classes_for(instance, outcome).as_slice() {
         let source = copy_id(alloc, &instance.source)?;
@@ -82,8 +85,10 @@ fn raise_classes(
 ) -> Result<(), NoMemory>
     requires kept { kept.now ≡ instance.now.kept }
     requires repaired { repaired.now ≡ instance.now.repaired }
-    ensures { OnOk result ((s : Setting) (h : History) → Keeps s state.old h → Keeps s state.new
-        (raise_each instance.now (Outcome.Kept ∷ (Outcome.Repaired ∷ [])) status classes.now h)) }
+    ensures keeps { OnOk result ((s : Setting) (h : History) → Keeps s state.old h
+        → Keeps s state.new (raise_each instance.now (Outcome.Kept ∷ (Outcome.Repaired ∷ []))
+        status classes.now h)) }
+    ensures later { OnOk result (IsLater state.old state.new) }
 {
     for class in classes.as_slice() {
         let to = raised_to(kept, repaired, class, status);
@@ -100,8 +105,9 @@ fn raise_both(
     status: Status,
     state: &mut State,
 ) -> Result<(), NoMemory>
-    ensures { OnOk result ((s : Setting) (h : History) → Keeps s state.old h → Keeps s state.new
-        (raise_ending instance.now Ending.KeptOrRepaired status h)) }
+    ensures keeps { OnOk result ((s : Setting) (h : History) → Keeps s state.old h
+        → Keeps s state.new (raise_ending instance.now Ending.KeptOrRepaired status h)) }
+    ensures later { OnOk result (IsLater state.old state.new) }
 {
     let (kept, repaired) = (&instance.kept, &instance.repaired);
     let in_kept = indexed(alloc, kept)?;
@@ -126,8 +132,9 @@ pub(crate) fn raise_ending(
     status: Status,
     state: &mut State,
 ) -> Result<(), NoMemory>
-    ensures { OnOk result ((s : Setting) (h : History) → Keeps s state.old h → Keeps s state.new
-        (raise_ending instance.now ending status h)) }
+    ensures keeps { OnOk result ((s : Setting) (h : History) → Keeps s state.old h
+        → Keeps s state.new (raise_ending instance.now ending status h)) }
+    ensures later { OnOk result (IsLater state.old state.new) }
 {
     match ending {
         Ending::One(outcome) => raise_outcome(alloc, instance, outcome, status, state),

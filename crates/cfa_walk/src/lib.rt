@@ -3,6 +3,7 @@
 
 mod activations;
 mod binding;
+mod changing;
 mod contexts;
 mod counting;
 mod defining;
@@ -13,17 +14,20 @@ mod logs;
 mod numbered;
 mod passing;
 mod register;
+mod remembering;
 mod scenes;
 mod shared_names;
 mod states;
 mod tellers;
+mod visiting;
 mod waits;
 mod walking;
 mod walks;
 
 pub use contexts::Context;
 pub use listing::{Telling, walk};
+pub use logs::names_of;
 pub use states::MOST_VISITS;
 pub use tellers::{Ending, Teller};
 pub use walking::run;
-pub use walks::{Blame, Blames, Visit, Visits, Walk, WalkErr};
+pub use walks::{Blame, Visit, Walk, WalkErr};

@@ -1,15 +1,16 @@
 // What is kept of a walk while it is made.
 ghost use Rattle.std.specs.Prelude.{◌≡◌, ◌∷◌, [], IfOk, OnOk, OnErr, map, option_copied};
 ghost use Rattle.cfa_walk.specs.LogRows.{IsOf, name_at, visit_at};
-ghost use Rattle.cfa_walk.specs.Logs.{with_visit, with_blames, name_of, walk_of};
+ghost use Rattle.cfa_walk.specs.Logs.{with_visit, with_blames, walk_of};
+ghost use Rattle.cfa_walk.specs.Names.{names_of};
 ghost use Rattle.cfa_walk.specs.Walks.{blame_for, blame_by, place_among, with_first};
 
 use crate::register::{Register, short};
 use crate::waits::Wait;
-use crate::walks::{Blame, Blames, Visit, Visits, Walk};
-use cfa_base::{Name, NoMemory, PairIndex, PromiseId};
+use crate::walks::{Blame, Visit, Walk};
+use cfa_base::{Name, NoMemory, PairIndex, Parts, PromiseId};
 use cfa_classes::Status;
-use cfa_resolve::{Instance, Instances, copy_id};
+use cfa_resolve::{Instance, copy_id};
 use std::alloc::Global;
 use std::marker::Model;
 
@@ -159,9 +160,9 @@ impl Log {
 
 // ---- the walk
 
-// The paths and key texts of instances.
-fn names_of<'a>(alloc: Global, instances: &'a [Instance]) -> Result<PairIndex<'a>, NoMemory>
-    ensures { IfOk result (λ names. names ≡ map name_of instances.entry.now) }
+/// The paths and key texts of instances.
+pub fn names_of<'a>(alloc: Global, instances: &'a [Instance]) -> Result<PairIndex<'a>, NoMemory>
+    ensures { IfOk result (λ names. names ≡ names_of instances.entry.now) }
 {
     let mut names = PairIndex::new(alloc);
     for instance in instances {
@@ -186,7 +187,7 @@ fn name_at<'a>(instances: &'a [Instance], of: &'a RowOf) -> (&'a str, &'a str)
 
 // The first place of the names of a visit, or 0.
 fn place_of(names: &PairIndex<'_>, instances: &[Instance], of: &RowOf) -> usize
-    requires { names.now ≡ map name_of instances.now }
+    requires { names.now ≡ names_of instances.now }
     ensures { result ≡ place_among instances.now (name_at instances.now of.now).0
         (name_at instances.now of.now).1 }
 {
@@ -195,7 +196,7 @@ fn place_of(names: &PairIndex<'_>, instances: &[Instance], of: &RowOf) -> usize
 }
 
 fn visit_at(names: &PairIndex<'_>, instances: &[Instance], row: Row) -> Result<Visit, NoMemory>
-    requires { names.now ≡ map name_of instances.now }
+    requires { names.now ≡ names_of instances.now }
     ensures { IfOk result (λ visit. visit ≡ visit_at instances.now row) }
 {
     let instance = short(place_of(names, instances, &row.of))?;
@@ -206,7 +207,11 @@ fn visit_at(names: &PairIndex<'_>, instances: &[Instance], row: Row) -> Result<V
     })
 }
 
-fn visits_at(alloc: Global, instances: &[Instance], rows: Vec<Row>) -> Result<Visits, NoMemory>
+fn visits_at(
+    alloc: Global,
+    instances: &[Instance],
+    rows: Vec<Row>,
+) -> Result<Parts<Visit>, NoMemory>
     ensures { IfOk result (λ visits. visits ≡ map (visit_at instances.now) rows.items) }
 {
     let names = names_of(alloc, instances)?;
@@ -214,7 +219,7 @@ fn visits_at(alloc: Global, instances: &[Instance], rows: Vec<Row>) -> Result<Vi
     for row in rows {
         visits.push(visit_at(&names, instances, row)?)?;
     }
-    Ok(Visits::from_vec(visits))
+    Ok(Parts::from_vec(visits))
 }
 
 /// The walk of a log: each visit has the place of its instance.
@@ -226,8 +231,8 @@ pub(crate) fn walk_of(alloc: Global, log: Log) -> Result<Walk, NoMemory>
     let unsettled = log.unsettled;
     let visits = visits_at(alloc, instances.as_slice(), rows)?;
     Ok(Walk {
-        instances: Instances::from_vec(instances.into_vec()),
+        instances: Parts::from_vec(instances.into_vec()),
         visits,
-        unsettled: Blames::from_vec(unsettled),
+        unsettled: Parts::from_vec(unsettled),
     })
 }

@@ -1,7 +1,7 @@
 // The instances that were listed, and where those stand that may be visited again.
 ghost use Rattle.std.specs.Prelude.{◌≡◌, [], ◌∷◌, ◌++◌, Some, IfOk, IfSome, OnOk, OnErr};
 ghost use Rattle.std.specs.FinMap as finite;
-ghost use Rattle.cfa_walk.specs.Logs.{name_of};
+ghost use Rattle.cfa_walk.specs.Names.{name_of};
 ghost use Rattle.cfa_walk.specs.Places.{placed, with_place, seen_at, NotesPlace};
 
 use cfa_base::{Name, NoMemory, TextMap};

@@ -9,12 +9,14 @@ ghost use Rattle.cfa_resolve.specs.Resolution.{is_listed};
 ghost use Rattle.cfa_walk.specs.History.{History, Raised, Listed, everywhere};
 ghost use Rattle.cfa_outcomes.specs.Environments.{mark_of, source_of};
 ghost use Rattle.cfa_walk.specs.Kept.{Keeps, first, wait_at};
+ghost use Rattle.cfa_walk.specs.Later.{IsLater};
 ghost use Rattle.cfa_walk.specs.Logs.{first_log, logged_blames, logged_visit};
 ghost use Rattle.cfa_walk.specs.Views.{Setting, shared_names};
 ghost use Rattle.cfa_walk.specs.Waits.{is_call, is_call_to, is_unvisited, waits_in};
 ghost use Rattle.cfa_walk.specs.Walks.{blame_edit};
 
 use crate::activations::inner_path;
+use crate::changing::{is_raised, one_more};
 use crate::logs::{Log, blame_for};
 use crate::shared_names::shared_names;
 use crate::waits::{Wait, copy_wait, wait_on};
@@ -32,7 +34,7 @@ pub const MOST_VISITS: u64 = 1000000;
 
 /// The statuses and sources of global classes with the marks of instances, the scopes that may be referred to from
 /// everywhere, how many visits are left, what the first visits of calls waited for by the paths of their bundles, where
-/// any did, and what a walk lists, where one is asked for.
+/// any did, what a walk lists, where one is asked for, and how many changes of the statuses and the scopes there were.
 #[derive(Drop)]
 pub(crate) struct State {
     pub environment: Environment,
@@ -40,6 +42,7 @@ pub(crate) struct State {
     pub left: u64,
     pub calls: Option<TextMap<Wait>>,
     pub log: Option<Log>,
+    pub changes: u64,
 }
 
 // An empty scope under each name.
@@ -162,8 +165,9 @@ impl State {
         classes: &Names,
         is_logged: bool,
     ) -> Result<State, NoMemory>
-        ensures { IfOk result (λ state.
+        ensures keeps { IfOk result (λ state.
             Keeps (record { policy = tree_of checked.now; classes = classes.now }) state []) }
+        ensures log { IfOk result (λ state. state.log ≡ first_log is_logged) }
     {
         let names = shared_names(alloc, checked)?;
         Ok(State {
@@ -172,6 +176,7 @@ impl State {
             left: MOST_VISITS,
             calls: None,
             log: first_log(alloc, is_logged),
+            changes: 0,
         })
     }
 
@@ -197,9 +202,14 @@ impl State {
         to: Status,
         source: Option<PromiseId>,
     ) -> Result<(), NoMemory>
-        ensures { OnOk result ((s : Setting) (h : History) → Keeps s self.old h
+        ensures keeps { OnOk result ((s : Setting) (h : History) → Keeps s self.old h
             → Keeps s self.new (Raised everywhere class to source ∷ h)) }
+        ensures later { OnOk result (IsLater self.old self.new) }
     {
+        if is_raised(&self.environment, &class, to, &source) {
+            return Ok(());
+        }
+        self.changes = one_more(self.changes)?;
         self.environment.raise(class, to, source)?;
         Ok(())
     }
@@ -215,9 +225,10 @@ impl State {
     ) -> Result<(), NoMemory>
         requires { mark
             ≡ mark_of self.old.environment instance.now.path instance.now.text }
-        ensures { OnOk result ((s : Setting) (h : History)
+        ensures keeps { OnOk result ((s : Setting) (h : History)
             → option_copied waits.entry ≡ waits_in s h instance.now.path → Keeps s self.old h
             → Keeps s self.new (Listed instance.now status ∷ h)) }
+        ensures later { OnOk result (IsLater self.old self.new) }
     {
         let is_first = is_unvisited(mark);
         keep_wait(alloc, &mut self.calls, instance, is_first, waits)?;

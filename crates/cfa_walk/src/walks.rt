@@ -1,10 +1,9 @@
 // What a walk of a policy came to: the instances that it lists, its visits, and its unsettled promises.
 ghost use Rattle.std.specs.Prelude.{◌≡◌};
 
-use cfa_base::{Name, NoMemory, PromiseId};
+use cfa_base::{Name, NoMemory, Parts, PromiseId};
 use cfa_classes::Status;
-use cfa_resolve::Instances;
-use std::marker::Model;
+use cfa_resolve::Instance;
 use thiserror::Error;
 
 /// Why something may come or not: a class may be set or not, as this promise may be repaired or not.
@@ -29,77 +28,15 @@ pub struct Visit {
     pub blame: Option<Blame>,
 }
 
-/// Visits, in the order in which they are listed.
-#[derive(Drop)]
-pub struct Visits {
-    items: Vec<Visit>,
-}
-
-impl Model for Visits {
-    ghost use Rattle.std.specs.Prelude.{List};
-    ghost use Rattle.cfa_walk.specs.declared.walks.Visit.{Visit};
-
-    ghost Value = { List Visit };
-
-    ghost view = { λ v. v.items.items };
-}
-
-impl Visits {
-    /// The visits of a `Vec`, without taking memory.
-    pub fn from_vec(items: Vec<Visit>) -> Visits
-        ensures { result ≡ items.items }
-    {
-        Visits { items }
-    }
-
-    /// The visits, without taking memory.
-    pub fn as_slice(&self) -> &[Visit]
-        ensures { result.now ≡ self.now }
-    {
-        self.items.as_slice()
-    }
-}
-
-/// What is to blame, in the order in which it is met.
-#[derive(Drop)]
-pub struct Blames {
-    items: Vec<Blame>,
-}
-
-impl Model for Blames {
-    ghost use Rattle.std.specs.Prelude.{List};
-    ghost use Rattle.cfa_walk.specs.declared.walks.Blame.{Blame};
-
-    ghost Value = { List Blame };
-
-    ghost view = { λ b. b.items.items };
-}
-
-impl Blames {
-    /// What a `Vec` blames, without taking memory.
-    pub fn from_vec(items: Vec<Blame>) -> Blames
-        ensures { result ≡ items.items }
-    {
-        Blames { items }
-    }
-
-    /// What is to blame, without taking memory.
-    pub fn as_slice(&self) -> &[Blame]
-        ensures { result.now ≡ self.now }
-    {
-        self.items.as_slice()
-    }
-}
-
 /// What a walk of a policy lists.
 #[derive(Drop)]
 pub struct Walk {
     /// The instances, in the order of their first visits.
-    pub instances: Instances,
+    pub instances: Parts<Instance>,
     /// The visits, in their order.
-    pub visits: Visits,
+    pub visits: Parts<Visit>,
     /// The promises that set a variable or edit lines and whose guards may hold or not, in the order in which they are reached.
-    pub unsettled: Blames,
+    pub unsettled: Parts<Blame>,
 }
 
 /// Why a policy was not walked.

@@ -148,14 +148,14 @@ failed main:2@1 F10 BadValue
 repaired main:3@1 1
 total kept 0 repaired 1 failed 2 skipped 0
 settled: no (failed)
-== a pattern that is refused for its size in each walk of the analysis, which builds it in each pass, and in mid-run
+== a pattern that is refused for its size in each walk of the analysis, and in mid-run: each builds it once, since nothing changes
 + file /t a
 bundle agent main { files: '/a' create => 'true'; '/t' edit_line => change('a', 'b'); '/b' create => 'true'; }
 $ 6 run a.cf -K ?1
 stopped: pattern
-$ 6 run a.cf -K ?4
+$ 6 run a.cf -K ?2
 stopped: pattern
-$ 6 run a.cf -K ?7
+$ 6 run a.cf -K ?3
 > append run 1704103200
 > append open 1 main:1@1 |main 1;create /a;k=;r=;f=;e=1|
 > file /a=

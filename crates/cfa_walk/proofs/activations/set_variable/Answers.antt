@@ -1,5 +1,8 @@
-use Rattle.std.proofs.Common.{arith}
-use Rattle.cfa_walk.proofs.ActivationLemmas.{stands_set_own, stands_set_shared, never_past}
+use Rattle.std.proofs.Common.{◌∙◌, ap, arith, sym}
+use Rattle.cfa_vars.specs.Named.{thing_at}
+use Rattle.cfa_vars.specs.Scopes.{Table}
+use Rattle.cfa_walk.proofs.ActivationLemmas.{stands_again, stands_set_own, stands_set_shared, never_past}
+use Rattle.cfa_walk.proofs.LaterLemmas.{are_same}
 use Rattle.cfa_walk.proofs.activations.set_variable.Goals as goal
 
 pub returns-in_ok-set-in-None-clause-stands : goal.returns-in_ok-set-in-None-clause-stands
@@ -17,3 +20,11 @@ pub returns-in_ok-set-in-Some-clause-stands : goal.returns-in_ok-set-in-Some-cla
 returns-in_ok-set-in-Some-clause-stands c =
     λ s h stands.
     absurd (never_past s c.args.state.now c.args.activation.now h c.in-Some.place c.in-Some.is (omega arith) stands)
+
+pub returns-then-is_set_to-clause-stands : goal.returns-then-is_set_to-clause-stands
+returns-then-is_set_to-clause-stands c =
+    λ s h stands.
+    stands_again s c.args.state.now c.args.activation.now h c.args.name c.args.datum (ap (λ (t : Table). thing_at t c.args.name) (sym c.own_scope.ensures) ∙ c.is_set_to.ensures c.if-is_set_to.true) stands
+
+pub returns-then-is_set_to-clause-later : goal.returns-then-is_set_to-clause-later
+returns-then-is_set_to-clause-later c = are_same c.args.state.now c.args.activation.now

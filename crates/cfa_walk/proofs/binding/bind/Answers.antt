@@ -5,6 +5,7 @@ use Rattle.cfa_walk.specs.Kept.{Stands}
 use Rattle.cfa_walk.specs.Passes.{bind}
 use Rattle.cfa_walk.proofs.DefiningLemmas.{same_then}
 use Rattle.cfa_walk.proofs.EndingLemmas.{bound_one_more, bind_past}
+use Rattle.cfa_walk.proofs.LaterLemmas.{are_then}
 use Rattle.cfa_walk.proofs.binding.bind.Goals as goal
 
 pub loop-place-preserved : goal.loop-place-preserved
@@ -15,10 +16,13 @@ loop-place-preserved c =
     let start = c.args.activation.now in
     let now = c.loop-place.activation in
     let after = c.set_variable.new.activation in
-    let same = c.loop-place.invariant.0 in
+    let same = c.loop-place.invariant.0.0 in
     let within : place < length params = omega arith in
     let few : place < length given = omega arith in (
-      same_then start now after same c.in_ok-set_variable.ensures.same,
+      (
+        same_then start now after same c.in_ok-set_variable.ensures.same,
+        are_then c.args.state.now c.loop-place.state c.set_variable.new.state start now after c.loop-place.invariant.0.1 c.in_ok-set_variable.ensures.later,
+      ),
       λ s h stands.
           bound_one_more s c.set_variable.new.state start now after params given place c.index-params-place.result c.in_ok-copy.field-0 c.index-given-place.result c.in_ok-datum.datum h
           same within few c.index-params-place.is c.index-given-place.is c.in_ok-copy.ensures c.in_ok-datum.ensures

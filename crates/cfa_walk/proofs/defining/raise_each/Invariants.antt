@@ -2,12 +2,13 @@ use Rattle.cfa_walk.specs.History.{History}
 use Rattle.cfa_walk.specs.Kept.{Stands, IsSame, home_of}
 use Rattle.cfa_walk.specs.Raising.{raise_handed}
 use Rattle.cfa_walk.specs.Steps.{place_of}
+use Rattle.cfa_walk.specs.Later.{AreLater}
 use Rattle.cfa_walk.specs.Views.{Setting}
 use Rattle.cfa_walk.proofs.defining.raise_each.Given as goal
 
 -- it is the same activation, and what was raised so far was raised
 abbrev pub invariant-loop-one : goal.invariant-loop-one
 invariant-loop-one l =
-    IsSame l.fn.activation l.activation
+    (IsSame l.fn.activation l.activation × AreLater l.fn.state l.state l.fn.activation l.activation)
     × ((s : Setting) (h : History) → Stands s l.fn.state l.fn.activation h
     → Stands s l.state l.activation (raise_handed (place_of l.is_common (home_of l.fn.activation)) l.yielded h))

@@ -1,11 +1,12 @@
 use Rattle.cfa_walk.specs.History.{History}
 use Rattle.cfa_walk.specs.Kept.{Stands, IsSame}
 use Rattle.cfa_walk.specs.Passes.{set_each}
+use Rattle.cfa_walk.specs.Later.{AreLater}
 use Rattle.cfa_walk.specs.Views.{Setting}
 use Rattle.cfa_walk.proofs.defining.set_each.Given as goal
 
 -- it is the same activation, and what was set so far was set
 abbrev pub invariant-loop-datum : goal.invariant-loop-datum
 invariant-loop-datum l =
-    IsSame l.fn.activation l.activation
+    (IsSame l.fn.activation l.activation × AreLater l.fn.state l.state l.fn.activation l.activation)
     × ((s : Setting) (h : History) → Stands s l.fn.state l.fn.activation h → Stands s l.state l.activation (set_each l.fn.activation.path l.name l.yielded h))

@@ -2,6 +2,7 @@ use Rattle.std.proofs.Common.{[], ◌∷◌, take}
 use Rattle.cfa_outcomes.specs.declared.outcomes.Outcome.TheVariants.{Kept, Repaired}
 use Rattle.cfa_walk.specs.History.{History}
 use Rattle.cfa_walk.specs.Kept.{Keeps}
+use Rattle.cfa_walk.specs.Later.{IsLater}
 use Rattle.cfa_walk.specs.Passes.{raise_each}
 use Rattle.cfa_walk.specs.Views.{Setting}
 use Rattle.cfa_walk.proofs.ending.raise_classes.Given as goal
@@ -9,5 +10,6 @@ use Rattle.cfa_walk.proofs.ending.raise_classes.Given as goal
 -- the classes so far were raised
 abbrev pub invariant-loop-class : goal.invariant-loop-class
 invariant-loop-class l =
-    (s : Setting) (h : History) → Keeps s l.fn.state h →
-    Keeps s l.state (raise_each l.instance (Kept ∷ (Repaired ∷ [])) l.status (take l.class-index l.class-items) h)
+    ((s : Setting) (h : History) → Keeps s l.fn.state h →
+    Keeps s l.state (raise_each l.instance (Kept ∷ (Repaired ∷ [])) l.status (take l.class-index l.class-items) h))
+    × IsLater l.fn.state l.state

@@ -1,7 +1,7 @@
 use Rattle.std.proofs.Common.{ℕ, List, Option, map, unwrap_or, ap, ◌∙◌}
 use Rattle.cfa_base.specs.Index.{pair_place_of}
 use Rattle.cfa_walk.specs.LogRows.{name_at}
-use Rattle.cfa_walk.specs.Logs.{name_of}
+use Rattle.cfa_walk.specs.Names.{name_of}
 use Rattle.cfa_walk.proofs.IndexLemmas.{place_is}
 use Rattle.cfa_walk.proofs.logs.place_of.Goals as goal
 

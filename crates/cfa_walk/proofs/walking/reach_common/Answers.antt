@@ -19,7 +19,7 @@ pub returns-then-eq-clause-done : goal.returns-then-eq-clause-done
 returns-then-eq-clause-done g c = λ policy depth.
     let p = seen_numbered c.args.promise.now in
     let same = types_agree p.type c.args.promise_type (flipped _ c.if-ne.ensures) in
-    common_unset policy c.args.state.now c.args.activation.now p c.guard_status-guard.result c.guard_status-guard.ensures depth c.args.promise_type
+    common_unset policy c.args.state.now c.args.activation.now p c.guard_status-guard.result c.guard_status-guard.ensures.kept depth c.args.promise_type
     c.pass_over.new.state c.args.activation.now c.pass_over.result (is_same_type c.args.promise_type p.type same)
     (statuses_agree c.guard_status-guard.result No c.if-eq.ensures) (c.pass_over.ensures.done policy true)
 
@@ -30,7 +30,7 @@ pub returns-then-eq-2-clause-done : goal.returns-then-eq-2-clause-done
 returns-then-eq-2-clause-done g c = λ policy depth.
     let p = seen_numbered c.args.promise.now in
     let same = types_agree p.type c.args.promise_type (flipped _ c.if-ne.ensures) in
-    common_vars policy c.args.state.now c.args.activation.now p c.guard_status-guard.result c.guard_status-guard.ensures depth c.args.promise_type
+    common_vars policy c.args.state.now c.args.activation.now p c.guard_status-guard.result c.guard_status-guard.ensures.kept depth c.args.promise_type
     c.reach_vars.new.state c.reach_vars.new.activation c.reach_vars.result (is_same_type c.args.promise_type p.type same)
     (same ∙ types_agree c.args.promise_type Vars c.if-eq-2.ensures) (statuses_differ c.guard_status-guard.result No c.if-eq.ensures)
     (c.reach_vars.ensures.done policy true)
@@ -42,7 +42,7 @@ pub returns-clause-done : goal.returns-clause-done
 returns-clause-done g c = λ policy depth.
     let p = seen_numbered c.args.promise.now in
     let same = types_agree p.type c.args.promise_type (flipped _ c.if-ne.ensures) in
-    common_classes policy c.args.state.now c.args.activation.now p c.guard_status-guard.result c.guard_status-guard.ensures depth c.args.promise_type
+    common_classes policy c.args.state.now c.args.activation.now p c.guard_status-guard.result c.guard_status-guard.ensures.kept depth c.args.promise_type
     c.reach_classes.new.state c.reach_classes.new.activation c.reach_classes.result (is_same_type c.args.promise_type p.type same)
     (same ∙ other_is_classes c.args.promise_type c.requires.common (types_differ c.args.promise_type Vars c.if-eq-2.ensures))
     (statuses_differ c.guard_status-guard.result No c.if-eq.ensures) (c.reach_classes.ensures.done policy)

@@ -6,6 +6,7 @@ use Rattle.cfa_walk.specs.History.{History, Begun}
 use Rattle.cfa_walk.specs.Kept.{Keeps, Stands, IsOf}
 use Rattle.cfa_walk.specs.Views.{Setting}
 use Rattle.cfa_walk.specs.Numbered.{numbered_in}
+use Rattle.cfa_walk.specs.Remembered.{GuardsRepeat}
 use Rattle.cfa_walk.specs.SeenNumbered.{seen_numbered}
 use Rattle.cfa_walk.specs.Steps.{AreCounted}
 use Rattle.cfa_walk.proofs.CommonLemmas.{of_some}
@@ -16,7 +17,7 @@ use Rattle.cfa_walk.proofs.walking.through_bundle.Goals as goal
 pub go_through-requires-clause-ids : goal.go_through-requires-clause-ids
 go_through-requires-clause-ids g c =
     let block = seen_bundle c.args.bundle.now in
-    let is : map seen_numbered c.as_slice-promises.result.now ≡ numbered_in block = ap (map seen_numbered) c.as_slice-promises.ensures.value ∙ c.in_ok-numbered-in-Some.ensures in
+    let is : map seen_numbered c.as_slice-promises.result.now ≡ numbered_in block = ap (map seen_numbered) c.as_slice-promises.ensures.value ∙ c.in_ok-numbered-in-Some.ensures.promises in
     subst AreCounted (sym is) (c.ids_are_counted.ensures c.args.name.now block c.requires.found)
 
 pub returns-in_ok-numbered-in-Some : goal.returns-in_ok-numbered-in-Some
@@ -25,7 +26,7 @@ returns-in_ok-numbered-in-Some g c =
     let name = c.args.name.now in
     let block = seen_bundle c.args.bundle.now in
     let ps = map seen_numbered c.as_slice-promises.result.now in
-    let is : ps ≡ numbered_in block = ap (map seen_numbered) c.as_slice-promises.ensures.value ∙ c.in_ok-numbered-in-Some.ensures in
+    let is : ps ≡ numbered_in block = ap (map seen_numbered) c.as_slice-promises.ensures.value ∙ c.in_ok-numbered-in-Some.ensures.promises in
     let a = c.in-Some.made in (
       agent_gone g.T.Teller.teller g.T.Teller.agrees g.T.Teller.behind policy name block ps c.args.scene.now.depth
           (found_name policy name block c.requires.found) is c.requires.depth (c.args.teller.now, (c.args.site.now, c.args.out.now))
@@ -36,3 +37,6 @@ returns-in_ok-numbered-in-Some g c =
           c.in_ok-of_sequence.ensures.stands) c.go_through.ensures.ends.0,
       c.go_through.ensures.ends.1,
     )
+
+pub go_through-requires-clause-guards : goal.go_through-requires-clause-guards
+go_through-requires-clause-guards g c = subst GuardsRepeat (sym c.as_slice-promises.ensures.value) c.in_ok-numbered-in-Some.ensures.guards

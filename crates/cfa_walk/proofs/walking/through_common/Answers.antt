@@ -24,7 +24,7 @@ returns-in_err-reach_common_type-in-Some-clause-done g c = λ policy shared.
     on_stop (λ result. QuietWalkDone policy (common_walk block) st st' result) back.result stop back.ensures.1
     (common_gone policy block ps st st' a a' (Err stop) (of_some (IsOf name name Yes) c.in_ok-of_common.field-0 a c.in-Some.is c.in_ok-of_common.ensures.is_of)
     (of_some (λ m. (s : Setting) (h : History) → Keeps s st h → IsUntouched h name → Stands s st m h) c.in_ok-of_common.field-0 a c.in-Some.is c.in_ok-of_common.ensures.stands)
-    (ap (map seen_numbered) c.as_slice-promises.ensures.value ∙ c.in_ok-numbered-in-Some.ensures)
+    (ap (map seen_numbered) c.as_slice-promises.ensures.value ∙ c.in_ok-numbered-in-Some.ensures.promises)
     (types_stop policy (length policy) ps st st' a a' stop (c.in_err-reach_common_type-in-Some.ensures.done policy (length policy))))
 
 pub returns-in_ok-reach_common_type-in-Some-clause-done : goal.returns-in_ok-reach_common_type-in-Some-clause-done
@@ -42,6 +42,6 @@ returns-in_ok-reach_common_type-in-Some-clause-done g c = λ policy shared.
     let depth = length policy in
     common_gone policy block ps st st'' a a'' result (of_some (IsOf name name Yes) c.in_ok-of_common.field-0 a c.in-Some.is c.in_ok-of_common.ensures.is_of)
     (of_some (λ m. (s : Setting) (h : History) → Keeps s st h → IsUntouched h name → Stands s st m h) c.in_ok-of_common.field-0 a c.in-Some.is c.in_ok-of_common.ensures.stands)
-    (ap (map seen_numbered) c.as_slice-promises.ensures.value ∙ c.in_ok-numbered-in-Some.ensures)
+    (ap (map seen_numbered) c.as_slice-promises.ensures.value ∙ c.in_ok-numbered-in-Some.ensures.promises)
     (types_then policy depth ps st st' st'' a a' a'' result (c.in_ok-reach_common_type-in-Some.ensures.done policy depth)
     (c.reach_common_type-in-Some.ensures.done policy depth))

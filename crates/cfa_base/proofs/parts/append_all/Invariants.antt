@@ -1,5 +1,5 @@
 use Rattle.std.proofs.Common.{◌≡◌, ◌++◌}
-use Rattle.cfa_scripts.proofs.appending.append_all.Given as goal
+use Rattle.cfa_base.proofs.parts.append_all.Given as goal
 
 abbrev pub invariant-loop-item : goal.invariant-loop-item
 invariant-loop-item g l = l.items.items ≡ l.initial.items.items ++ l.yielded
