@@ -3,6 +3,7 @@ pub mod Boundaries
 pub mod EndPlaces
 pub mod Escapes
 pub mod Fronts
+pub mod Lists
 pub mod Scanning
 pub mod Spelled
 pub mod Taking

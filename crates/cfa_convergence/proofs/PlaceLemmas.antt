@@ -1,8 +1,8 @@
--- The places of elements in lists, and lists that are empty.
+-- The places of elements in lists.
 use Rattle.std.proofs.Common.{◌≡◌, suc, ◌+◌, ◌<◌, Bool, true, false, not, List, [], ◌∷◌, ◌++◌, length, Some, None, refl, ap, arith, cond}
 use Rattle.std.proofs.lemmas.Bool.{lt-ltb, or_left}
 use Rattle.std.specs.Prelude.{◌||◌, unwrap_or}
-use Rattle.std.specs.List.{AllByRecursion as Each, flat_map, list_any, position, position_or_len}
+use Rattle.std.specs.List.{list_any, position, position_or_len}
 use Rattle.cfa_conflict.specs.lemmas.Anywhere.{in_right}
 
 pub found_before : {X : Type 0} (p : X → Bool) (xs : List X) → list_any p xs ≡ true → position_or_len p xs < length xs
@@ -34,16 +34,3 @@ one_place {X = X} p q (x ∷ xs) e f same = go (p x) refl (q x) refl (one_place 
     go true is false it more e' f' g = absurd (omega (arith, g))
     go false is true it more e' f' g = absurd (omega (arith, g))
     go false is false it more e' f' g = more e' f' (omega (arith, g))
-
--- parts of an empty list
-pub none_left : {X : Type 0} (xs ys : List X) → xs ++ ys ≡ [] → xs ≡ []
-none_left [] ys e = refl
-none_left (x ∷ xs) ys e = absurd (cc)
-
-pub none_right : {X : Type 0} (xs ys : List X) → xs ++ ys ≡ [] → ys ≡ []
-none_right [] ys e = e
-none_right (x ∷ xs) ys e = absurd (cc)
-
-pub none_flat : {X Y : Type 0} (f : X → List Y) (xs : List X) → flat_map f xs ≡ [] → Each (λ (x : X). f x ≡ []) xs
-none_flat f [] e = tt
-none_flat f (x ∷ xs) e = (none_left (f x) (flat_map f xs) e, none_flat f xs (none_right (f x) (flat_map f xs) e))

@@ -6,12 +6,13 @@ use Rattle.std.specs.Str.{bytes_eq}
 use Rattle.std.proofs.Math.Bool.{Bool-set}
 use Rattle.std.proofs.Math.Bridge.{le_prop}
 use Rattle.std.proofs.lemmas.Bool.{false≢true}
-use Rattle.std.proofs.lemmas.List.Elements.{All-cons, All-contains, All-contains_itself, All-from_recursion, All-head, All-nil, All-tail, All-weaker, Contains-append_left, Contains-append_right}
+use Rattle.std.proofs.lemmas.List.Elements.{All-cons, All-contains, All-contains_itself, All-head, All-nil, All-tail, All-weaker}
 use Rattle.std.proofs.lemmas.Slice.Eq.{bytes_eq-Decides}
 use Rattle.cfa_base.specs.declared.limits.TheConstants.{MOST_SOURCE_BYTES}
 use Rattle.cfa_base.specs.declared.places.Place.{Place}
 use Rattle.cfa_base.specs.declared.places.PromiseId.{PromiseId}
 use Rattle.cfa_base.specs.Lexing.{is_word_byte}
+use Rattle.cfa_base.specs.lemmas.Lists.{none_left, none_right, none_in, one_empty, each_append, all_flat}
 use Rattle.cfa_bodies.specs.Bodies.{name_given}
 use Rattle.cfa_tree.specs.Tree.{ValueTree, text, word, reference, list_reference, list, call, AttributeTree, PromiseTree, SectionTree, NamedTree, BlockTree, bundle, body, PolicyTree}
 use Rattle.cfa_kinds.specs.declared.kinds.BundleType.{BundleType}
@@ -37,26 +38,6 @@ use Rattle.cfa_schema.specs.Valid.{Valid, refusals, repeated_bodies_after, body_
 use Rattle.cfa_walk.specs.Numbered.{Numbered, numbered_as, numbered_from, numbered_in, name_of}
 use Rattle.cfa_walk.specs.lemmas.PlainNames.{plain_names}
 use Rattle.cfa_convergence.specs.Policies.{IsKnown, IsKnownCommon, HasKnown}
-use Rattle.cfa_convergence.proofs.PlaceLemmas.{none_left, none_right, none_flat}
-
--- ---- lists
-
-each_both : {X : Type 0} (P : X → Type 0) (xs ys : List X) → Each P xs → Each P ys → Each P (xs ++ ys)
-each_both P [] ys p q = q
-each_both P (x ∷ xs) ys p q = (p.0, each_both P xs ys p.1 q)
-
-all_left : {X : Type 0} (P : X → Type 0) (xs ys : List X) → All P (xs ++ ys) → All P xs
-all_left P xs ys all = All-weaker (Contains xs) P (λ x on. All-contains P (xs ++ ys) x all (Contains-append_left xs ys x on)) xs (All-contains_itself xs)
-
-all_right : {X : Type 0} (P : X → Type 0) (xs ys : List X) → All P (xs ++ ys) → All P ys
-all_right P xs ys all = All-weaker (Contains ys) P (λ x on. All-contains P (xs ++ ys) x all (Contains-append_right xs ys x on)) ys (All-contains_itself ys)
-
-none_in : {X : Type 0} → (xs : List X) → ((x : X) → Contains xs x → ⊥) → xs ≡ []
-none_in [] h = refl
-none_in (x ∷ xs) h = absurd (h x (first_here x xs))
-
-each_empty : {X Y : Type 0} (f : X → List Y) (xs : List X) (x : X) → flat_map f xs ≡ [] → Contains xs x → f x ≡ []
-each_empty f xs x e has = All-contains (λ y. f y ≡ []) xs x (All-from_recursion (λ y. f y ≡ []) xs (none_flat f xs e)) has
 
 -- ---- words
 
@@ -161,7 +142,7 @@ module _ (policy : PolicyTree) (valid : Valid policy) (sourced : IsSourced polic
       let default = default_refusals (definitions_of policy) (value_of (codes "bundlesequence") (control_of policy)) in
       let blocks = flat_map (block_refusals (definitions_of policy)) policy in
       let none : (names ++ (others ++ (default ++ blocks))) ≡ [] = none_in (refusals policy) (λ r c. valid.none_applies r (inl c)) in
-      each_empty (block_refusals (definitions_of policy)) policy block
+      one_empty (block_refusals (definitions_of policy)) policy block
       (none_right default blocks (none_right others (default ++ blocks) (none_right names (others ++ (default ++ blocks)) none))) has
 
   type_given : (s : Setting) (type_name : NamedTree) (sections : List SectionTree) (type : Option BundleType) → bundle_by s type_name sections type ≡ [] → (within : BundleType) × (type ≡ Some within)
@@ -202,7 +183,7 @@ module _ (policy : PolicyTree) (valid : Valid policy) (sourced : IsSourced polic
         Each P (flat_map worded_promises_of those)
     all_sections P [] f = tt
     all_sections P (section ∷ those) f =
-        each_both P (worded_promises_of section) (flat_map worded_promises_of those) (one_section P section.kind section.promises (λ p on. f section (first_here section those) p on))
+        each_append P (worded_promises_of section) (flat_map worded_promises_of those) (one_section P section.kind section.promises (λ p on. f section (first_here section those) p on))
         (all_sections P those (λ other there p on. f other (behind_one section those other there) p on))
 
     all_fit : Each IsFit (flat_map worded_promises_of sections)
@@ -240,15 +221,9 @@ module _ (policy : PolicyTree) (valid : Valid policy) (sourced : IsSourced polic
   abbrev IsCountedBlock : BlockTree → Type 0
   IsCountedBlock block = All IsCounted (ids_in_block block)
 
-  each_counted : (blocks : List BlockTree) → All IsCounted (flat_map ids_in_block blocks) → All IsCountedBlock blocks
-  each_counted [] counted = All-nil IsCountedBlock
-  each_counted (block ∷ blocks) counted =
-      All-cons IsCountedBlock block blocks (all_left IsCounted (ids_in_block block) (flat_map ids_in_block blocks) counted)
-      (each_counted blocks (all_right IsCounted (ids_in_block block) (flat_map ids_in_block blocks) counted))
-
   known_there : IdsAreCounted → (block : BlockTree) → Contains policy block → Each IsKnown (numbered_in block)
   unfolding promise_ids_of
-  known_there ids block has = known_block block has (All-contains IsCountedBlock policy block (each_counted policy (ids policy sourced)) has)
+  known_there ids block has = known_block block has (All-contains IsCountedBlock policy block (all_flat IsCounted ids_in_block policy (ids policy sourced)) has)
 
   common_known : IdsAreCounted → WordsLackNewlines → (blocks : List BlockTree) → All (Contains policy) blocks → All HasWordName blocks → Each IsKnownCommon blocks
   common_known ids lack [] there named = tt

@@ -2,6 +2,7 @@
 use Rattle.std.proofs.Common.{◌≡◌, Bool, true, false, List, [], ◌∷◌, ◌++◌, Option, Some, None, refl}
 use Rattle.std.specs.Prelude.{option_map}
 use Rattle.std.specs.List.{AllByRecursion as Each, filter_map, cons_option}
+use Rattle.cfa_base.specs.lemmas.Lists.{none_left, none_right}
 use Rattle.cfa_classes.specs.declared.levels.Status.{Status}
 use Rattle.cfa_classes.specs.declared.levels.Status.TheVariants.{No, Maybe, Yes}
 use Rattle.cfa_walk.specs.History.{History, Begun, Set, Raised, Reached, Listed, Told, global_source}
@@ -16,7 +17,6 @@ use Rattle.cfa_laws.specs.Sources.{RaisesHaveFirst, UnsettledAreMaybe}
 use Rattle.cfa_convergence.specs.Sources.{UnlistedAreSettled}
 use Rattle.cfa_convergence.proofs.BlameLemmas.{EditsAreBlamed, AreBlamed}
 use Rattle.cfa_convergence.proofs.BlamingLemmas.{walk_blamed}
-use Rattle.cfa_convergence.proofs.PlaceLemmas.{none_left, none_right}
 use Rattle.cfa_convergence.proofs.SourceLemmas.{IsGiven, mapped_given}
 
 given_stands : {X : Type 0} (o : Option X) (xs : List X) → IsGiven o → cons_option o xs ≡ [] → ⊥

@@ -4,6 +4,7 @@ use Rattle.std.specs.Prelude.{◌||◌}
 use Rattle.std.specs.List.{AllByRecursion as Each, list_any, filter, position_or_len}
 use Rattle.std.proofs.lemmas.Bool.{and_from}
 use Rattle.std.proofs.lemmas.Option.{same_Some}
+use Rattle.cfa_base.specs.lemmas.Lists.{none_left, none_right, none_flat, each_weaker}
 use Rattle.cfa_acts.specs.declared.acts.Act.{Act}
 use Rattle.cfa_acts.specs.declared.acts.Act.TheVariants.{Create, MakeDir, Delete, Content, Copy, Edit, Perms, Start, Stop, Enable, Disable, Restart, Bust}
 use Rattle.cfa_acts.specs.Disturbs.{disturbs}
@@ -40,7 +41,6 @@ use Rattle.cfa_convergence.proofs.BlameLemmas.{AreBlamed}
 use Rattle.cfa_convergence.proofs.BlamingLemmas.{walk_blamed}
 use Rattle.cfa_convergence.proofs.KnownLemmas.{AreKnown, runs_known}
 use Rattle.cfa_convergence.proofs.NameLemmas.{one_acts, one_kind}
-use Rattle.cfa_convergence.proofs.PlaceLemmas.{none_left, none_right, none_flat}
 use Rattle.cfa_convergence.proofs.QuietLemmas.{either_way}
 use Rattle.cfa_convergence.proofs.RerunLemmas.{kept_tells}
 use Rattle.cfa_convergence.proofs.RunLemmas.{run_contained, is_within}
@@ -61,10 +61,6 @@ none_passes {X = X} p (x ∷ xs) e = go (p x) refl (none_passes p xs) e
     go : (b : Bool) → p x ≡ b → (filter p xs ≡ [] → Each (λ (y : X). p y ≡ false) xs) → cond b (x ∷ filter p xs) (filter p xs) ≡ [] → (p x ≡ false) × Each (λ (y : X). p y ≡ false) xs
     go true is more f = absurd (cc)
     go false is more f = (is, more f)
-
-each_other : {X : Type 0} (P Q : X → Type 0) → ((x : X) → P x → Q x) → (xs : List X) → Each P xs → Each Q xs
-each_other P Q f [] all = tt
-each_other P Q f (x ∷ xs) all = (f x all.0, each_other P Q f xs all.1)
 
 no_restart : (i : Instance) (a : Act) → restart_of i a ≡ [] → is_restart a ≡ false
 no_restart i (Create path) e = refl
@@ -240,7 +236,7 @@ module _ (s : Setting) (tell : KeysTellWorks) (kept walk : History) (blamed : Ar
       restarts = λ i key live.
           let free = listed_free i key live in
           subst (λ (acts : List Act). Each (λ (act : Act). is_restart act ≡ false) acts) (one_acts tell i free.one key free.key free.same)
-          (each_other (λ (act : Act). restart_of free.one act ≡ []) (λ (act : Act). is_restart act ≡ false) (no_restart free.one) (acts_of free.one.work) (none_flat (restart_of free.one) (acts_of free.one.work) free.restarts));
+          (each_weaker (λ (act : Act). restart_of free.one act ≡ []) (λ (act : Act). is_restart act ≡ false) (no_restart free.one) (acts_of free.one.work) (none_flat (restart_of free.one) (acts_of free.one.work) free.restarts));
       sure = λ i key live.
           let free = listed_free i key live in
           let first = first_visited s instances walk blamed known there i (inside i live.visited) in

@@ -2,6 +2,7 @@
 use Rattle.std.proofs.Common.{◌≡◌, ℕ, ◌+◌, Bool, true, false, List, [], ◌∷◌, ◌++◌, map, Option, Some, None, refl, sym, ap, ap₂, subst, ◌∙◌}
 use Rattle.std.specs.Prelude.{cond}
 use Rattle.std.specs.Str.{bytes_eq}
+use Rattle.cfa_base.specs.lemmas.Lists.{none_left, none_right}
 use Rattle.cfa_tree.specs.Tree.{ValueTree, BlockTree, PolicyTree}
 use Rattle.cfa_kinds.specs.declared.kinds.PromiseType.{PromiseType}
 use Rattle.cfa_kinds.specs.declared.kinds.PromiseType.TheVariants as promises
@@ -23,7 +24,6 @@ use Rattle.cfa_scripts.specs.EditScripts.{Caller, walk_from_first, walked_by, wa
 use Rattle.cfa_scripts.specs.Numbered.{Numbered, numbered_in, name_of}
 use Rattle.cfa_laws.specs.Statuses.{Within, no_no, no_maybe, yes_maybe, yes_yes, AllWithin, RaisesAlike}
 use Rattle.cfa_laws.proofs.WalkTypes.{Inside, Walk}
-use Rattle.cfa_laws.proofs.ListLemmas.{none_before, none_after}
 use Rattle.cfa_laws.proofs.TextLemmas.{is_text}
 use Rattle.cfa_laws.specs.lemmas.Within.{within_lesser, within_greater}
 use Rattle.cfa_laws.proofs.GuardLemmas.{guard_first, guard_within}
@@ -113,9 +113,9 @@ module _ (policy : PolicyTree) (bundle : List ℕ) (shared : List (List ℕ × T
   -- nothing unsettled is forgotten
   module _ (g : List ℕ → Status) where
     kept_before : (w : Walk) (p : Numbered) (guard : Status) (type : PromiseType) → (kept_by (around g) w p guard type).unsettled ≡ [] → w.unsettled ≡ []
-    kept_before w p guard promises.Vars e = none_before w.unsettled (unsettled_by (around g) w.inside p guard) e
+    kept_before w p guard promises.Vars e = none_left w.unsettled (unsettled_by (around g) w.inside p guard) e
     kept_before w p guard promises.Classes e = e
-    kept_before w p guard type e = none_before w.unsettled (unsettled_by (around g) w.inside p guard) e
+    kept_before w p guard type e = none_left w.unsettled (unsettled_by (around g) w.inside p guard) e
 
     guarded_before : (w : Walk) (p : Numbered) (guard : Status) → (guarded (around g) w p guard).unsettled ≡ [] → w.unsettled ≡ []
     guarded_before w p No e = e
@@ -135,7 +135,7 @@ module _ (policy : PolicyTree) (bundle : List ℕ) (shared : List (List ℕ × T
     is_unsettled w p is e =
         let first = guard_first (statuses_at (around g) w.inside) p.promise.guard is in
         let none : unsettled_for (around g) w.inside p.id (Some first.0) ≡ [] =
-        ap (unsettled_for (around g) w.inside p.id) (sym first.1) ∙ none_after w.unsettled (unsettled_by (around g) w.inside p Maybe) e in
+        ap (unsettled_for (around g) w.inside p.id) (sym first.1) ∙ none_right w.unsettled (unsettled_by (around g) w.inside p Maybe) e in
         cc
 
   module _ (f g : List ℕ → Status) (within : AllWithin f g) where

@@ -3,6 +3,7 @@ use Rattle.std.proofs.Common.{◌≡◌, ℕ, Bool, true, false, List, [], ◌�
 use Rattle.std.specs.Prelude.{codes}
 use Rattle.std.specs.List.{AllByRecursion as Each, list_any, filter_map, cons_option}
 use Rattle.std.specs.Option.{option_or}
+use Rattle.cfa_base.specs.lemmas.Lists.{each_append}
 use Rattle.cfa_tree.specs.ClassTexts.{expression_of}
 use Rattle.cfa_tree.specs.Tree.{ExprTree, class, ValueTree, text, word, reference, list_reference, list, call, ValueTrees, no_value, more_values, PromiseTree}
 use Rattle.cfa_classes.specs.declared.levels.Status.{Status}
@@ -25,7 +26,6 @@ use Rattle.cfa_defines.specs.ClassPromises.{said_of, text_said, given_said, answ
 use Rattle.cfa_laws.specs.Sources.{IsFirst, RaiseHasFirst, RaisesHaveFirst}
 use Rattle.cfa_laws.specs.lemmas.MaybeClasses.{first_or, first_left, swapped_maybe, lesser_maybe, greater_maybe, first_is, maybe_first}
 use Rattle.cfa_laws.proofs.SaidLemmas.{Said, Told, tells, tells_nothing, halts, said, opposite_told, joined_told, told_raise, opposite_said, joined_said, raise_said, expression_said}
-use Rattle.cfa_laws.proofs.ListLemmas.{each_append}
 
 -- ---- what is said of an expression that may hold or not
 

@@ -2,6 +2,7 @@
 use Rattle.std.proofs.Common.{◌≡◌, ℕ, List, [], ◌∷◌, Option, Some, None, refl, ap, ap₂, ◌∙◌}
 use Rattle.std.specs.Prelude.{option_map}
 use Rattle.std.specs.List.{cons_option}
+use Rattle.cfa_base.specs.lemmas.Lists.{none_left, none_right}
 use Rattle.cfa_tree.specs.Tree.{ValueTree}
 use Rattle.cfa_classes.specs.declared.levels.Status.{Status}
 use Rattle.cfa_vars.specs.Expansion.{Chosen}
@@ -13,7 +14,6 @@ use Rattle.cfa_resolve.specs.Resolution.{caller_of, edit_call, walked_for, scrip
 use Rattle.cfa_scripts.specs.declared.scripting.Scripted.{Scripted}
 use Rattle.cfa_scripts.specs.EditScripts.{walked}
 use Rattle.cfa_laws.specs.Statuses.{AllWithin, under, InstancesAreSame}
-use Rattle.cfa_laws.proofs.ListLemmas.{none_before, none_after}
 use Rattle.cfa_laws.proofs.EditLemmas.{scripts_same}
 
 module _ (r : Reached) (f g : List ℕ → Status) (within : AllWithin f g) where
@@ -34,8 +34,8 @@ module _ (r : Reached) (f g : List ℕ → Status) (within : AllWithin f g) wher
   all_same : (choices : List Chosen) → inner_unsettled (under r g) choices ≡ [] → instances_for (under r f) choices ≡ instances_for (under r g) choices
   all_same [] e = refl
   all_same (choice ∷ choices) e =
-      ap₂ (λ m is. cons_option (instance_in m) is) (one_same choice (none_before (unsettled_in (walked_for (under r g) choice)) (inner_unsettled (under r g) choices) e))
-      (all_same choices (none_after (unsettled_in (walked_for (under r g) choice)) (inner_unsettled (under r g) choices) e))
+      ap₂ (λ m is. cons_option (instance_in m) is) (one_same choice (none_left (unsettled_in (walked_for (under r g) choice)) (inner_unsettled (under r g) choices) e))
+      (all_same choices (none_right (unsettled_in (walked_for (under r g) choice)) (inner_unsettled (under r g) choices) e))
 
   resolved_same : (c : Combined) → (resolved_as (under r g) c).unsettled ≡ [] → (resolved_as (under r f) c).instances ≡ (resolved_as (under r g) c).instances
   resolved_same (lacks name) e = refl

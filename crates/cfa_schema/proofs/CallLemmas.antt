@@ -5,6 +5,7 @@ use Rattle.std.specs.List.{flat_map, filter_map}
 use Rattle.std.proofs.lemmas.List.{drop_more}
 use Rattle.std.specs.Str.{bytes_eq}
 use Rattle.cfa_base.specs.Index.{place_of}
+use Rattle.cfa_base.specs.lemmas.Lists.{none_left, none_right}
 use Rattle.cfa_calls.specs.Cycles.{Call}
 use Rattle.cfa_tree.specs.declared.blocks.Block.{Block}
 use Rattle.cfa_tree.specs.declared.blocks.Block.TheVariants.{Bundle, Body}
@@ -19,7 +20,7 @@ use Rattle.cfa_values.specs.Values.{repeated_after}
 use Rattle.cfa_values.specs.declared.refusals.Code.TheVariants.{Duplicate}
 use Rattle.cfa_schema.specs.Valid.{bundle_name, calls_in_block, calls_of, first_bundles_after}
 use Rattle.cfa_schema.specs.Laws.{EachBundleCalls}
-use Rattle.cfa_schema.proofs.FactLemmas.{left_empty, right_empty, names_pass}
+use Rattle.cfa_schema.proofs.FactLemmas.{names_pass}
 use Rattle.cfa_schema.proofs.IdLemmas.{only_none}
 
 -- a name is new where it is none of the names
@@ -80,8 +81,8 @@ all_call before (bundle type_name name params sections place ∷ rest) e =
     let behind = repeated_after (before ++ name.name ∷ []) (filter_map bundle_name rest) in
     let b = bundle type_name name params sections place in
     ap (λ known. flat_map calls_in_block ((if known then [] else b ∷ []) ++ first_bundles_after (before ++ name.name ∷ []) rest))
-    (only_none (is_one_of name.name before) name.place (left_empty here behind e))
-    ∙ ap (λ calls. calls_in_block b ++ calls) (all_call (before ++ name.name ∷ []) rest (right_empty here behind e))
+    (only_none (is_one_of name.name before) name.place (none_left here behind e))
+    ∙ ap (λ calls. calls_in_block b ++ calls) (all_call (before ++ name.name ∷ []) rest (none_right here behind e))
 all_call before (body type_name name params attributes place ∷ rest) e = all_call before rest e
 
 pub each_bundle_calls : EachBundleCalls

@@ -8,6 +8,7 @@ use Rattle.std.proofs.lemmas.Slice.Eq.{bytes_eq-Decides}
 use Rattle.std.proofs.lemmas.Map.Made.{is_member-Decides, length-le_from_is_member}
 use Rattle.std.proofs.lemmas.List.Elements.{All-contains, All-from_recursion, Contains-push, Contains-append_left, Contains-append_right}
 use Rattle.std.proofs.lemmas.List.{length-map}
+use Rattle.cfa_base.specs.lemmas.Lists.{each_append, each_weaker}
 use Rattle.cfa_tree.specs.Tree.{ValueTree, AttributeTree, PromiseTree, SectionTree, NamedTree, BlockTree, bundle, body, PolicyTree}
 use Rattle.cfa_kinds.specs.declared.kinds.BundleType.{BundleType}
 use Rattle.cfa_kinds.specs.declared.kinds.BundleType.TheVariants as bundles
@@ -81,13 +82,9 @@ module _ (calls : List Call) where
 -- ---- the callers are bundles
 
 module _ {X : Type 0} (P : X → Type 0) where
-  pub both : (xs ys : List X) → AllByRecursion P xs → AllByRecursion P ys → AllByRecursion P (xs ++ ys)
-  both [] ys h g = g
-  both (x ∷ xs) ys h g = (h.0, both xs ys h.1 g)
-
   of_each : {Y : Type 0} (f : Y → List X) → ((y : Y) → AllByRecursion P (f y)) → (ys : List Y) → AllByRecursion P (flat_map f ys)
   of_each f each [] = tt
-  of_each f each (y ∷ ys) = both (f y) (flat_map f ys) (each y) (of_each f each ys)
+  of_each f each (y ∷ ys) = each_append P (f y) (flat_map f ys) (each y) (of_each f each ys)
 
   abbrev Holds : Option X → Type 0
   Holds None = ⊤
@@ -130,10 +127,6 @@ by_section name s = by_type name (promise_type s.kind) s.promises
 abbrev names_of : PolicyTree → List (List ℕ)
 names_of policy = map name_in (filter_map bundle_name policy)
 
-weaker : {X : Type 0} (P Q : X → Type 0) → ((x : X) → P x → Q x) → (xs : List X) → AllByRecursion P xs → AllByRecursion Q xs
-weaker P Q f [] h = tt
-weaker P Q f (x ∷ xs) h = (f x h.0, weaker P Q f xs h.1)
-
 by_bundle : (name : List ℕ) (type : Option BundleType) (sections : List SectionTree) → AllByRecursion (IsBy name) (calls_in_bundle name type sections)
 by_bundle name None sections = tt
 by_bundle name (Some bundles.Agent) sections = of_each (IsBy name) (calls_in_section name) (by_section name) sections
@@ -143,17 +136,17 @@ by_bundle name (Some type) sections = tt
 calls_with : (P : Call → Type 0) (b : BlockTree) (behind : PolicyTree) (is_known : Bool) → AllByRecursion P (calls_in_block b) → AllByRecursion P (flat_map calls_in_block behind) →
     AllByRecursion P (flat_map calls_in_block ((if is_known then [] else b ∷ []) ++ behind))
 calls_with P b behind true own more = more
-calls_with P b behind false own more = both P (calls_in_block b) (flat_map calls_in_block behind) own more
+calls_with P b behind false own more = each_append P (calls_in_block b) (flat_map calls_in_block behind) own more
 
 callers_named : (before : List (List ℕ)) (policy : PolicyTree) → AllByRecursion (λ c. Contains (names_of policy) c.caller) (flat_map calls_in_block (first_bundles_after before policy))
 callers_named before [] = tt
 callers_named before (bundle type_name name params sections place ∷ rest) =
     let behind = first_bundles_after (before ++ name.name ∷ []) rest in
     calls_with (λ (c : Call). Contains (name.name ∷ names_of rest) c.caller) (bundle type_name name params sections place) behind (is_one_of name.name before)
-    (weaker (IsBy name.name) (λ c. Contains (name.name ∷ names_of rest) c.caller)
+    (each_weaker (IsBy name.name) (λ c. Contains (name.name ∷ names_of rest) c.caller)
     (λ c e. subst (Contains (name.name ∷ names_of rest)) (sym e) (Contains-append_left (name.name ∷ []) (names_of rest) name.name (Contains-push [] name.name)))
     (calls_in_block (bundle type_name name params sections place)) (by_bundle name.name (bundle_type type_name.name) sections))
-    (weaker (λ (c : Call). Contains (names_of rest) c.caller) (λ c. Contains (name.name ∷ names_of rest) c.caller)
+    (each_weaker (λ (c : Call). Contains (names_of rest) c.caller) (λ c. Contains (name.name ∷ names_of rest) c.caller)
     (λ c h. Contains-append_right (name.name ∷ []) (names_of rest) c.caller h) (flat_map calls_in_block behind) (callers_named (before ++ name.name ∷ []) rest))
 callers_named before (body type_name name params attributes place ∷ rest) = callers_named before rest
 

@@ -1,10 +1,10 @@
 -- What holds of the attributes of a valid policy: none of them is refused.
-use Rattle.std.proofs.Common.{◌≡◌, ◌∙◌, ℕ, Bool, true, false, not, List, [], ◌∷◌, ◌++◌, All, Option, Some, None, inl, refl, ap, sym, arith, map}
+use Rattle.std.proofs.Common.{◌≡◌, ◌∙◌, ℕ, Bool, true, false, not, List, [], ◌++◌, Option, Some, None, inl, refl, ap, sym, arith, map}
 use Rattle.std.specs.Prelude.{◌==◌, codes, if◌then◌else◌}
 use Rattle.std.specs.List.{Contains, flat_map, filter_map}
-use Rattle.std.proofs.lemmas.List.Elements.{All-contains, All-contains_itself, All-head, All-nil, All-cons}
 use Rattle.std.proofs.lemmas.Bool.Decides.{nat_tests}
 use Rattle.cfa_base.specs.declared.places.Place.{Place}
+use Rattle.cfa_base.specs.lemmas.Lists.{none_left, none_right, one_empty, none_in}
 use Rattle.cfa_tree.specs.Tree.{ValueTree, AttributeTree, PromiseTree, SectionTree, BlockTree, bundle, body, PolicyTree}
 use Rattle.cfa_kinds.specs.declared.kinds.BundleType.{BundleType}
 use Rattle.cfa_kinds.specs.declared.kinds.BundleType.TheVariants as bundles
@@ -24,26 +24,6 @@ use Rattle.cfa_schema.specs.Defined.{definitions_of}
 use Rattle.cfa_schema.specs.Valid.{Valid, refusals, repeated_bodies_after, body_name, bundle_name, default_refusals, block_refusals, bundle_by, body_by, section_by, section_refusals, promise_refusals, promisee_refusals, is_wrong_promiser, lacks_choice, lacks_required, is_misnamed}
 use Rattle.cfa_schema.specs.Laws.{in_promise, of_body, Names, by_word, by_call, NamesBundle, by_name, by_text, NothingIsRefused, NamedBodyIsThere, EditBundleIsThere, AgentBundleIsThere}
 
-none_in : {X : Type 0} → (xs : List X) → ((x : X) → Contains xs x → ⊥) → xs ≡ []
-none_in [] h = refl
-none_in (x ∷ xs) h = absurd (h x (All-head (Contains (x ∷ xs)) x xs (All-contains_itself (x ∷ xs))))
-
-pub left_empty : {X : Type 0} → (xs ys : List X) → xs ++ ys ≡ [] → xs ≡ []
-left_empty [] ys e = refl
-left_empty (x ∷ xs) ys e = cc
-
-pub right_empty : {X : Type 0} → (xs ys : List X) → xs ++ ys ≡ [] → ys ≡ []
-right_empty [] ys e = e
-right_empty (x ∷ xs) ys e = cc
-
-pub each_empty : {X Y : Type 0} (f : X → List Y) → (xs : List X) → flat_map f xs ≡ [] → All (λ x. f x ≡ []) xs
-each_empty f [] e = All-nil (λ x. f x ≡ [])
-each_empty f (x ∷ xs) e =
-    All-cons (λ x. f x ≡ []) x xs (left_empty (f x) (flat_map f xs) e) (each_empty f xs (right_empty (f x) (flat_map f xs) e))
-
-one_empty : {X Y : Type 0} (f : X → List Y) (xs : List X) (x : X) → flat_map f xs ≡ [] → Contains xs x → f x ≡ []
-one_empty f xs x e h = All-contains (λ y. f y ≡ []) xs x (each_empty f xs e) h
-
 -- no bundle of a valid policy has the name of one before it
 pub names_pass : (policy : PolicyTree) → Valid policy → repeated (filter_map bundle_name policy) ≡ []
 unfolding refusals
@@ -51,7 +31,7 @@ names_pass policy valid =
     let others = repeated_bodies_after [] (filter_map body_name policy) in
     let default = default_refusals (definitions_of policy) (value_of (codes "bundlesequence") (control_of policy)) in
     let blocks = flat_map (block_refusals (definitions_of policy)) policy in
-    left_empty (repeated (filter_map bundle_name policy)) (others ++ (default ++ blocks)) (none_in (refusals policy) (λ r c. valid.none_applies r (inl c)))
+    none_left (repeated (filter_map bundle_name policy)) (others ++ (default ++ blocks)) (none_in (refusals policy) (λ r c. valid.none_applies r (inl c)))
 
 -- no block of a valid policy is refused
 pub block_passes : (policy : PolicyTree) (b : BlockTree) → Valid policy → Contains policy b → block_refusals (definitions_of policy) b ≡ []
@@ -63,7 +43,7 @@ block_passes policy b valid h =
     let blocks = flat_map (block_refusals (definitions_of policy)) policy in
     let none : (names ++ (others ++ (default ++ blocks))) ≡ [] = none_in (refusals policy) (λ r c. valid.none_applies r (inl c)) in
     one_empty (block_refusals (definitions_of policy)) policy b
-    (right_empty default blocks (right_empty others (default ++ blocks) (right_empty names (others ++ (default ++ blocks)) none))) h
+    (none_right default blocks (none_right others (default ++ blocks) (none_right names (others ++ (default ++ blocks)) none))) h
 
 by_type : {T Y : Type 0} (by : Option T → List Y) (found : Option T) (type : T) → found ≡ Some type → by found ≡ [] → by (Some type) ≡ []
 by_type by found type e h = sym (ap by e) ∙ h
@@ -76,7 +56,7 @@ promises_pass s within section type false e = cc
 attributes_pass : (s : Setting) (table : List ℕ → Option Kind) (attributes : List AttributeTree) (a : AttributeTree) → attributes_refusals s table attributes ≡ [] → Contains attributes a →
     attribute_refusals s table a ≡ []
 attributes_pass s table attributes a e h =
-    one_empty (attribute_refusals s table) attributes a (right_empty (repeated (map attribute_name attributes)) (flat_map (attribute_refusals s table) attributes) e) h
+    one_empty (attribute_refusals s table) attributes a (none_right (repeated (map attribute_name attributes)) (flat_map (attribute_refusals s table) attributes) e) h
 
 promise_passes : (s : Setting) (type : PromiseType) (p : PromiseTree) → promise_refusals s type p ≡ [] → attributes_refusals s (promise_attribute type) p.attributes ≡ []
 promise_passes s type p e =
@@ -85,13 +65,13 @@ promise_passes s type p e =
     let lacking = only_if (lacks_choice (choices type) p.attributes) WrongValue p.place in
     let promisee = promisee_refusals s p.promisee in
     let rest = attributes_refusals s (promise_attribute type) p.attributes in
-    right_empty promisee rest (right_empty lacking (promisee ++ rest) (right_empty scope (lacking ++ (promisee ++ rest)) (right_empty wrong (scope ++ (lacking ++ (promisee ++ rest))) e)))
+    none_right promisee rest (none_right lacking (promisee ++ rest) (none_right scope (lacking ++ (promisee ++ rest)) (none_right wrong (scope ++ (lacking ++ (promisee ++ rest))) e)))
 
 pub nothing_is_refused : NothingIsRefused
 nothing_is_refused policy s table a valid (in_promise {type_name} {name} {type} {p} is h) =
     let passes = block_passes policy (bundle type_name name is.params is.sections is.place) valid is.is_block in
     let by = bundle_by s type_name is.sections in
-    let sections = by_type by (bundle_type type_name.name) is.within is.bundle_is (right_empty (repeated is.params) (by (bundle_type type_name.name)) passes) in
+    let sections = by_type by (bundle_type type_name.name) is.within is.bundle_is (none_right (repeated is.params) (by (bundle_type type_name.name)) passes) in
     let section = one_empty (section_refusals s is.within) is.sections is.section sections is.is_section in
     let typed = by_type (section_by s is.within is.section) (promise_type is.section.kind) type is.type_is section in
     let promises = promises_pass s is.within is.section type (has_promise_type is.within type) typed in
@@ -99,11 +79,11 @@ nothing_is_refused policy s table a valid (in_promise {type_name} {name} {type} 
 nothing_is_refused policy s table a valid (of_body {type_name} {name} {params} {attributes} {place} {type} is_block type_is h) =
     let passes = block_passes policy (body type_name name params attributes place) valid is_block in
     let by = body_by s type_name name attributes in
-    let typed = by_type by (body_type type_name.name) type type_is (right_empty (repeated params) (by (body_type type_name.name)) passes) in
+    let typed = by_type by (body_type type_name.name) type type_is (none_right (repeated params) (by (body_type type_name.name)) passes) in
     let misnamed = only_if (is_misnamed type name.name) TypeOutOfScope name.place in
     let lacking = only_if (lacks_required (required type) attributes) WrongValue name.place in
     let rest = attributes_refusals s (body_attribute type) attributes in
-    attributes_pass s table attributes a (right_empty lacking rest (right_empty misnamed (lacking ++ rest) typed)) h
+    attributes_pass s table attributes a (none_right lacking rest (none_right misnamed (lacking ++ rest) typed)) h
 
 value_passes : (s : Setting) (table : List ℕ → Option Kind) (a : AttributeTree) (kind : Kind) → table a.name ≡ Some kind → attribute_refusals s table a ≡ [] → value_refusals s kind a.value ≡ []
 value_passes s table a kind is e = by_type (attribute_by s a) (table a.name) kind is e
@@ -121,7 +101,7 @@ named_body : (s : Setting) (type : BodyType) (v : ValueTree) (name : List ℕ) (
 named_body s type v name count (by_word {place = place}) e = body_there (body_named s.definitions (body_word type) name) 0 place e
 named_body s type v name count (by_call {arguments = arguments} {place = place}) e =
     let found = body_named s.definitions (body_word type) name in
-    body_there found (value_count arguments) place (left_empty (body_found found (value_count arguments) place) (flat_map (item_refusals s) (values_in arguments)) e)
+    body_there found (value_count arguments) place (none_left (body_found found (value_count arguments) place) (flat_map (item_refusals s) (values_in arguments)) e)
 
 pub named_body_is_there : NamedBodyIsThere
 named_body_is_there policy s table a type name count valid stands is names =
@@ -157,7 +137,7 @@ named_edit s v name count (by_word {place = place}) e = bundle_there bundles.Edi
 named_edit s v name count (by_call {arguments = arguments} {place = place}) e =
     let found = bundle_named s.definitions name in
     bundle_there bundles.EditLine found (value_count arguments) place
-    (left_empty (bundle_found bundles.EditLine found (value_count arguments) place) (flat_map (item_refusals s) (values_in arguments)) e)
+    (none_left (bundle_found bundles.EditLine found (value_count arguments) place) (flat_map (item_refusals s) (values_in arguments)) e)
 
 pub edit_bundle_is_there : EditBundleIsThere
 edit_bundle_is_there policy s table a name count valid stands is names =
@@ -169,14 +149,14 @@ named_agent s v name count (by_word {place = place}) e = bundle_there bundles.Ag
 named_agent s v name count (by_call {arguments = arguments} {place = place}) e =
     let found = bundle_named s.definitions name in
     bundle_there bundles.Agent found (value_count arguments) place
-    (left_empty (bundle_found bundles.Agent found (value_count arguments) place) (flat_map (item_refusals s) (values_in arguments)) e)
+    (none_left (bundle_found bundles.Agent found (value_count arguments) place) (flat_map (item_refusals s) (values_in arguments)) e)
 
 agent_there : (s : Setting) (v : ValueTree) (name : List ℕ) (count : ℕ) → NamesBundle v name count → method_refusals s v ≡ [] →
     (b : BundleHead) × (bundle_named s.definitions name ≡ Some b) × (b.type ≡ Some bundles.Agent) × (b.params ≡ count)
 agent_there s v name count (by_name names) e = named_agent s v name count names e
 agent_there s v name count (by_text {content = content} {place = place} known) e =
     bundle_there bundles.Agent (bundle_named s.definitions content) 0 place
-    (ap (λ b. named_by_text b s content place) (sym known) ∙ left_empty (named_by_text (is_known content) s content place) (text_scope s content place) e)
+    (ap (λ b. named_by_text b s content place) (sym known) ∙ none_left (named_by_text (is_known content) s content place) (text_scope s content place) e)
 
 pub agent_bundle_is_there : AgentBundleIsThere
 agent_bundle_is_there policy s table a name count valid stands is names =

@@ -9,6 +9,7 @@ use Rattle.std.proofs.lemmas.List.{length-append}
 use Rattle.std.proofs.lemmas.List.Elements.{All-append, All-cons, All-contains, All-contains_itself, All-get_or, All-head, All-map, All-nil, All-tail, All-weaker, Contains-append_left, Contains-append_right}
 use Rattle.cfa_base.specs.declared.places.Place.{Place}
 use Rattle.cfa_base.specs.declared.places.PromiseId.{PromiseId}
+use Rattle.cfa_base.specs.lemmas.Lists.{none_left, none_right}
 use Rattle.cfa_tree.specs.Tree.{PromiseTree, SectionTree, NamedTree, BlockTree, bundle, body, PolicyTree}
 use Rattle.cfa_kinds.specs.declared.kinds.BundleType.{BundleType}
 use Rattle.cfa_kinds.specs.declared.kinds.PromiseType.{PromiseType}
@@ -24,7 +25,7 @@ use Rattle.cfa_schema.specs.Defined.{definitions_of}
 use Rattle.cfa_schema.specs.Laws.{ListedIdsAreFound, FoundIdsAreListed}
 use Rattle.cfa_served.specs.lemmas.Promises.{second, second_is, seconds_in}
 use Rattle.cfa_schema.specs.lemmas.Found.{first_here}
-use Rattle.cfa_schema.proofs.FactLemmas.{left_empty, right_empty, block_passes, names_pass}
+use Rattle.cfa_schema.proofs.FactLemmas.{block_passes, names_pass}
 
 -- ---- an id that is found is in the list
 
@@ -165,9 +166,9 @@ ids_new before (bundle type_name named params sections place ∷ rest) e =
     let here = only_if (is_one_of named.name before) Duplicate named.place in
     let behind = repeated_after (before ++ named.name ∷ []) (filter_map bundle_name rest) in
     All-append (IsNew before) (ids_from named.name 1 (flat_map promises_of sections)) (flat_map ids_in_block rest)
-    (in_bundle_new before named.name 1 (flat_map promises_of sections) (only_none (is_one_of named.name before) named.place (left_empty here behind e)))
+    (in_bundle_new before named.name 1 (flat_map promises_of sections) (only_none (is_one_of named.name before) named.place (none_left here behind e)))
     (All-weaker (IsNew (before ++ named.name ∷ [])) (IsNew before) (λ id new. (any_both (bytes_eq id.bundle) before named.name new).0) (flat_map ids_in_block rest)
-    (ids_new (before ++ named.name ∷ []) rest (right_empty here behind e)))
+    (ids_new (before ++ named.name ∷ []) rest (none_right here behind e)))
 ids_new before (body type_name named params attributes place ∷ rest) e = ids_new before rest e
 
 -- each promise of a bundle has a type
@@ -195,7 +196,7 @@ all_stand : (before : List (List ℕ)) (policy : PolicyTree) → repeated_after 
 all_stand before [] e typed = All-nil (Stands [])
 all_stand before (bundle type_name named params sections place ∷ rest) e typed =
     let whole : PolicyTree = bundle type_name named params sections place ∷ rest in
-    let behind = right_empty (only_if (is_one_of named.name before) Duplicate named.place) (repeated_after (before ++ named.name ∷ []) (filter_map bundle_name rest)) e in
+    let behind = none_right (only_if (is_one_of named.name before) Duplicate named.place) (repeated_after (before ++ named.name ∷ []) (filter_map bundle_name rest)) e in
     let new = ids_new (before ++ named.name ∷ []) rest behind in
     let more = all_stand (before ++ named.name ∷ []) rest behind (All-tail AllTyped (bundle type_name named params sections place) rest typed) in
     All-append (Stands whole) (ids_from named.name 1 (flat_map promises_of sections)) (flat_map ids_in_block rest)
@@ -224,8 +225,8 @@ sections_typed s within (section ∷ rest) e =
     let here = section_refusals s within section in
     let behind = flat_map (section_refusals s within) rest in
     All-append HasType (worded_promises_of section) (flat_map worded_promises_of rest)
-    (section_typed s within section (promise_type section.kind) refl (left_empty here behind e))
-    (sections_typed s within rest (right_empty here behind e))
+    (section_typed s within section (promise_type section.kind) refl (none_left here behind e))
+    (sections_typed s within rest (none_right here behind e))
 
 bundle_typed : (s : Setting) (type_name : NamedTree) (sections : List SectionTree) (found : Option BundleType) → bundle_by s type_name sections found ≡ [] → All HasType (flat_map worded_promises_of sections)
 bundle_typed s type_name sections None e = absurd (never_other (is_foreign_bundle_type type_name.name) type_name.place e)
@@ -234,7 +235,7 @@ bundle_typed s type_name sections (Some type) e = sections_typed s type sections
 block_typed : (policy : PolicyTree) (b : BlockTree) → block_refusals (definitions_of policy) b ≡ [] → AllTyped b
 block_typed policy (bundle type_name named params sections place) e =
     let s : Setting = record { definitions = definitions_of policy; home = in_bundle named.name } in
-    bundle_typed s type_name sections (bundle_type type_name.name) (right_empty (repeated params) (bundle_by s type_name sections (bundle_type type_name.name)) e)
+    bundle_typed s type_name sections (bundle_type type_name.name) (none_right (repeated params) (bundle_by s type_name sections (bundle_type type_name.name)) e)
 block_typed policy (body type_name named params attributes place) e = tt
 
 policy_typed : (policy : PolicyTree) → Valid policy → All AllTyped policy

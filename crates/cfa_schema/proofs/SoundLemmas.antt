@@ -9,10 +9,10 @@ use Rattle.cfa_base.specs.declared.limits.TheConstants.{MOST_SOURCE_BYTES}
 use Rattle.cfa_base.specs.declared.places.Place.{Place}
 use Rattle.cfa_base.specs.Tokens.{Token}
 use Rattle.cfa_base.specs.Lexing.{is_newline, is_word, spells, line_of, place_past, place_after, Fault, Scans, ends, a_separator, a_comment, a_token, stops}
+use Rattle.cfa_base.specs.lemmas.Lists.{each_append}
 use Rattle.cfa_tree.specs.Tree.{ExprTree, PromiseTree, SectionTree, NamedTree, BlockTree, bundle, body, PolicyTree}
 use Rattle.cfa_tree.specs.Grammar.{Levels, Promises, no_promise, new_guard, a_promise, Sections, no_section, a_section, Words, last_word, next_word, Params, no_params, empty_params, some_params, Policy, no_block, a_bundle, a_body}
 use Rattle.cfa_schema.specs.Sourced.{AreRead, no_file, a_file, joined, IsSourced}
-use Rattle.cfa_schema.proofs.ChainLemmas.{both}
 use Rattle.cfa_schema.proofs.RestLemmas.{all_at_end, then_ends, guard_ends, attributes_end, promisee_ends, promises_end, sections_end, params_end, body_attributes_end}
 
 -- ---- places
@@ -140,7 +140,7 @@ files_sound : {file : ℕ} {parts : List PolicyTree} → AreRead file parts → 
 files_sound no_file = tt
 files_sound (a_file {tree = tree} {more = more} is rest) =
     let fits = is.fits in
-    both (IsSoundBlock last_line) tree (joined more)
+    each_append (IsSoundBlock last_line) tree (joined more)
     (policy_sound last_line is.reads (tokens_sound last_line is.lexes (omega arith) (omega (arith, fits)))) (files_sound rest)
 
 pub sourced_is_sound : (policy : PolicyTree) → IsSourced policy → All (IsSoundBlock last_line) policy

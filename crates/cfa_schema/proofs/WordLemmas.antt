@@ -10,6 +10,7 @@ use Rattle.std.proofs.lemmas.List.Elements.{All-append, All-cons, All-contains, 
 use Rattle.cfa_base.specs.declared.limits.TheConstants.{MOST_SOURCE_BYTES}
 use Rattle.cfa_base.specs.declared.places.Place.{Place}
 use Rattle.cfa_base.specs.Lexing.{is_word_byte}
+use Rattle.cfa_base.specs.lemmas.Lists.{none_left, none_right, each_append}
 use Rattle.cfa_tree.specs.Tree.{ValueTree, list, AttributeTree, PromiseTree, SectionTree, NamedTree, BlockTree, bundle, body, PolicyTree}
 use Rattle.cfa_kinds.specs.declared.kinds.BodyType.TheVariants as bodies
 use Rattle.cfa_kinds.specs.declared.kinds.Kind.TheVariants as kinds
@@ -26,8 +27,7 @@ use Rattle.cfa_schema.specs.Sourced.{IsSourced}
 use Rattle.cfa_schema.specs.Valid.{Valid}
 use Rattle.cfa_schema.specs.Laws.{of_body, IsWord, HasWordName, WordsLackNewlines, NamesAreWords, ParamsAreWords, LinesAreCounts, LinesAreFew, PromisesAreFew, NamedBundleStands, CommonBundlesStand, NamedBundleIsWord, CommonNamesAreWords, SequenceNamesAreWords, IsCounted, IdsAreCounted}
 use Rattle.cfa_schema.specs.lemmas.Found.{word_bytes, first_here, behind_one, IsFound, found, given}
-use Rattle.cfa_schema.proofs.ChainLemmas.{both}
-use Rattle.cfa_schema.proofs.FactLemmas.{left_empty, right_empty, nothing_is_refused}
+use Rattle.cfa_schema.proofs.FactLemmas.{nothing_is_refused}
 use Rattle.cfa_schema.proofs.SizeLemmas.{sourced_has_few}
 use Rattle.cfa_schema.proofs.SoundLemmas.{HasWord, StandsWithin, AllStandWithin, IsSoundBlock, IsSoundBundle, last_line, sourced_is_sound}
 
@@ -82,7 +82,7 @@ ids_counted name number (p ∷ ps) named from to stands =
 
 lines_of : (last : ℕ) (sections : List SectionTree) → AllByRecursion (AllStandWithin last) sections → AllByRecursion (StandsWithin last) (flat_map promises_of sections)
 lines_of last [] h = tt
-lines_of last (section ∷ rest) h = both (StandsWithin last) section.promises (flat_map promises_of rest) h.0 (lines_of last rest h.1)
+lines_of last (section ∷ rest) h = each_append (StandsWithin last) section.promises (flat_map promises_of rest) h.0 (lines_of last rest h.1)
 
 block_counted : (b : BlockTree) → IsSoundBlock last_line b → promise_count b ≤ MOST_SOURCE_BYTES → All IsCounted (ids_in_block b)
 block_counted (bundle type_name name params sections place) sound few =
@@ -227,14 +227,14 @@ module _ (s : Setting) (sound : All HasWordHead s.definitions.bundles) where
   items_are_words (n ∷ rest) e =
       let here = sequence_item_refusals s.definitions n in
       let behind = flat_map (sequence_item_refusals s.definitions) rest in
-      All-cons IsWord n.name (map name_in rest) (item_is_word n (bundle_named s.definitions n.name) refl (left_empty here behind e)) (items_are_words rest (right_empty here behind e))
+      All-cons IsWord n.name (map name_in rest) (item_is_word n (bundle_named s.definitions n.name) refl (none_left here behind e)) (items_are_words rest (none_right here behind e))
 
   listed_are_words : (value : ValueTree) → sequence_refusals s value ≡ [] → All IsWord (names_listed value)
   listed_are_words (list items place) e =
       let known = flat_map (known_item_refusals s) (values_in items) in
       let named = flat_map (sequence_item_refusals s.definitions) (known_items items) in
       let twice = repeated (known_items items) in
-      items_are_words (known_items items) (left_empty named twice (right_empty known (named ++ twice) e))
+      items_are_words (known_items items) (none_left named twice (none_right known (named ++ twice) e))
   listed_are_words v e = All-nil IsWord
 
 given_are_words : (policy : PolicyTree) → Valid policy → IsSourced policy → (value : Option ValueTree) → value_of (codes "bundlesequence") (control_of policy) ≡ value →

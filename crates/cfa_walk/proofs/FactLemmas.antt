@@ -1,9 +1,10 @@
 -- That shared names are plain is a proposition, and the ids of promises are counted.
-use Rattle.std.proofs.Common.{ℕ, ◌+◌, false, List, [], ◌∷◌, ◌++◌, map, All, Option, Some, None, sym, subst}
-use Rattle.std.specs.List.{Contains, cons_option, flat_map}
+use Rattle.std.proofs.Common.{ℕ, ◌+◌, false, List, [], ◌∷◌, map, All, Option, Some, None, sym, subst}
+use Rattle.std.specs.List.{cons_option, flat_map}
 use Rattle.std.proofs.Math.Bool.{Bool-set}
 use Rattle.std.proofs.Math.Bridge.{le_prop}
-use Rattle.std.proofs.lemmas.List.Elements.{All-cons, All-contains, All-contains_itself, All-head, All-nil, All-tail, All-weaker, Contains-append_left, Contains-append_right}
+use Rattle.std.proofs.lemmas.List.Elements.{All-cons, All-contains, All-head, All-nil, All-tail}
+use Rattle.cfa_base.specs.lemmas.Lists.{all_flat}
 use Rattle.cfa_kinds.specs.declared.kinds.PromiseType.{PromiseType}
 use Rattle.cfa_kinds.specs.Kinds.{promise_type}
 use Rattle.cfa_served.specs.Checked.{worded_promises_of, ids_from, ids_in_block, promise_ids_of}
@@ -18,13 +19,7 @@ use Rattle.cfa_walk.specs.Numbered.{Numbered, numbered_as, numbered_from, number
 use Rattle.cfa_walk.specs.Steps.{AreCounted}
 use Rattle.cfa_walk.specs.Views.{shared_names}
 
--- ---- lists and names
-
-all_left : {X : Type 0} (P : X → Type 0) (xs ys : List X) → All P (xs ++ ys) → All P xs
-all_left P xs ys all = All-weaker (Contains xs) P (λ x on. All-contains P (xs ++ ys) x all (Contains-append_left xs ys x on)) xs (All-contains_itself xs)
-
-all_right : {X : Type 0} (P : X → Type 0) (xs ys : List X) → All P (xs ++ ys) → All P ys
-all_right P xs ys all = All-weaker (Contains ys) P (λ x on. All-contains P (xs ++ ys) x all (Contains-append_right xs ys x on)) ys (All-contains_itself ys)
+-- ---- names
 
 pub plain_names_prop : (policy : PolicyTree) → IsProp (HasPlainNames policy)
 plain_names_prop policy = λ x y i path newline. Bool-set (is_listed (shared_names policy) path) false (x path newline) (y path newline) i
@@ -55,16 +50,10 @@ counted_in (body type_name named params attributes place) counted = All-nil IsOn
 abbrev BlockIsCounted : BlockTree → Type 0
 BlockIsCounted block = All IsCounted (ids_in_block block)
 
-each_counted : (policy : PolicyTree) → All IsCounted (flat_map ids_in_block policy) → All BlockIsCounted policy
-each_counted [] counted = All-nil BlockIsCounted
-each_counted (block ∷ policy) counted =
-    All-cons BlockIsCounted block policy (all_left IsCounted (ids_in_block block) (flat_map ids_in_block policy) counted)
-    (each_counted policy (all_right IsCounted (ids_in_block block) (flat_map ids_in_block policy) counted))
-
 pub counted_ids : (policy : PolicyTree) → NamedBundleStands → IdsAreCounted → IsSourced policy → HasCountedIds policy
 unfolding promise_ids_of
 counted_ids policy stand counted sourced = λ name block found.
-    counted_in block (All-contains BlockIsCounted policy block (each_counted policy (counted policy sourced)) (stand policy name block found))
+    counted_in block (All-contains BlockIsCounted policy block (all_flat IsCounted ids_in_block policy (counted policy sourced)) (stand policy name block found))
 
 pub counted_ids_prop : (policy : PolicyTree) → IsProp (HasCountedIds policy)
 counted_ids_prop policy = hlevel (le_prop, Bool-set)
