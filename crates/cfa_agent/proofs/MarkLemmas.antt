@@ -13,6 +13,7 @@ use Rattle.std.proofs.lemmas.List.{length-take-le}
 use Rattle.std.proofs.lemmas.List.Folds.{find-append}
 use Rattle.std.proofs.lemmas.List.Splits.{slice_split_at}
 use Rattle.cfa_base.specs.declared.places.PromiseId.{PromiseId}
+use Rattle.cfa_base.specs.lemmas.Lists.{option_or-none}
 use Rattle.cfa_rows.specs.Cuts.{Lacks}
 use Rattle.cfa_rows.specs.lemmas.Cuts.{Lacks-from_test}
 use Rattle.cfa_rows.specs.lemmas.Numbers.{decimal-lacks, numerals}
@@ -309,10 +310,7 @@ mark_before n k moment log instance has_record has_locks planned m small le whol
     ap (λ marks. mark_of marks k) (marks_next n moment log instance has_record has_locks planned m small whole plain could)
     ∙ find-append (λ (m : Mark). m.instance == k) (marks_of log) (marks_in m)
     ∙ ap (option_or (mark_of (marks_of log) k)) (found_other (suc n) k planned m (omega arith) could)
-    ∙ or_none (mark_of (marks_of log) k) where
-      or_none : (o : Option Mark) → option_or o None ≡ o
-      or_none None = refl
-      or_none (Some m) = refl
+    ∙ option_or-none (mark_of (marks_of log) k)
 
 -- and the next instance has the mark that it met
 pub mark_next : (n moment : ℕ) (log : List Entry) (instance : Instance) (has_record has_locks : Bool) (planned : Actuated) (m : Option Mark) → suc n < 2 ^ 64 → IsWholeLog n log → AreOfActs planned.changes → CouldMeet (suc n) planned m →

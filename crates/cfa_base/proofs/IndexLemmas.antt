@@ -1,9 +1,7 @@
 -- The tables of the indexes: what a table answers after a name or a pair was noted.
-use Rattle.std.proofs.Common.{◌≡◌, ℕ, ◌+◌, Bool, true, false, cond, List, [], ◌∷◌, ◌++◌, length, Option, Some, None, sym, ap, refl, ◌∙◌, arith, ◌&&◌}
+use Rattle.std.proofs.Common.{◌≡◌, ℕ, Bool, true, false, cond, List, [], ◌∷◌, ◌++◌, length, Option, Some, None, sym, ap, refl, ◌∙◌, ◌&&◌}
 use Rattle.std.specs.Option.{option_or}
-use Rattle.std.specs.List.{position, position_from}
 use Rattle.std.specs.Str.{bytes_eq}
-use Rattle.std.proofs.lemmas.Iterator.Adapters.{position_from-zero}
 use Rattle.std.proofs.lemmas.Slice.Eq.{bytes_eq-Decides}
 use Rattle.std.proofs.lemmas.Bool.{false≢true}
 use Rattle.std.proofs.lemmas.List.{length-map, map-append}
@@ -12,16 +10,13 @@ use Rattle.std.proofs.lemmas.Map.Text.{hash_map_updates_str}
 use denote.Ref.{Bor}
 use Rattle.cfa_base.specs.Index.{Text, place_of, same_pair, pair_place_of}
 use Rattle.cfa_base.specs.IndexTables.{texts_of, noted, Answers, Notes, pairs_of, pair_noted, AnswersPairs}
+use Rattle.cfa_base.specs.lemmas.Lists.{place_push, option_or-none}
 
 same_text_is : (x y : Text) → bytes_eq x y ≡ true → x ≡ y
 same_text_is x y = (bytes_eq-Decides x y).0
 
 text_is_same : (x : Text) → bytes_eq x x ≡ true
 text_is_same x = (bytes_eq-Decides x x).1 refl
-
-option_or-none : {A : Type 0} → (o : Option A) → option_or o None ≡ o
-option_or-none None = refl
-option_or-none (Some x) = refl
 
 -- a place that is set at a key that has none is noted there
 notes : {Key : Type 0} → (same : Key → Key → Bool) → ((x y : Key) → same x y ≡ true → x ≡ y) → ((x : Key) → same x x ≡ true)
@@ -42,21 +37,6 @@ pub notes_name : {S : Type 0} (name : Text) (m n : HashMap (Bor Text) ℕ S) (pl
 notes_name name m n place updates absent other =
     notes bytes_eq same_text_is text_is_same (noted m) (noted n) name place absent other _ _ refl refl
     (hash_map_updates_str name m n (Some place) updates other)
-
-place_from_push : {X : Type 0} (p : X → Bool) → (xs : List X) (y : X) (i j : ℕ) → j ≡ i + length xs
-    → position_from p i (xs ++ y ∷ []) ≡ option_or (position_from p i xs) (cond (p y) (Some j) None)
-place_from_push p [] y i j e = ap (λ k. cond (p y) (Some k) None) (omega arith)
-place_from_push p (x ∷ xs) y i j e =
-    let more = place_from_push p xs y (i + 1) j (omega arith) in
-    elim (p x) as (λ b. cond b (Some i) (position_from p (i + 1) (xs ++ y ∷ [])) ≡ option_or (cond b (Some i) (position_from p (i + 1) xs)) (cond (p y) (Some j) None))
-    [ true ↦ refl | false ↦ more ]
-
--- where a place is looked for once the list has one more at its end
-place_push : {X : Type 0} (p : X → Bool) (xs : List X) (y : X) (n : ℕ) → n ≡ length xs
-    → position p (xs ++ y ∷ []) ≡ option_or (position p xs) (cond (p y) (Some n) None)
-place_push p xs y n e =
-    position_from-zero p (xs ++ y ∷ []) ∙ place_from_push p xs y 0 n (omega arith)
-    ∙ ap (λ o. option_or o (cond (p y) (Some n) None)) (sym (position_from-zero p xs))
 
 -- the table after a name was noted at its place answers for the list with that name at its end
 pub answers_push : {S : Type 0} (names : List (Bor Text)) (name : Bor Text) (before after : HashMap (Bor Text) ℕ S)

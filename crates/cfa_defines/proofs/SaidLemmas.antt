@@ -1,6 +1,6 @@
 -- What several expressions say together, one more at a time.
-use Rattle.std.proofs.Common.{◌≡◌, ◌∙◌, ℕ, List, [], ◌∷◌, ◌++◌, ap, sym, refl, Option, Some, None}
-use Rattle.std.specs.Option.{option_or}
+use Rattle.std.proofs.Common.{◌≡◌, ◌∙◌, List, [], ◌∷◌, ◌++◌, ap, sym, refl}
+use Rattle.cfa_base.specs.lemmas.Lists.{option_or-none, option_or-assoc}
 use Rattle.cfa_classes.specs.declared.levels.Status.{Status}
 use Rattle.cfa_classes.specs.Status.{lesser, greater}
 use Rattle.cfa_classes.specs.lemmas.Orders.{lesser_assoc, greater_assoc, lesser_Yes, greater_No}
@@ -10,16 +10,6 @@ use Rattle.cfa_defines.specs.declared.saying.Join.{Join}
 use Rattle.cfa_defines.specs.declared.saying.Join.TheVariants.{All as of_all, One as of_one}
 use Rattle.cfa_defines.specs.ClassPromises.{joined}
 use Rattle.cfa_defines.specs.Joining.{operation, together}
-
--- ---- the first of several texts
-
-or_assoc : (f g h : Option (List ℕ)) → option_or (option_or f g) h ≡ option_or f (option_or g h)
-or_assoc None g h = refl
-or_assoc (Some x) g h = refl
-
-or_None : (f : Option (List ℕ)) → option_or f None ≡ f
-or_None None = refl
-or_None (Some x) = refl
 
 -- ---- two at a time
 
@@ -38,7 +28,7 @@ joined_assoc_by op assoc (says s f) no_expression no_expression = refl
 joined_assoc_by op assoc (says s f) no_expression (says u h) = refl
 joined_assoc_by op assoc (says s f) (says t g) stops = refl
 joined_assoc_by op assoc (says s f) (says t g) no_expression = refl
-joined_assoc_by op assoc (says s f) (says t g) (says u h) = λ i. says (assoc s t u i) (or_assoc f g h i)
+joined_assoc_by op assoc (says s f) (says t g) (says u h) = λ i. says (assoc s t u i) (option_or-assoc f g h i)
 
 pub joined_assoc : (j : Join) (a b c : Said) → joined (operation j) (joined (operation j) a b) c ≡ joined (operation j) a (joined (operation j) b c)
 joined_assoc of_all a b c = joined_assoc_by lesser lesser_assoc a b c
@@ -48,10 +38,10 @@ joined_assoc of_one a b c = joined_assoc_by greater greater_assoc a b c
 pub joined_start : (j : Join) (a : Said) → joined (operation j) a (together j []) ≡ a
 joined_start of_all stops = refl
 joined_start of_all no_expression = refl
-joined_start of_all (says s f) = λ i. says (lesser_Yes s i) (or_None f i)
+joined_start of_all (says s f) = λ i. says (lesser_Yes s i) (option_or-none f i)
 joined_start of_one stops = refl
 joined_start of_one no_expression = refl
-joined_start of_one (says s f) = λ i. says (greater_No s i) (or_None f i)
+joined_start of_one (says s f) = λ i. says (greater_No s i) (option_or-none f i)
 
 pub start_joined : (j : Join) (a : Said) → joined (operation j) (together j []) a ≡ a
 start_joined of_all stops = refl

@@ -6,6 +6,7 @@ use Rattle.std.specs.Option.{option_map, option_or}
 use Rattle.std.proofs.lemmas.List.{take_more, drop_more, take_at, drop_at, take_all, drop_all, append_assoc, length-take-le, length-append, length-drop, take-append-drop}
 use Rattle.std.proofs.lemmas.Option.{slice_get_within, get_or_from_slice_get, slice_get_cases}
 use Rattle.cfa_base.specs.Patterns.{PatternText, matches_in}
+use Rattle.cfa_base.specs.lemmas.Lists.{option_or-assoc}
 use Rattle.cfa_edits.specs.Edits.{Lines, unmatched, led_by, each_becomes, last_from}
 
 -- a line stands at the place
@@ -137,19 +138,15 @@ pub first_here : (test : List ℕ → Bool) (lines : Lines) (place : ℕ) (line 
     → position_from test place (drop place lines) ≡ all → Some place ≡ all
 first_here test lines place line all t hit so_far = rw (t.rest, hit) at so_far
 
-or_assoc : (a b c : Option ℕ) → option_or (option_or a b) c ≡ option_or a (option_or b c)
-or_assoc None b c = refl
-or_assoc (Some x) b c = refl
-
 pub last_more : (test : List ℕ → Bool) (lines : Lines) (place : ℕ) (line : List ℕ) (found all : Option ℕ) → Turn lines place line → test line ≡ false
     → option_or (last_from test place (drop place lines)) found ≡ all → option_or (last_from test (place + 1) (drop (place + 1) lines)) found ≡ all
 last_more test lines place line found all t miss so_far =
-    sym (or_assoc (last_from test (place + 1) (drop (place + 1) lines)) None found) ∙ (rw (t.rest, miss) at so_far)
+    sym (option_or-assoc (last_from test (place + 1) (drop (place + 1) lines)) None found) ∙ (rw (t.rest, miss) at so_far)
 
 pub last_here : (test : List ℕ → Bool) (lines : Lines) (place : ℕ) (line : List ℕ) (found all : Option ℕ) → Turn lines place line → test line ≡ true
     → option_or (last_from test place (drop place lines)) found ≡ all → option_or (last_from test (place + 1) (drop (place + 1) lines)) (Some place) ≡ all
 last_here test lines place line found all t hit so_far =
-    sym (or_assoc (last_from test (place + 1) (drop (place + 1) lines)) (Some place) found) ∙ (rw (t.rest, hit) at so_far)
+    sym (option_or-assoc (last_from test (place + 1) (drop (place + 1) lines)) (Some place) found) ∙ (rw (t.rest, hit) at so_far)
 
 pub found_before : (found : Option ℕ) (place : ℕ) → IfSome found (λ n. n < place) → IfSome found (λ n. n < place + 1)
 found_before None place h = h

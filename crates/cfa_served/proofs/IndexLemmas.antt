@@ -2,9 +2,8 @@
 use Rattle.std.proofs.Common.{◌≡◌, ◌<◌, ◌≤◌, ℕ, ◌+◌, Bool, true, false, cond, List, [], ◌∷◌, ◌++◌, length, Option, Some, None, sym, ap, refl, ◌∙◌, arith, map, take, get_or, subst}
 use Rattle.std.specs.Prelude.{is_some, slice_get, option_and_then, nat_lt, find, option_copied}
 use Rattle.std.specs.Option.{option_or}
-use Rattle.std.specs.List.{position, position_from, position_or_len}
+use Rattle.std.specs.List.{position, position_or_len}
 use Rattle.std.specs.Str.{bytes_eq}
-use Rattle.std.proofs.lemmas.Iterator.Adapters.{position_from-zero}
 use Rattle.std.proofs.lemmas.Slice.Eq.{bytes_eq-Decides}
 use Rattle.std.proofs.lemmas.Map.Text.{is_eq-slice_cmp}
 use Rattle.std.proofs.lemmas.List.{length-map, map-append, take_more, take_all, length-take-le}
@@ -16,6 +15,7 @@ use Rattle.std.proofs.lemmas.Bool.Decides.{nat_tests}
 use denote.Ref.{Bor}
 use Rattle.cfa_base.specs.IndexTables.{Notes}
 use Rattle.cfa_base.specs.TextMaps.{TextMap}
+use Rattle.cfa_base.specs.lemmas.Lists.{place_push, option_or-none}
 use Rattle.cfa_tree.specs.declared.blocks.Block.{Block}
 use Rattle.cfa_tree.specs.Plain.{plain_block}
 use Rattle.cfa_tree.specs.Tree.{PolicyTree}
@@ -24,10 +24,6 @@ use Rattle.cfa_served.specs.declared.index.Wanted.TheVariants.{Bundle, Body}
 use Rattle.cfa_served.specs.declared.index.Index.{Index}
 use Rattle.cfa_kinds.specs.declared.kinds.BodyType.TheVariants as bodies
 use Rattle.cfa_served.specs.Indexed.{AnswersPlaces, IsIndex, is_name, is_wanted, place_of}
-
-or_none : {A : Type 0} → (o : Option A) → option_or o None ≡ o
-or_none None = refl
-or_none (Some x) = refl
 
 or_some : {A : Type 0} → (o p : Option A) → is_some o ≡ true → o ≡ option_or o p
 or_some None p e = cc
@@ -43,7 +39,7 @@ same_text q k = (bytes_eq-Decides q k).0
 kept_by : (m : TextMap ℕ) (name q : List ℕ) (place : ℕ) (b : Bool) → bytes_eq q name ≡ b → is_some (finite.get m name) ≡ true →
     finite.get m q ≡ option_or (finite.get m q) (cond b (Some place) None)
 kept_by m name q place true e some = or_some (finite.get m q) (Some place) (ap (λ k. is_some (finite.get m k)) (same_text q name e) ∙ some)
-kept_by m name q place false e some = sym (or_none (finite.get m q))
+kept_by m name q place false e some = sym (option_or-none (finite.get m q))
 
 -- a name that has a place keeps it
 pub place_kept : (m : TextMap ℕ) (name : List ℕ) (place : ℕ) → is_some (finite.get m name) ≡ true →
@@ -57,7 +53,7 @@ none_is (Some x) e = cc
 put_by : (m : TextMap ℕ) (name q : List ℕ) (place : ℕ) (b : Bool) → bytes_eq q name ≡ b → is_some (finite.get m name) ≡ false →
     cond b (Some place) (finite.get m q) ≡ option_or (finite.get m q) (cond b (Some place) None)
 put_by m name q place true e none = from_none (finite.get m q) (Some place) (none_is (finite.get m q) (ap (λ k. is_some (finite.get m k)) (same_text q name e) ∙ none))
-put_by m name q place false e none = sym (or_none (finite.get m q))
+put_by m name q place false e none = sym (option_or-none (finite.get m q))
 
 -- a name that had none gets this one
 pub place_put : (m n : TextMap ℕ) (name : List ℕ) (place : ℕ) → is_some (finite.get m name) ≡ false → n ≡ finite.insert m name place →
@@ -66,20 +62,6 @@ place_put m n name place none is q =
     ap (λ (k : TextMap ℕ). finite.get k q) is ∙ finite.get-insert nat_list_cmp_total m name place q
     ∙ ap (λ b. cond b (Some place) (finite.get m q)) (is_eq-slice_cmp q name)
     ∙ put_by m name q place (bytes_eq q name) refl none
-
-place_from_push : {X : Type 0} (p : X → Bool) → (xs : List X) (y : X) (i j : ℕ) → j ≡ i + length xs
-    → position_from p i (xs ++ y ∷ []) ≡ option_or (position_from p i xs) (cond (p y) (Some j) None)
-place_from_push p [] y i j e = ap (λ k. cond (p y) (Some k) None) (omega arith)
-place_from_push p (x ∷ xs) y i j e =
-    let more = place_from_push p xs y (i + 1) j (omega arith) in
-    elim (p x) as (λ b. cond b (Some i) (position_from p (i + 1) (xs ++ y ∷ [])) ≡ option_or (cond b (Some i) (position_from p (i + 1) xs)) (cond (p y) (Some j) None))
-    [ true ↦ refl | false ↦ more ]
-
-place_push : {X : Type 0} (p : X → Bool) (xs : List X) (y : X) (n : ℕ) → n ≡ length xs
-    → position p (xs ++ y ∷ []) ≡ option_or (position p xs) (cond (p y) (Some n) None)
-place_push p xs y n e =
-    position_from-zero p (xs ++ y ∷ []) ∙ place_from_push p xs y 0 n (omega arith)
-    ∙ ap (λ o. option_or o (cond (p y) (Some n) None)) (sym (position_from-zero p xs))
 
 module _ (wanted : Wanted) (blocks : List Block) (i : ℕ) (block : Block) (within : i < length blocks) (is : block ≡ get_or blocks i block) (before : TextMap ℕ)
     (answers : AnswersPlaces wanted before (map plain_block (take i blocks))) where
@@ -98,7 +80,7 @@ module _ (wanted : Wanted) (blocks : List Block) (i : ℕ) (block : Block) (with
   pub place_passed : (found : Option (List ℕ)) → ((name : List ℕ) → is_wanted wanted name (plain_block block) ≡ is_name name found) → found ≡ None →
       AnswersPlaces wanted before (map plain_block (take (i + 1) blocks))
   place_passed found tests none name =
-      answers name ∙ sym (or_none (position (is_wanted wanted name) passed))
+      answers name ∙ sym (option_or-none (position (is_wanted wanted name) passed))
       ∙ ap (λ b. option_or (position (is_wanted wanted name) passed) (cond b (Some i) None)) (sym (tests name ∙ ap (is_name name) none))
       ∙ sym (place_push (is_wanted wanted name) passed (plain_block block) i count)
       ∙ ap (position (is_wanted wanted name)) (sym one_more)

@@ -1,6 +1,8 @@
--- Lists of several parts: each part of an empty list is empty, and what holds of the items of a list holds of those of its parts.
-use Rattle.std.proofs.Common.{◌≡◌, List, [], ◌∷◌, ◌++◌, All, refl}
-use Rattle.std.specs.List.{AllByRecursion as Each, Contains, flat_map}
+-- Lists of several parts: each part of an empty list is empty, what holds of the items of a list holds of those of its parts, where the first item that passes a test stands, and the first of several values that may be there.
+use Rattle.std.proofs.Common.{◌≡◌, ◌∙◌, ℕ, ◌+◌, Bool, true, false, cond, List, [], ◌∷◌, ◌++◌, length, All, Option, Some, None, refl, ap, sym, arith}
+use Rattle.std.specs.Option.{option_or}
+use Rattle.std.specs.List.{AllByRecursion as Each, Contains, flat_map, position, position_from}
+use Rattle.std.proofs.lemmas.Iterator.Adapters.{position_from-zero}
 use Rattle.std.proofs.lemmas.List.Elements.{All-cons, All-contains, All-contains_itself, All-from_recursion, All-head, All-nil, All-weaker, Contains-append_left, Contains-append_right}
 
 -- ---- parts of an empty list
@@ -45,3 +47,30 @@ pub all_flat : {X Y : Type 0} (P : Y → Type 0) (f : X → List Y) (xs : List X
 all_flat P f [] all = All-nil (λ x. All P (f x))
 all_flat P f (x ∷ xs) all =
     All-cons (λ y. All P (f y)) x xs (all_left P (f x) (flat_map f xs) all) (all_flat P f xs (all_right P (f x) (flat_map f xs) all))
+
+-- ---- the first item that passes
+
+place_from_push : {X : Type 0} (p : X → Bool) → (xs : List X) (y : X) (i j : ℕ) → j ≡ i + length xs
+    → position_from p i (xs ++ y ∷ []) ≡ option_or (position_from p i xs) (cond (p y) (Some j) None)
+place_from_push p [] y i j e = ap (λ k. cond (p y) (Some k) None) (omega arith)
+place_from_push p (x ∷ xs) y i j e =
+    let more = place_from_push p xs y (i + 1) j (omega arith) in
+    elim (p x) as (λ b. cond b (Some i) (position_from p (i + 1) (xs ++ y ∷ [])) ≡ option_or (cond b (Some i) (position_from p (i + 1) xs)) (cond (p y) (Some j) None))
+    [ true ↦ refl | false ↦ more ]
+
+-- where a place is looked for once the list has one more at its end
+pub place_push : {X : Type 0} (p : X → Bool) (xs : List X) (y : X) (n : ℕ) → n ≡ length xs
+    → position p (xs ++ y ∷ []) ≡ option_or (position p xs) (cond (p y) (Some n) None)
+place_push p xs y n e =
+    position_from-zero p (xs ++ y ∷ []) ∙ place_from_push p xs y 0 n (omega arith)
+    ∙ ap (λ o. option_or o (cond (p y) (Some n) None)) (sym (position_from-zero p xs))
+
+-- ---- values that may be there
+
+pub option_or-none : {A : Type 0} → (o : Option A) → option_or o None ≡ o
+option_or-none None = refl
+option_or-none (Some x) = refl
+
+pub option_or-assoc : {A : Type 0} → (o p q : Option A) → option_or (option_or o p) q ≡ option_or o (option_or p q)
+option_or-assoc None p q = refl
+option_or-assoc (Some x) p q = refl
