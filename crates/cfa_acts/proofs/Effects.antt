@@ -1,13 +1,13 @@
 -- What stands at a path after a change.
 use Rattle.std.proofs.Common.{◌≡◌, ℕ, ◌+◌, List, [], ◌∷◌, ◌++◌, length, take, Bool, true, false, cond, ◌||◌, eqb, Option, Some, None, is_some, refl, sym, ap, ◌∙◌, append_assoc, length-append}
 use Rattle.std.proofs.lemmas.Bool.{false≢true, and_parts, eqb-true}
-use Rattle.std.proofs.lemmas.Slice.Eq.{bytes_eq-Decides}
 use Rattle.std.specs.Cmp.Lexicographic.{nat_list_cmp_total}
 use Rattle.std.specs.List.{list_all, list_any}
 use Rattle.std.specs.Str.{bytes_eq}
 use Rattle.std.specs.FinMap as map
 use Rattle.cfa_base.specs.TextMaps.{TextMap}
 use Rattle.cfa_base.specs.lemmas.TextMaps.{ties_alike, get-put}
+use Rattle.cfa_base.specs.lemmas.EqualTexts.{same_text, is_text}
 use Rattle.cfa_outside.specs.declared.worlds.World.{World}
 use Rattle.cfa_outside.specs.declared.worlds.Perms.{Perms}
 use Rattle.cfa_outside.specs.declared.worlds.Node.{Node}
@@ -16,12 +16,6 @@ use Rattle.cfa_outside.specs.declared.sites.Change.TheVariants.{PutFile, PutDir,
 use Rattle.cfa_outside.specs.Worlds.{NodeMap, HasParents, is_directory, above, above_from, is_below, new_directory, with_dir, with_dirs, file_with, put_file, put_directory, with_perms, set_perms, set_perms_of}
 use Rattle.cfa_outside.specs.Sites.{after_change}
 use Rattle.cfa_acts.specs.Disturbs.{is_at_or_beneath}
-
-pub same : (p q : List ℕ) → bytes_eq p q ≡ true → p ≡ q
-same p q = (bytes_eq-Decides p q).0
-
-pub alike : (p : List ℕ) → bytes_eq p p ≡ true
-alike p = (bytes_eq-Decides p p).1 refl
 
 pub or_false : (a b : Bool) → (a || b) ≡ false → (a ≡ false) × (b ≡ false)
 or_false true b e = absurd (false≢true (sym e))
@@ -33,7 +27,7 @@ get-without m k q = map.get-remove nat_list_cmp_total m k q ∙ ap (λ b. cond b
 -- a path where a node stands isn't one where nothing does
 pub apart : (m : NodeMap) (q r : List ℕ) (n : Node) → map.get m q ≡ None → map.get m r ≡ Some n → bytes_eq q r ≡ false
 apart m q r n none here = elim (bytes_eq q r) as (λ b. bytes_eq q r ≡ b → b ≡ false) [
-  | true ↦ λ e. let at_q : map.get m q ≡ Some n = ap (map.get m) (same q r e) ∙ here in cc
+  | true ↦ λ e. let at_q : map.get m q ≡ Some n = ap (map.get m) (is_text q r e) ∙ here in cc
   | false ↦ λ _. refl
 ] refl
 
@@ -42,7 +36,7 @@ stays_once : (m : NodeMap) (d q : List ℕ) (n : Node) → map.get m q ≡ Some 
 stays_once m d q n here = elim (is_some (map.get m d)) as (λ b. is_some (map.get m d) ≡ b → map.get (cond b m (map.insert m d new_directory)) q ≡ Some n) [
   | true ↦ λ _. here
   | false ↦ λ none. get-put m d new_directory q ∙ elim (bytes_eq d q) as (λ b. bytes_eq d q ≡ b → cond b (Some new_directory) (map.get m q) ≡ Some n) [
-    | true ↦ λ e. absurd (false≢true (sym none ∙ ap (λ (k : List ℕ). is_some (map.get m k)) (same d q e) ∙ ap is_some here))
+    | true ↦ λ e. absurd (false≢true (sym none ∙ ap (λ (k : List ℕ). is_some (map.get m k)) (is_text d q e) ∙ ap is_some here))
     | false ↦ λ _. here
   ] refl
 ] refl
@@ -74,7 +68,7 @@ unfolding is_below
 begins q rest =
     ap (λ (l : List ℕ). bytes_eq (q ++ 47 ∷ []) (take (length (q ++ 47 ∷ [])) l)) (sym (append_assoc q (47 ∷ []) rest))
     ∙ ap (bytes_eq (q ++ 47 ∷ [])) (take_front (q ++ 47 ∷ []) rest)
-    ∙ alike (q ++ 47 ∷ [])
+    ∙ same_text (q ++ 47 ∷ [])
 
 none_from : (q front rest path : List ℕ) → path ≡ front ++ rest → is_below q path ≡ false → list_any (λ d. bytes_eq d q) (above_from path (length front) rest) ≡ false
 none_from q front [] path is out = refl
@@ -85,7 +79,7 @@ none_from q front (b ∷ rest) path is out =
     elim (eqb b 47) as (λ t. eqb b 47 ≡ t → list_any (λ d. bytes_eq d q) (cond t (take (length front) path ∷ above_from path (length front + 1) rest) (above_from path (length front + 1) rest)) ≡ false) [
       | true ↦ λ slash. elim (bytes_eq (take (length front) path) q) as (λ t. bytes_eq (take (length front) path) q ≡ t → (t || list_any (λ d. bytes_eq d q) (above_from path (length front + 1) rest)) ≡ false) [
         | true ↦ λ e.
-            let front_is : front ≡ q = sym (ap (take (length front)) is ∙ take_front front (b ∷ rest)) ∙ same (take (length front) path) q e in
+            let front_is : front ≡ q = sym (ap (take (length front)) is ∙ take_front front (b ∷ rest)) ∙ is_text (take (length front) path) q e in
             let whole : path ≡ q ++ 47 ∷ rest = is ∙ ap (λ (x : ℕ). front ++ x ∷ rest) (eqb-true b 47 slash) ∙ ap (λ (l : List ℕ). l ++ 47 ∷ rest) front_is in
             absurd (false≢true (sym out ∙ ap (is_below q) whole ∙ begins q rest))
         | false ↦ λ _. later
@@ -110,7 +104,7 @@ put_leaves : (m : NodeMap) (q r : List ℕ) (n : Node) (made : Option Node → N
 put_leaves m q r n made here =
     get-put (with_dirs (above q) m) q (made (map.get m q)) r
     ∙ elim (bytes_eq q r) as (λ b. bytes_eq q r ≡ b → cond b (Some (made (map.get m q))) (map.get (with_dirs (above q) m) r) ≡ cond b (Some (made (Some n))) (Some n)) [
-      | true ↦ λ e. ap (λ (o : Option Node). Some (made o)) (ap (map.get m) (same q r e) ∙ here)
+      | true ↦ λ e. ap (λ (o : Option Node). Some (made o)) (ap (map.get m) (is_text q r e) ∙ here)
       | false ↦ λ _. stays (above q) m r n here
     ] refl
 
@@ -119,7 +113,7 @@ set_leaves m q r perms n None there here = here ∙ sym (ap (λ b. cond b (Some 
 set_leaves m q r perms n (Some x) there here =
     get-put m q (with_perms perms x) r
     ∙ elim (bytes_eq q r) as (λ b. bytes_eq q r ≡ b → cond b (Some (with_perms perms x)) (map.get m r) ≡ cond b (Some (with_perms perms n)) (Some n)) [
-      | true ↦ λ e. let is : x ≡ n = let both : Some x ≡ Some n = sym there ∙ ap (map.get m) (same q r e) ∙ here in cc in ap (λ (y : Node). Some (with_perms perms y)) is
+      | true ↦ λ e. let is : x ≡ n = let both : Some x ≡ Some n = sym there ∙ ap (map.get m) (is_text q r e) ∙ here in cc in ap (λ (y : Node). Some (with_perms perms y)) is
       | false ↦ λ _. here
     ] refl
 
@@ -145,7 +139,7 @@ put_clear m q r made none out =
     let parts = or_false (bytes_eq r q) (is_below r q) out in
     get-put (with_dirs (above q) m) q made r
     ∙ elim (bytes_eq q r) as (λ b. bytes_eq q r ≡ b → cond b (Some made) (map.get (with_dirs (above q) m) r) ≡ None) [
-      | true ↦ λ e. absurd (false≢true (sym parts.0 ∙ ap (λ (p : List ℕ). bytes_eq r p) (same q r e) ∙ alike r))
+      | true ↦ λ e. absurd (false≢true (sym parts.0 ∙ ap (λ (p : List ℕ). bytes_eq r p) (is_text q r e) ∙ same_text r))
       | false ↦ λ _. clear (above q) m r (not_above r q parts.1) none
     ] refl
 
@@ -155,7 +149,7 @@ outside m r [] none stand = refl
 outside m r (d ∷ ds) none stand =
     let parts = and_parts (is_directory (map.get m d)) (list_all (λ p. is_directory (map.get m p)) ds) stand in
     elim (bytes_eq d r) as (λ b. bytes_eq d r ≡ b → (b || list_any (λ p. bytes_eq p r) ds) ≡ false) [
-      | true ↦ λ e. absurd (false≢true (sym (ap is_directory none) ∙ ap (λ (p : List ℕ). is_directory (map.get m p)) (sym (same d r e)) ∙ parts.0))
+      | true ↦ λ e. absurd (false≢true (sym (ap is_directory none) ∙ ap (λ (p : List ℕ). is_directory (map.get m p)) (sym (is_text d r e)) ∙ parts.0))
       | false ↦ λ _. outside m r ds none parts.1
     ] refl
 
@@ -164,7 +158,7 @@ unfolding after_change put_file
 put_over world q r bytes n parents here none =
     get-put (with_dirs (above q) world.nodes) q (file_with bytes (map.get world.nodes q)) r
     ∙ elim (bytes_eq q r) as (λ b. bytes_eq q r ≡ b → cond b (Some (file_with bytes (map.get world.nodes q))) (map.get (with_dirs (above q) world.nodes) r) ≡ None) [
-      | true ↦ λ e. let both : Some n ≡ nowhere = sym here ∙ ap (map.get world.nodes) (same q r e) ∙ none in cc
+      | true ↦ λ e. let both : Some n ≡ nowhere = sym here ∙ ap (map.get world.nodes) (is_text q r e) ∙ none in cc
       | false ↦ λ _. clear (above q) world.nodes r (outside world.nodes r (above q) none (parents.of_each q (ap is_some here))) none
     ] refl
 
@@ -173,7 +167,7 @@ set_clear m q r perms None there none = none
 set_clear m q r perms (Some x) there none =
     get-put m q (with_perms perms x) r
     ∙ elim (bytes_eq q r) as (λ b. bytes_eq q r ≡ b → cond b (Some (with_perms perms x)) (map.get m r) ≡ None) [
-      | true ↦ λ e. let both : Some x ≡ nowhere = sym there ∙ ap (map.get m) (same q r e) ∙ none in cc
+      | true ↦ λ e. let both : Some x ≡ nowhere = sym there ∙ ap (map.get m) (is_text q r e) ∙ none in cc
       | false ↦ λ _. none
     ] refl
 
@@ -191,12 +185,12 @@ stays_clear _ world r none out = none
 -- what stands at the path of a change
 pub put_there : (world : World) (q bytes : List ℕ) → map.get (after_change (PutFile q bytes) world).nodes q ≡ Some (file_with bytes (map.get world.nodes q))
 unfolding after_change put_file
-put_there world q bytes = get-put (with_dirs (above q) world.nodes) q (file_with bytes (map.get world.nodes q)) q ∙ ap (λ b. cond b (Some (file_with bytes (map.get world.nodes q))) (map.get (with_dirs (above q) world.nodes) q)) (alike q)
+put_there world q bytes = get-put (with_dirs (above q) world.nodes) q (file_with bytes (map.get world.nodes q)) q ∙ ap (λ b. cond b (Some (file_with bytes (map.get world.nodes q))) (map.get (with_dirs (above q) world.nodes) q)) (same_text q)
 
 pub directory_there : (world : World) (q : List ℕ) → map.get (after_change (PutDir q) world).nodes q ≡ Some new_directory
 unfolding after_change put_directory
-directory_there world q = get-put (with_dirs (above q) world.nodes) q new_directory q ∙ ap (λ b. cond b (Some new_directory) (map.get (with_dirs (above q) world.nodes) q)) (alike q)
+directory_there world q = get-put (with_dirs (above q) world.nodes) q new_directory q ∙ ap (λ b. cond b (Some new_directory) (map.get (with_dirs (above q) world.nodes) q)) (same_text q)
 
 pub removed_there : (world : World) (q : List ℕ) → map.get (after_change (Remove q) world).nodes q ≡ None
 unfolding after_change
-removed_there world q = get-without world.nodes q q ∙ ap (λ b. cond b None (map.get world.nodes q)) (alike q)
+removed_there world q = get-without world.nodes q q ∙ ap (λ b. cond b None (map.get world.nodes q)) (same_text q)

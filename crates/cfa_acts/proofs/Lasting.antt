@@ -3,6 +3,7 @@ use Rattle.std.proofs.Common.{◌≡◌, ℕ, List, [], Bool, true, false, cond,
 use Rattle.std.proofs.lemmas.Bool.{false≢true, and_parts, not-false}
 use Rattle.std.specs.Str.{bytes_eq}
 use Rattle.std.specs.FinMap as map
+use Rattle.cfa_base.specs.lemmas.EqualTexts.{same_text, is_text}
 use Rattle.cfa_outside.specs.declared.worlds.World.{World}
 use Rattle.cfa_outside.specs.declared.worlds.Node.{Node}
 use Rattle.cfa_outside.specs.declared.worlds.Node.TheVariants.{File}
@@ -23,7 +24,7 @@ use Rattle.cfa_acts.specs.Disturbs.{modes_differ, lists_differ, disturbs}
 use Rattle.cfa_acts.specs.Settling.{is_settled, keeps_content}
 use Rattle.cfa_acts.specs.Laws.{HasScript, NeededKeepsPost}
 use Rattle.cfa_acts.proofs.Needs.{unmet, create_needs, make_dir_needs, delete_needs, content_needs, copy_needs, takes_no_directory, edit_needs, perms_needs, start_needs, stop_needs, enable_needs, disable_needs, restart_needs, bust_needs, RowNeeds}
-use Rattle.cfa_acts.proofs.Effects.{same, alike, or_false, apart, left, leaves, may_make, stays_clear, put_over}
+use Rattle.cfa_acts.proofs.Effects.{or_false, apart, left, leaves, may_make, stays_clear, put_over}
 use Rattle.cfa_acts.proofs.Posts.{at, made_file, made_bytes, made_perms, set_file, set_directory, set_bytes, set_perms_in, copied, copies_as, kept_perms, row_put, set_settled}
 use Rattle.cfa_acts.proofs.Settled.{settled_content}
 
@@ -61,27 +62,27 @@ meets (act.MakeDir q) change world r n here e h =
 meets (act.Delete q dirs) change world r n here e h =
     let need = delete_needs q dirs world change e in
     split (bytes_eq q r) None (Some n) (node_after change world r) (out_of change (Remove q) world r n need.0 here)
-    (λ is _. h.deleted dirs (ap (λ (p : List ℕ). act.Delete p dirs) (same q r is)))
+    (λ is _. h.deleted dirs (ap (λ (p : List ℕ). act.Delete p dirs) (is_text q r is)))
     (λ _ out. h.stays out)
 meets (act.Content q v) change world r n here e h =
     let need = content_needs q v world change e in
     split (bytes_eq q r) (Some (file_with v (Some n))) (Some n) (node_after change world r) (out_of change (PutFile q v) world r n need.0 here)
-    (λ is out. h.content v (ap (λ (p : List ℕ). act.Content p v) (same q r is)) (ap is_directory (sym here ∙ sym (ap (map.get world.nodes) (same q r is))) ∙ need.1.0) out)
+    (λ is out. h.content v (ap (λ (p : List ℕ). act.Content p v) (is_text q r is)) (ap is_directory (sym here ∙ sym (ap (map.get world.nodes) (is_text q r is))) ∙ need.1.0) out)
     (λ _ out. h.stays out)
 meets (act.Copy s q) change world r n here e h =
     let need = copy_needs s q world change e in
     split (bytes_eq q r) (Some (file_with need.bytes (Some n))) (Some n) (node_after change world r) (out_of change (PutFile q need.bytes) world r n need.put here)
-    (λ is out. h.copy s need.bytes (ap (act.Copy s) (same q r is)) (ap is_directory (sym here ∙ sym (ap (map.get world.nodes) (same q r is))) ∙ takes_no_directory q world need.takes) out)
+    (λ is out. h.copy s need.bytes (ap (act.Copy s) (is_text q r is)) (ap is_directory (sym here ∙ sym (ap (map.get world.nodes) (is_text q r is))) ∙ takes_no_directory q world need.takes) out)
     (λ _ out. h.stays out)
 meets (act.Edit q t) change world r n here e h =
     let need = edit_needs q t world change e in
     split (bytes_eq q r) (Some (file_with need.text (Some n))) (Some n) (node_after change world r) (out_of change (PutFile q need.text) world r n need.put here)
-    (λ is out. h.edit t need.text (ap (λ (p : List ℕ). act.Edit p t) (same q r is)) (ap is_directory (sym here ∙ sym (ap (map.get world.nodes) (same q r is)) ∙ need.there)) out)
+    (λ is out. h.edit t need.text (ap (λ (p : List ℕ). act.Edit p t) (is_text q r is)) (ap is_directory (sym here ∙ sym (ap (map.get world.nodes) (is_text q r is)) ∙ need.there)) out)
     (λ _ out. h.stays out)
 meets (act.Perms q mode owners groups) change world r n here e h =
     let need = perms_needs q mode owners groups world change e in
     split (bytes_eq q r) (Some (with_perms (asked_perms mode owners groups need.present) n)) (Some n) (node_after change world r) (out_of change (SetPerms q (asked_perms mode owners groups need.present)) world r n need.set here)
-    (λ is out. h.perms mode owners groups need.present (ap (λ (p : List ℕ). act.Perms p mode owners groups) (same q r is)) (ap perms_in (sym here ∙ sym (ap (map.get world.nodes) (same q r is))) ∙ need.there) out)
+    (λ is out. h.perms mode owners groups need.present (ap (λ (p : List ℕ). act.Perms p mode owners groups) (is_text q r is)) (ap perms_in (sym here ∙ sym (ap (map.get world.nodes) (is_text q r is))) ∙ need.there) out)
     (λ _ out. h.stays out)
 meets (act.Start name) change world r n here e h = row_stays name (with_running true) (map.get world.services name) (act.Start name) change world r n here (start_needs name world change e) h
 meets (act.Stop name) change world r n here e h = row_stays name (with_running false) (map.get world.services name) (act.Stop name) change world r n here (stop_needs name world change e) h
@@ -95,7 +96,7 @@ known : (held later is : Act) → later ≡ is → disturbs later held ≡ false
 known held later is e quiet = subst (λ (a : Act). disturbs a held ≡ false) e quiet
 
 clash : (p : List ℕ) → bytes_eq p p ≡ false → ⊥
-clash p e = false≢true (sym e ∙ alike p)
+clash p e = false≢true (sym e ∙ same_text p)
 
 lasts_create : (r : List ℕ) (later : Act) (world : World) (change : Change) → is_file (map.get world.nodes r) ≡ true → decision later world ≡ Needs change → disturbs later (act.Create r) ≡ false → is_file (node_after change world r) ≡ true
 unfolding disturbs
@@ -149,9 +150,9 @@ unfolding disturbs post
 lasts_content r bytes later world change holds e quiet =
     lasts_bytes r bytes later world change holds e
     (λ dirs is. clash r (or_false (bytes_eq r r) false (known (act.Content r bytes) later (act.Delete r dirs) is quiet)).0)
-    (λ v is. same bytes v (not_both (bytes_eq r r) (bytes_eq bytes v) (known (act.Content r bytes) later (act.Content r v) is quiet) (alike r)))
+    (λ v is. is_text bytes v (not_both (bytes_eq r r) (bytes_eq bytes v) (known (act.Content r bytes) later (act.Content r v) is quiet) (same_text r)))
     (λ t is. met later world change e (act.Edit r t) is
-    (settled_content t bytes (map.get world.nodes r) (not_both (bytes_eq r r) (keeps_content t bytes) (known (act.Content r bytes) later (act.Edit r t) is quiet) (alike r)) holds))
+    (settled_content t bytes (map.get world.nodes r) (not_both (bytes_eq r r) (keeps_content t bytes) (known (act.Content r bytes) later (act.Edit r t) is quiet) (same_text r)) holds))
     (λ s is. clash r (known (act.Content r bytes) later (act.Copy s r) is quiet))
 
 -- the lines of a file that no other act deletes, gives other bytes that the script changes, or edits by another script
@@ -164,9 +165,9 @@ lasts_edit r script later world change tell are later_are holds e quiet =
       deleted = λ dirs is. absurd (clash r (or_false (bytes_eq r r) false (known (act.Edit r script) later (act.Delete r dirs) is quiet)).0);
       content = λ v is no_directory out.
           ap (is_settled script) out
-          ∙ settled_content script v (Some (file_with v (Some found.node))) (not_both (bytes_eq r r) (keeps_content script v) (known (act.Edit r script) later (act.Content r v) is quiet) (alike r)) (made_bytes v (Some found.node));
+          ∙ settled_content script v (Some (file_with v (Some found.node))) (not_both (bytes_eq r r) (keeps_content script v) (known (act.Edit r script) later (act.Content r v) is quiet) (same_text r)) (made_bytes v (Some found.node));
       edit = λ t v is no_directory out.
-          let texts : script_text script ≡ script_text t = same (script_text script) (script_text t) (not_both (bytes_eq r r) (bytes_eq (script_text script) (script_text t)) (known (act.Edit r script) later (act.Edit r t) is quiet) (alike r)) in
+          let texts : script_text script ≡ script_text t = is_text (script_text script) (script_text t) (not_both (bytes_eq r r) (bytes_eq (script_text script) (script_text t)) (known (act.Edit r script) later (act.Edit r t) is quiet) (same_text r)) in
           let scripts : script ≡ t = tell script t are (subst HasScript is later_are) texts in
           absurd (met later world change e (act.Edit r t) is (ap (λ (s : List Edit). is_settled s (map.get world.nodes r)) (sym scripts) ∙ holds));
       copy = λ s v is no_directory out. absurd (clash r (known (act.Edit r script) later (act.Copy s r) is quiet));
@@ -185,7 +186,7 @@ or_other false b e = e
 no_same_copy : (source path s r : List ℕ) (later : Act) (world : World) (change : Change) → IsTrue (post (act.Copy source path) world) → decision later world ≡ Needs change → later ≡ act.Copy s r → (bytes_eq source s && bytes_eq path r) ≡ true → ⊥
 no_same_copy source path s r later world change holds e is both =
     let parts = and_parts (bytes_eq source s) (bytes_eq path r) both in
-    let here : later ≡ act.Copy source path = is ∙ ap (λ (x : List ℕ). act.Copy x r) (sym (same source s parts.0)) ∙ ap (act.Copy source) (sym (same path r parts.1)) in
+    let here : later ≡ act.Copy source path = is ∙ ap (λ (x : List ℕ). act.Copy x r) (sym (is_text source s parts.0)) ∙ ap (act.Copy source) (sym (is_text path r parts.1)) in
     false≢true (sym (unmet later world change e).0 ∙ ap (λ (a : Act). post a world) here ∙ holds)
 
 -- neither the source nor the target of a copy is changed
@@ -204,9 +205,9 @@ lasts_copy : (source path : List ℕ) (later : Act) (world : World) (change : Ch
 lasts_copy source path later world change holds is e quiet =
     let found = copied (map.get world.nodes source) (map.get world.nodes path) is in
     copies_as found.bytes (node_after change world source) (node_after change world path)
-    (copy_bytes source path source later world change holds e quiet (or_one (bytes_eq source source) (bytes_eq path source) (alike source)) found.bytes found.source_has)
+    (copy_bytes source path source later world change holds e quiet (or_one (bytes_eq source source) (bytes_eq path source) (same_text source)) found.bytes found.source_has)
     found.short
-    (copy_bytes source path path later world change holds e quiet (or_other (bytes_eq source path) (bytes_eq path path) (alike path)) found.bytes found.copy_has)
+    (copy_bytes source path path later world change holds e quiet (or_other (bytes_eq source path) (bytes_eq path path) (same_text path)) found.bytes found.copy_has)
 
 and_rest : (a b : Bool) → a ≡ true → (a && b) ≡ false → b ≡ false
 and_rest true b e is = is
@@ -226,7 +227,7 @@ lasts_perms r mode owners groups later world change holds e quiet =
           ap (λ (o : Option Node). has_perms mode owners groups (perms_in o)) out
           ∙ ap (has_perms mode owners groups) (set_perms_in (asked_perms m os gs present) found.node)
           ∙ kept_perms mode m owners groups os gs present (sym (ap (has_perms mode owners groups) there) ∙ found.holds)
-          (and_rest (bytes_eq r r) (modes_differ mode m || (lists_differ owners os || lists_differ groups gs)) (alike r) (known (act.Perms r mode owners groups) later (act.Perms r m os gs) is quiet));
+          (and_rest (bytes_eq r r) (modes_differ mode m || (lists_differ owners os || lists_differ groups gs)) (same_text r) (known (act.Perms r mode owners groups) later (act.Perms r m os gs) is quiet));
     })
 
 -- a path where nothing stands
@@ -282,9 +283,9 @@ row_by {G} other changed change world name row here need mine others =
     by (bytes_eq other name) refl out where
       by : (b : Bool) → bytes_eq other name ≡ b → row_after change world name ≡ cond b (Some (changed need.row)) (map.get world.services name) → G
       by true is out =
-          let both : Some need.row ≡ Some row = sym need.there ∙ ap (map.get world.services) (same other name is) ∙ here in
+          let both : Some need.row ≡ Some row = sym need.there ∙ ap (map.get world.services) (is_text other name is) ∙ here in
           let row_is : need.row ≡ row = cc in
-          mine (same other name is) (out ∙ ap (λ (x : ServiceRow). Some (changed x)) row_is)
+          mine (is_text other name is) (out ∙ ap (λ (x : ServiceRow). Some (changed x)) row_is)
       by false is out = others (out ∙ here)
 
 row_meets : {G : Type 0} (later : Act) (change : Change) (world : World) (name : List ℕ) (row : ServiceRow) → map.get world.services name ≡ Some row → decision later world ≡ Needs change → RowHandlers G later change world name row → G

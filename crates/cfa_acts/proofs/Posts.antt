@@ -8,6 +8,7 @@ use Rattle.std.specs.Str.{bytes_eq}
 use Rattle.std.specs.FinMap as map
 use Rattle.cfa_base.specs.declared.limits.TheConstants.{MOST_FILE_BYTES}
 use Rattle.cfa_base.specs.lemmas.TextMaps.{get-put}
+use Rattle.cfa_base.specs.lemmas.EqualTexts.{same_text, is_text}
 use Rattle.cfa_outside.specs.declared.worlds.World.{World}
 use Rattle.cfa_outside.specs.declared.worlds.Node.{Node}
 use Rattle.cfa_outside.specs.declared.worlds.Node.TheVariants.{File, Dir}
@@ -24,7 +25,7 @@ use Rattle.cfa_acts.specs.Disturbs.{modes_differ, lists_differ}
 use Rattle.cfa_acts.specs.Settling.{is_short, leaves as leaves_lines, is_settled}
 use Rattle.cfa_acts.specs.Laws.{NeededMakesPost}
 use Rattle.cfa_acts.proofs.Needs.{create_needs, make_dir_needs, delete_needs, content_needs, copy_needs, edit_needs, perms_needs, start_needs, stop_needs, enable_needs, disable_needs, bust_needs, RowNeeds}
-use Rattle.cfa_acts.proofs.Effects.{same, alike, or_false, leaves, put_there, directory_there, removed_there}
+use Rattle.cfa_acts.proofs.Effects.{or_false, leaves, put_there, directory_there, removed_there}
 
 or_right : (a b : Bool) → b ≡ true → (a || b) ≡ true
 or_right true b e = refl
@@ -50,9 +51,9 @@ made_file bytes (Some (Dir _)) = refl
 made_file bytes None = refl
 
 pub made_bytes : (bytes : List ℕ) (here : Option Node) → has_bytes bytes (Some (file_with bytes here)) ≡ true
-made_bytes bytes (Some (File _ _)) = alike bytes
-made_bytes bytes (Some (Dir _)) = alike bytes
-made_bytes bytes None = alike bytes
+made_bytes bytes (Some (File _ _)) = same_text bytes
+made_bytes bytes (Some (Dir _)) = same_text bytes
+made_bytes bytes None = same_text bytes
 
 pub made_perms : (bytes : List ℕ) (n : Node) → is_directory (Some n) ≡ false → perms_in (Some (file_with bytes (Some n))) ≡ perms_in (Some n)
 made_perms bytes (File _ _) is = refl
@@ -84,7 +85,7 @@ set_perms_in perms (File _ _) = refl
 set_perms_in perms (Dir _) = refl
 
 read_bytes : (bytes : List ℕ) (here : Option Node) → bytes_in here ≡ Some bytes → has_bytes bytes here ≡ true
-read_bytes bytes (Some (File x _)) is = let e : x ≡ bytes = cc in ap (λ (v : List ℕ). bytes_eq v bytes) e ∙ alike bytes
+read_bytes bytes (Some (File x _)) is = let e : x ≡ bytes = cc in ap (λ (v : List ℕ). bytes_eq v bytes) e ∙ same_text bytes
 read_bytes bytes (Some (Dir _)) is = cc
 read_bytes bytes None is = cc
 
@@ -98,13 +99,13 @@ pub record Copied (source copy : Option Node) : Type 0 where
 pub copied : (source copy : Option Node) → is_copied source copy ≡ true → Copied source copy
 copied (Some (File bytes _)) copy is =
     let parts = and_parts (nat_le (length bytes) MOST_FILE_BYTES) (has_bytes bytes copy) is in
-    record { bytes = bytes; source_has = alike bytes; short = parts.0; copy_has = parts.1 }
+    record { bytes = bytes; source_has = same_text bytes; short = parts.0; copy_has = parts.1 }
 copied (Some (Dir _)) copy is = absurd (false≢true is)
 copied None copy is = absurd (false≢true is)
 
 pub copies_as : (bytes : List ℕ) (source copy : Option Node) → has_bytes bytes source ≡ true → nat_le (length bytes) MOST_FILE_BYTES ≡ true → has_bytes bytes copy ≡ true → is_copied source copy ≡ true
 copies_as bytes (Some (File x _)) copy source_has short copy_has =
-    let e : x ≡ bytes = same x bytes source_has in
+    let e : x ≡ bytes = is_text x bytes source_has in
     and_from (nat_le (length x) MOST_FILE_BYTES) (has_bytes x copy)
     (ap (λ (v : List ℕ). nat_le (length v) MOST_FILE_BYTES) e ∙ short)
     (ap (λ (v : List ℕ). has_bytes v copy) e ∙ copy_has)
@@ -127,7 +128,7 @@ asked_name names present =
     ] refl where
       first : (list : List (List ℕ)) → is_listed list present ≡ false → is_listed list (unwrap_or (slice_get list 0) present) ≡ true
       first [] lacks = refl
-      first (x ∷ xs) lacks = or_right (nat_eq (length (x ∷ xs)) 0) _ (or_left (bytes_eq x x) _ (alike x))
+      first (x ∷ xs) lacks = or_right (nat_eq (length (x ∷ xs)) 0) _ (or_left (bytes_eq x x) _ (same_text x))
 
 asked_are : (mode : Option ℕ) (owners groups : List (List ℕ)) (present : Perms) → are_perms mode owners groups (asked_perms mode owners groups present) ≡ true
 asked_are mode owners groups present =
@@ -173,7 +174,7 @@ unfolding after_change
 row_put world name other row = get-put world.services name row other
 
 row_there : (world : World) (name : List ℕ) (row : ServiceRow) → map.get (after_change (PutService name row) world).services name ≡ Some row
-row_there world name row = row_put world name name row ∙ ap (λ b. cond b (Some row) (map.get world.services name)) (alike name)
+row_there world name row = row_put world name name row ∙ ap (λ b. cond b (Some row) (map.get world.services name)) (same_text name)
 
 -- a needed change makes the post
 made_row : (name : List ℕ) (changed : ServiceRow → ServiceRow) (test : ServiceRow → Bool) (world : World) (change : Change) → ((row : ServiceRow) → test (changed row) ≡ true) → RowNeeds name changed (map.get world.services name) change → has_row test (map.get (after_change change world).services name) ≡ true
@@ -196,7 +197,7 @@ made_set : (path : List ℕ) (mode : Option ℕ) (owners groups : List (List ℕ
 made_set path mode owners groups present world found =
     ap (λ (o : Option Node). has_perms mode owners groups (perms_in o))
     (leaves (SetPerms path (asked_perms mode owners groups present)) world path found.node found.is
-    ∙ ap (λ b. cond b (Some (with_perms (asked_perms mode owners groups present) found.node)) (Some found.node)) (alike path))
+    ∙ ap (λ b. cond b (Some (with_perms (asked_perms mode owners groups present) found.node)) (Some found.node)) (same_text path))
     ∙ ap (has_perms mode owners groups) (set_perms_in (asked_perms mode owners groups present) found.node)
     ∙ asked_are mode owners groups present
 

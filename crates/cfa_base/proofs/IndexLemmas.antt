@@ -2,7 +2,6 @@
 use Rattle.std.proofs.Common.{◌≡◌, ℕ, Bool, true, false, cond, List, [], ◌∷◌, ◌++◌, length, Option, Some, None, sym, ap, refl, ◌∙◌, ◌&&◌}
 use Rattle.std.specs.Option.{option_or}
 use Rattle.std.specs.Str.{bytes_eq}
-use Rattle.std.proofs.lemmas.Slice.Eq.{bytes_eq-Decides}
 use Rattle.std.proofs.lemmas.Bool.{false≢true}
 use Rattle.std.proofs.lemmas.List.{length-map, map-append}
 use Rattle.std.specs.HashMap.{HashMap, UpdatesBy}
@@ -11,12 +10,7 @@ use denote.Ref.{Bor}
 use Rattle.cfa_base.specs.Index.{Text, place_of, same_pair, pair_place_of}
 use Rattle.cfa_base.specs.IndexTables.{texts_of, noted, Answers, Notes, pairs_of, pair_noted, AnswersPairs}
 use Rattle.cfa_base.specs.lemmas.Lists.{place_push, option_or-none}
-
-same_text_is : (x y : Text) → bytes_eq x y ≡ true → x ≡ y
-same_text_is x y = (bytes_eq-Decides x y).0
-
-text_is_same : (x : Text) → bytes_eq x x ≡ true
-text_is_same x = (bytes_eq-Decides x x).1 refl
+use Rattle.cfa_base.specs.lemmas.EqualTexts.{same_text, is_text}
 
 -- a place that is set at a key that has none is noted there
 notes : {Key : Type 0} → (same : Key → Key → Bool) → ((x y : Key) → same x y ≡ true → x ≡ y) → ((x : Key) → same x x ≡ true)
@@ -35,7 +29,7 @@ pub notes_name : {S : Type 0} (name : Text) (m n : HashMap (Bor Text) ℕ S) (pl
     → UpdatesBy (λ x y. bytes_eq x.now y.now) (λ k. bytes_eq name k.now) m n (Some place)
     → noted m name ≡ None → Notes bytes_eq (noted m) (noted n) name place
 notes_name name m n place updates absent other =
-    notes bytes_eq same_text_is text_is_same (noted m) (noted n) name place absent other _ _ refl refl
+    notes bytes_eq is_text same_text (noted m) (noted n) name place absent other _ _ refl refl
     (hash_map_updates_str name m n (Some place) updates other)
 
 -- the table after a name was noted at its place answers for the list with that name at its end
@@ -54,11 +48,11 @@ both_true false c e = (e, absurd (false≢true e))
 pair_is : (x y : Text × Text) → same_pair x y ≡ true → x ≡ y
 pair_is x y e =
     let both = both_true (bytes_eq x.0 y.0) (bytes_eq x.1 y.1) e in
-    ap (λ (first : Text). let pair : Text × Text = (first, x.1) in pair) (same_text_is x.0 y.0 both.0)
-    ∙ ap (λ (second : Text). let pair : Text × Text = (y.0, second) in pair) (same_text_is x.1 y.1 both.1)
+    ap (λ (first : Text). let pair : Text × Text = (first, x.1) in pair) (is_text x.0 y.0 both.0)
+    ∙ ap (λ (second : Text). let pair : Text × Text = (y.0, second) in pair) (is_text x.1 y.1 both.1)
 
 pair_itself : (x : Text × Text) → same_pair x x ≡ true
-pair_itself x = ap (λ b. b && bytes_eq x.1 x.1) (text_is_same x.0) ∙ text_is_same x.1
+pair_itself x = ap (λ b. b && bytes_eq x.1 x.1) (same_text x.0) ∙ same_text x.1
 
 -- the table of pairs after a new pair was put at its place
 pub notes_pair : {S : Type 0} (pair : Bor Text × Bor Text) (m n : HashMap (Bor Text × Bor Text) ℕ S) (place : ℕ)

@@ -1,6 +1,7 @@
 -- Lemmas on these definitions that the proofs of the crates above cite. No contract names one.
 pub mod Boundaries
 pub mod EndPlaces
+pub mod EqualTexts
 pub mod Escapes
 pub mod Fronts
 pub mod Lists

@@ -11,16 +11,10 @@ use Rattle.cfa_calls.specs.declared.cycles.Call.{Call as CodeCall}
 use Rattle.cfa_calls.specs.Cycles.{Call, Reaches, OnCycle, seen_call, seen_calls}
 use Rattle.cfa_calls.specs.Cycles.Reaches.{here, onward}
 use Rattle.cfa_base.specs.Index.{place_of}
+use Rattle.cfa_base.specs.lemmas.EqualTexts.{same_text, is_text}
 use Rattle.cfa_calls.specs.Numbering.{names_of, number_in, edge_in, HasEdges, Traces}
 use Rattle.cfa_calls.specs.Reaching.{row_of, Leads}
 use Rattle.cfa_calls.specs.Reaching.Leads.{stay, step}
-use Rattle.std.proofs.lemmas.Slice.Eq.{bytes_eq-Decides}
-
-same_text_is : (x y : List ℕ) → bytes_eq x y ≡ true → x ≡ y
-same_text_is x y = (bytes_eq-Decides x y).0
-
-text_is_same : (x : List ℕ) → bytes_eq x x ≡ true
-text_is_same x = (bytes_eq-Decides x x).1 refl
 
 contains_cons : {X : Type 0} (xs : List X) (y x : X) → Contains xs x → Contains (y ∷ xs) x
 contains_cons xs y x at = (suc at.0, omega (arith, at.1), at.2)
@@ -53,8 +47,8 @@ found_head : (other : List ℕ) (names : List (List ℕ)) (name : List ℕ) (i :
     → ((k : ℕ) → k < length names → get_or names k name ≡ name → Found names name (position_from (bytes_eq name) (i + 1) names) (i + 1))
     → (b : Bool) → bytes_eq name other ≡ b → (k : ℕ) → k < length (other ∷ names) → get_or (other ∷ names) k name ≡ name
     → Found (other ∷ names) name (cond b (Some i) (position_from (bytes_eq name) (i + 1) names)) i
-found_head other names name i rest true e k h is = (0, ap Some (omega arith), omega arith, sym (same_text_is name other e))
-found_head other names name i rest false e zero h is = absurd (false≢true (sym e ∙ ap (bytes_eq name) is ∙ text_is_same name))
+found_head other names name i rest true e k h is = (0, ap Some (omega arith), omega arith, sym (is_text name other e))
+found_head other names name i rest false e zero h is = absurd (false≢true (sym e ∙ ap (bytes_eq name) is ∙ same_text name))
 found_head other names name i rest false e (suc k) h is =
     let r = rest k (omega arith) is in
     (suc r.0, r.1 ∙ ap Some (omega arith), omega (arith, r.2), r.3)

@@ -5,12 +5,10 @@ use Rattle.std.proofs.lemmas.Slice.Eq.{bytes_eq-Decides, slice_eq-Decides}
 use Rattle.std.specs.Cmp.Lexicographic.{pointwise}
 use Rattle.std.specs.Str.{bytes_eq}
 use Rattle.cfa_base.specs.Index.{Text}
+use Rattle.cfa_base.specs.lemmas.EqualTexts.{is_text}
 use Rattle.cfa_acts.specs.declared.acts.Act.{Act}
 use Rattle.cfa_acts.specs.declared.acts.Act.TheVariants.{Create, MakeDir, Delete, Content, Copy, Edit, Perms, Start, Stop, Enable, Disable, Restart, Bust}
 use Rattle.cfa_acts.specs.Same.{is_same_mode, is_same_flag, is_same}
-
-text_is : (x y : Text) → bytes_eq x y ≡ true → x ≡ y
-text_is x y = (bytes_eq-Decides x y).0
 
 names_are : (xs ys : List Text) → pointwise bytes_eq xs ys ≡ true → xs ≡ ys
 names_are xs ys = (slice_eq-Decides bytes_eq-Decides xs ys (pointwise bytes_eq xs ys) refl).0
@@ -30,22 +28,22 @@ flag_is false false is = refl
 delete_is : (path other : Text) (a b : Bool) → (bytes_eq path other && is_same_flag a b) ≡ true → Delete path a ≡ Delete other b
 delete_is path other a b is =
     let parts = and_parts (bytes_eq path other) (is_same_flag a b) is in
-    let at = text_is path other parts.0 in
+    let at = is_text path other parts.0 in
     let same = flag_is a b parts.1 in
     cc
 
 content_is : (path other bytes content : Text) → (bytes_eq path other && bytes_eq bytes content) ≡ true → Content path bytes ≡ Content other content
 content_is path other bytes content is =
     let parts = and_parts (bytes_eq path other) (bytes_eq bytes content) is in
-    let at = text_is path other parts.0 in
-    let same = text_is bytes content parts.1 in
+    let at = is_text path other parts.0 in
+    let same = is_text bytes content parts.1 in
     cc
 
 copy_is : (source path from other : Text) → (bytes_eq source from && bytes_eq path other) ≡ true → Copy source path ≡ Copy from other
 copy_is source path from other is =
     let parts = and_parts (bytes_eq source from) (bytes_eq path other) is in
-    let at = text_is source from parts.0 in
-    let same = text_is path other parts.1 in
+    let at = is_text source from parts.0 in
+    let same = is_text path other parts.1 in
     cc
 
 perms_are : (path other : Text) (mode m : Option ℕ) (owners os groups gs : List Text)
@@ -56,16 +54,16 @@ perms_are path other mode m owners os groups gs is =
     let first = and_parts (bytes_eq path other) (is_same_mode mode m && names) is in
     let second = and_parts (is_same_mode mode m) names first.1 in
     let third = and_parts (pointwise bytes_eq owners os) (pointwise bytes_eq groups gs) second.1 in
-    let at = text_is path other first.0 in
+    let at = is_text path other first.0 in
     let same_mode = mode_is mode m second.0 in
     let same_owners = names_are owners os third.0 in
     let same_groups = names_are groups gs third.1 in
     cc
 
 same_is : (act other : Act) → is_same act other ≡ true → act ≡ other
-same_is (Create path) (Create other) is = ap Create (text_is path other is)
+same_is (Create path) (Create other) is = ap Create (is_text path other is)
 same_is (Create path) _ is = absurd (false≢true is)
-same_is (MakeDir path) (MakeDir other) is = ap MakeDir (text_is path other is)
+same_is (MakeDir path) (MakeDir other) is = ap MakeDir (is_text path other is)
 same_is (MakeDir path) _ is = absurd (false≢true is)
 same_is (Delete path with_directories) (Delete other with_too) is = delete_is path other with_directories with_too is
 same_is (Delete path with_directories) _ is = absurd (false≢true is)
@@ -76,13 +74,13 @@ same_is (Copy source path) _ is = absurd (false≢true is)
 same_is (Edit path _) _ is = absurd (false≢true is)
 same_is (Perms path mode owners groups) (Perms other m os gs) is = perms_are path other mode m owners os groups gs is
 same_is (Perms path mode owners groups) _ is = absurd (false≢true is)
-same_is (Start name) (Start other) is = ap Start (text_is name other is)
+same_is (Start name) (Start other) is = ap Start (is_text name other is)
 same_is (Start name) _ is = absurd (false≢true is)
-same_is (Stop name) (Stop other) is = ap Stop (text_is name other is)
+same_is (Stop name) (Stop other) is = ap Stop (is_text name other is)
 same_is (Stop name) _ is = absurd (false≢true is)
-same_is (Enable name) (Enable other) is = ap Enable (text_is name other is)
+same_is (Enable name) (Enable other) is = ap Enable (is_text name other is)
 same_is (Enable name) _ is = absurd (false≢true is)
-same_is (Disable name) (Disable other) is = ap Disable (text_is name other is)
+same_is (Disable name) (Disable other) is = ap Disable (is_text name other is)
 same_is (Disable name) _ is = absurd (false≢true is)
 same_is (Restart name) _ is = absurd (false≢true is)
 same_is (Bust _) _ is = absurd (false≢true is)

@@ -7,6 +7,7 @@ use Rattle.std.specs.Str.{bytes_eq}
 use Rattle.std.proofs.lemmas.Bool.{false≢true, and_from}
 use Rattle.std.proofs.lemmas.List.Elements.{All-head, All-tail}
 use Rattle.cfa_base.specs.declared.places.PromiseId.{PromiseId}
+use Rattle.cfa_base.specs.lemmas.EqualTexts.{same_text, is_text}
 use Rattle.cfa_classes.specs.declared.levels.Status.{Status}
 use Rattle.cfa_classes.specs.declared.levels.Status.TheVariants.{No, Maybe, Yes}
 use Rattle.cfa_classes.specs.Status.{greater}
@@ -28,7 +29,7 @@ use Rattle.cfa_laws.specs.Keys.{IsKeyed, IsLine}
 use Rattle.cfa_convergence.specs.Conflicts.{is_same}
 use Rattle.cfa_convergence.specs.Keys.{AreAlike, KeysTellWorks}
 use Rattle.cfa_convergence.proofs.LevelLemmas.{IsCall}
-use Rattle.cfa_convergence.proofs.NameLemmas.{same_text, is_text, names_of}
+use Rattle.cfa_convergence.proofs.NameLemmas.{names_of}
 use Rattle.cfa_edits.specs.lemmas.Parts.{Lacks}
 use Rattle.cfa_convergence.proofs.SourceLemmas.{IsGiven, AreSourced, raise_sourced, begin_sourced}
 

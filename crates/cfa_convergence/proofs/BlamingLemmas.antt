@@ -4,6 +4,7 @@ use Rattle.std.specs.Prelude.{◌&&◌}
 use Rattle.std.specs.List.{AllByRecursion as Each}
 use Rattle.std.specs.Str.{bytes_eq}
 use Rattle.std.proofs.lemmas.Bool.{and_from, and_right}
+use Rattle.cfa_base.specs.lemmas.EqualTexts.{same_text}
 use Rattle.cfa_classes.specs.declared.levels.Status.{Status}
 use Rattle.cfa_classes.specs.declared.levels.Status.TheVariants.{No, Maybe, Yes}
 use Rattle.cfa_classes.specs.Status.{lesser, greater}
@@ -43,7 +44,7 @@ use Rattle.cfa_convergence.proofs.BlameLemmas.{greater_real, EditsAreBlamed, Are
 use Rattle.cfa_convergence.proofs.DepthLemmas.{depth, depth_inner, deeper_apart}
 use Rattle.cfa_laws.specs.lemmas.MaybeClasses.{guard_is, maybe_first}
 use Rattle.cfa_convergence.proofs.LevelLemmas.{IsCall, Steps, CallsKeep, visit_level, reach_level, calls_level}
-use Rattle.cfa_convergence.proofs.NameLemmas.{same_text, is_itself}
+use Rattle.cfa_convergence.proofs.NameLemmas.{is_itself}
 use Rattle.cfa_convergence.proofs.PlainLemmas.{Known_at, known_types, Known_common, known_commons}
 use Rattle.cfa_convergence.proofs.QuietLemmas.{either_way}
 use Rattle.cfa_convergence.proofs.SourceLemmas.{IsGiven, AreSourced, none_sourced, mapped_given, waits_given, global_given, wait_given, handed_given}

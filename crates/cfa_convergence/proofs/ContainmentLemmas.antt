@@ -5,6 +5,7 @@ use Rattle.std.specs.List.{AllByRecursion as Each, Contains}
 use Rattle.std.specs.Str.{bytes_eq}
 use Rattle.std.proofs.lemmas.Bool.{eqb-true, cond-true}
 use Rattle.std.proofs.lemmas.List.Elements.{Contains-get_or, Contains-append_right}
+use Rattle.cfa_base.specs.lemmas.EqualTexts.{same_text}
 use Rattle.cfa_classes.specs.declared.levels.Status.{Status}
 use Rattle.cfa_classes.specs.declared.levels.Status.TheVariants.{No, Maybe, Yes}
 use Rattle.cfa_defines.specs.ClassPromises.{raises_of}
@@ -41,7 +42,6 @@ use Rattle.cfa_convergence.proofs.AlwaysLemmas.{Any, Any_at, Any_home, Always, a
 use Rattle.cfa_convergence.proofs.ContainedLemmas.{Both, both_large, large_both, both_right, Contained, Settles, If_settled, then_both, if_settled, both_sets, both_raise_all, alone_raise_all, both_reached, both_visited, walk_alone, ended_both, acted_both, reported_both}
 use Rattle.cfa_convergence.proofs.DepthLemmas.{one_if, depth}
 use Rattle.cfa_convergence.proofs.LevelLemmas.{Steps, CallsKeep, instances_level, promises_level, types_level, passes_level, activation_level, calls_level}
-use Rattle.cfa_convergence.proofs.NameLemmas.{same_text}
 use Rattle.cfa_convergence.proofs.PlainLemmas.{known_types}
 use Rattle.cfa_convergence.proofs.QuietLemmas.{either_way, Quiet, quiet_same, quiet_then}
 use Rattle.cfa_laws.specs.lemmas.Within.{within_greater, value_within}

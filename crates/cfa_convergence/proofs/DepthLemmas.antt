@@ -1,9 +1,9 @@
 -- A path that has more newlines than another is another one.
 use Rattle.std.proofs.Common.{◌≡◌, ℕ, ◌+◌, ◌<◌, Bool, true, false, List, [], ◌∷◌, ◌++◌, refl, ap, arith, nat_eq}
 use Rattle.std.specs.Str.{bytes_eq}
+use Rattle.cfa_base.specs.lemmas.EqualTexts.{texts_apart}
 use Rattle.cfa_resolve.specs.declared.instances.Instance.{Instance}
 use Rattle.cfa_walk.specs.Tellers.{inner_path}
-use Rattle.cfa_convergence.proofs.NameLemmas.{apart}
 
 abbrev pub one_if : Bool → ℕ
 one_if true = 1
@@ -25,4 +25,4 @@ pub depth_inner : (i : Instance) → depth i.path < depth (inner_path i)
 depth_inner i = omega (arith, depth_append i.path (10 ∷ i.text), newline_is)
 
 pub deeper_apart : (p q : List ℕ) → depth p < depth q → bytes_eq q p ≡ false
-deeper_apart p q less = apart q p (λ e. let d : depth q ≡ depth p = ap depth e in omega arith)
+deeper_apart p q less = texts_apart q p (λ e. let d : depth q ≡ depth p = ap depth e in omega arith)

@@ -2,6 +2,7 @@
 use Rattle.std.proofs.Common.{◌≡◌, ℕ, Bool, true, false, List, [], ◌∷◌, Some, refl, ap, ◌∙◌}
 use Rattle.std.specs.Prelude.{◌||◌}
 use Rattle.std.specs.Str.{bytes_eq}
+use Rattle.cfa_base.specs.lemmas.EqualTexts.{is_text}
 use Rattle.cfa_classes.specs.declared.levels.Status.{Status}
 use Rattle.cfa_classes.specs.declared.levels.Status.TheVariants.{No, Maybe, Yes}
 use Rattle.cfa_classes.specs.Status.{greater}
@@ -11,7 +12,6 @@ use Rattle.cfa_resolve.specs.Resolution.{is_listed}
 use Rattle.cfa_walk.specs.History.{History, everywhere, Raised, scope_in, globally, locally, mark_in}
 use Rattle.cfa_walk.specs.Passes.{raise_each, raised_to, in_every_list}
 use Rattle.cfa_laws.specs.Statuses.{Within, no_maybe, yes_maybe, yes_yes}
-use Rattle.cfa_convergence.proofs.NameLemmas.{is_text}
 use Rattle.cfa_laws.specs.lemmas.Within.{within_greater}
 
 abbrev pub raised_if : Bool → Status → Status → Status

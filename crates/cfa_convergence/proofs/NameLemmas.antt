@@ -1,10 +1,10 @@
 -- Instances of one path and key text have the same acts.
-use Rattle.std.proofs.Common.{◌≡◌, ℕ, true, false, List, refl}
+use Rattle.std.proofs.Common.{◌≡◌, true, refl}
 use Rattle.std.specs.List.{AllByRecursion as Each}
 use Rattle.std.specs.Str.{bytes_eq}
-use Rattle.std.proofs.lemmas.Bool.{false_from_ne_true, and_parts, and_from}
+use Rattle.std.proofs.lemmas.Bool.{and_parts, and_from}
 use Rattle.std.proofs.lemmas.List.Elements.{recursion_from_All}
-use Rattle.std.proofs.lemmas.Slice.Eq.{bytes_eq-Decides}
+use Rattle.cfa_base.specs.lemmas.EqualTexts.{same_text, is_text}
 use Rattle.cfa_resolve.specs.declared.instances.Instance.{Instance}
 use Rattle.cfa_resolve.specs.declared.instances.Work.{Work}
 use Rattle.cfa_resolve.specs.declared.instances.Work.TheVariants.{Acts, Call, Report}
@@ -12,15 +12,6 @@ use Rattle.cfa_walk.specs.Tellers.{acts_of}
 use Rattle.cfa_laws.specs.Keys.{IsGiven, AreGiven, IsKeyed}
 use Rattle.cfa_convergence.specs.Keys.{AreAlike, KeysTellWorks}
 use Rattle.cfa_convergence.specs.Conflicts.{HasActs, is_same}
-
-pub same_text : (text : List ℕ) → bytes_eq text text ≡ true
-same_text text = (bytes_eq-Decides text text).1 refl
-
-pub is_text : (text other : List ℕ) → bytes_eq text other ≡ true → text ≡ other
-is_text text other e = (bytes_eq-Decides text other).0 e
-
-pub apart : (text other : List ℕ) → (text ≡ other → ⊥) → bytes_eq text other ≡ false
-apart text other differ = false_from_ne_true (bytes_eq text other) (λ e. differ (is_text text other e))
 
 pub is_itself : (i : Instance) → is_same i i ≡ true
 is_itself i = and_from (bytes_eq i.path i.path) (bytes_eq i.text i.text) (same_text i.path) (same_text i.text)

@@ -3,6 +3,7 @@ use Rattle.std.proofs.Common.{◌≡◌, ℕ, zero, suc, ◌≤◌, Bool, true, 
 use Rattle.std.specs.List.{AllByRecursion as Each}
 use Rattle.std.specs.Str.{bytes_eq}
 use Rattle.std.proofs.lemmas.Bool.{false≢true}
+use Rattle.cfa_base.specs.lemmas.EqualTexts.{same_text}
 use Rattle.cfa_classes.specs.declared.levels.Status.{Status}
 use Rattle.cfa_classes.specs.declared.levels.Status.TheVariants.{No, Maybe, Yes}
 use Rattle.cfa_kinds.specs.declared.kinds.BundleType.{BundleType}
@@ -32,7 +33,6 @@ use Rattle.cfa_convergence.proofs.ContainedLemmas.{Both, Contained, Settles, If_
 use Rattle.cfa_convergence.proofs.ContainmentLemmas.{steps_settle, Settling, calls_settle, activation_settles, known_any, IsShallow, AreShallowOpen, plain_shallow, CallsWithin, VisitsQuietly, types_both, passes_both}
 use Rattle.cfa_convergence.proofs.DepthLemmas.{depth, depth_inner}
 use Rattle.cfa_convergence.proofs.LevelLemmas.{each_level, visit_level, types_level, calls_level, common_level}
-use Rattle.cfa_convergence.proofs.NameLemmas.{same_text}
 use Rattle.cfa_convergence.proofs.PlainLemmas.{Known_at, Known_common, known_commons}
 use Rattle.cfa_convergence.proofs.QuietLemmas.{either_way, Quiet, quiet_same, quiet_then, IsDeep, IsDeepPlace, steps_quiet}
 

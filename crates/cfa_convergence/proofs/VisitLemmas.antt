@@ -5,6 +5,7 @@ use Rattle.std.specs.List.{list_any, position_or_len}
 use Rattle.std.specs.Str.{bytes_eq}
 use Rattle.std.proofs.lemmas.Bool.{false≢true, false_from_ne_true, and_from, eqb-true}
 use Rattle.std.proofs.lemmas.List.{map-append}
+use Rattle.cfa_base.specs.lemmas.EqualTexts.{same_text}
 use Rattle.cfa_classes.specs.declared.levels.Status.{Status}
 use Rattle.cfa_classes.specs.declared.levels.Status.TheVariants.{No, Maybe}
 use Rattle.cfa_classes.specs.Status.{greater}
@@ -19,7 +20,7 @@ use Rattle.cfa_walk.specs.Walks.{with_first, listed_instances, blame_for, blame_
 use Rattle.cfa_convergence.specs.Conflicts.{was_listed, was_visited, is_same, IsAfter, first_status}
 use Rattle.cfa_convergence.proofs.BlameLemmas.{greater_real, not_unvisited, AreBlamed}
 use Rattle.cfa_convergence.proofs.KnownLemmas.{AreKnown, just_visited}
-use Rattle.cfa_convergence.proofs.NameLemmas.{same_text, names_of}
+use Rattle.cfa_convergence.proofs.NameLemmas.{names_of}
 use Rattle.cfa_convergence.proofs.PlaceLemmas.{position_found, any_last, any_other, one_place}
 use Rattle.cfa_convergence.proofs.SourceLemmas.{IsGiven, mapped_given}
 

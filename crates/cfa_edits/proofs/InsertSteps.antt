@@ -1,31 +1,15 @@
 -- The lines of a block that aren't there: what a set of lines has, step by step.
-use Rattle.std.proofs.Common.{◌≡◌, ℕ, ◌+◌, ◌<◌, Bool, true, false, not, ◌&&◌, ◌||◌, cond, List, [], ◌∷◌, ◌++◌, length, drop, reverse, refl, sym, ap, ◌∙◌, arith, ⊎_elim}
+use Rattle.std.proofs.Common.{◌≡◌, ℕ, ◌+◌, ◌<◌, Bool, true, false, not, ◌&&◌, ◌||◌, cond, List, [], ◌∷◌, ◌++◌, length, drop, reverse, refl, sym, ap, ◌∙◌, arith}
 use Rattle.std.specs.List.{insert}
 use Rattle.std.specs.HashSet.{HashSet, UpdatesBy}
 use Rattle.std.specs.Str.{bytes_eq}
-use Rattle.std.proofs.lemmas.Bool.{cases_Bool, cond-true, cond-false}
-use Rattle.std.proofs.lemmas.Slice.Eq.{bytes_eq-Decides}
+use Rattle.std.proofs.lemmas.Bool.{cond-true, cond-false}
 use Rattle.std.proofs.lemmas.List.{append_assoc, reverse-append, length-append, take_at, drop_at}
 use denote.Ref.{Bor}
+use Rattle.cfa_base.specs.lemmas.EqualTexts.{same_text, texts_turned}
 use Rattle.cfa_edits.specs.Edits.{Lines, is_among, lacking, spot_in, put_at, inserted}
 use Rattle.cfa_edits.specs.declared.edits.Spot.{Spot}
 use Rattle.cfa_edits.specs.Steps.{has_line}
-
-text_is : (x y : List ℕ) → bytes_eq x y ≡ true → x ≡ y
-text_is x y = (bytes_eq-Decides x y).0
-
-text_itself : (x : List ℕ) → bytes_eq x x ≡ true
-text_itself x = (bytes_eq-Decides x x).1 refl
-
-bytes_eq-sym : (x y : List ℕ) → bytes_eq x y ≡ bytes_eq y x
-bytes_eq-sym x y =
-    ⊎_elim
-    (λ yes. ap (λ z. bytes_eq x z) (sym (text_is x y yes)) ∙ ap (λ z. bytes_eq z x) (text_is x y yes))
-    (λ no. ⊎_elim
-    (λ yes'. ap (λ z. bytes_eq x z) (text_is y x yes') ∙ ap (λ z. bytes_eq z x) (sym (text_is y x yes')))
-    (λ no'. no ∙ sym no')
-    (cases_Bool (bytes_eq y x)))
-    (cases_Bool (bytes_eq x y))
 
 -- what the set has after a line was put in or taken out
 pub has_updated : {S : Type 0} (line : List ℕ) (before after : HashSet (Bor (List ℕ)) S) (b : Bool)
@@ -59,7 +43,7 @@ pub distinct_more : (f g : List ℕ → Bool) (lines : Lines) (line : List ℕ)
     → (other : List ℕ) → g other ≡ is_among (lines ++ line ∷ []) other
 distinct_more f g lines line has updated other =
     updated other ∙ put_or (bytes_eq line other) (f other)
-    ∙ ap (λ b. b || bytes_eq line other) (has other) ∙ ap (λ b. is_among lines other || b) (bytes_eq-sym line other)
+    ∙ ap (λ b. b || bytes_eq line other) (has other) ∙ ap (λ b. is_among lines other || b) (texts_turned line other)
     ∙ sym (among-push lines line other)
 
 taken_and : (b h a : Bool) → cond b false (h && not a) ≡ (h && not (a || b))
@@ -76,7 +60,7 @@ pub take_out_more : (wanted f g : List ℕ → Bool) (lines : Lines) (line : Lis
 take_out_more wanted f g lines line has updated other =
     updated other ∙ ap (λ b. cond (bytes_eq line other) false b) (has other)
     ∙ taken_and (bytes_eq line other) (wanted other) (is_among lines other)
-    ∙ ap (λ b. wanted other && not (is_among lines other || b)) (bytes_eq-sym line other)
+    ∙ ap (λ b. wanted other && not (is_among lines other || b)) (texts_turned line other)
     ∙ ap (λ b. wanted other && not b) (sym (among-push lines line other))
 
 or_comm : (a b : Bool) → (a || b) ≡ (b || a)
@@ -90,7 +74,7 @@ pub lacking_more : (f g : List ℕ → Bool) (block seen : Lines) (line : List �
 lacking_more f g block seen line has updated other =
     updated other ∙ ap (λ b. cond (bytes_eq line other) false b) (has other)
     ∙ taken_and (bytes_eq line other) (is_among block other) (is_among seen other)
-    ∙ ap (λ b. is_among block other && not b) (or_comm (is_among seen other) (bytes_eq line other) ∙ ap (λ b. b || is_among seen other) (bytes_eq-sym line other))
+    ∙ ap (λ b. is_among block other && not b) (or_comm (is_among seen other) (bytes_eq line other) ∙ ap (λ b. b || is_among seen other) (texts_turned line other))
 
 is_lacking : (a : Bool) → (true && not a) ≡ true → a ≡ false
 is_lacking true e = absurd cc
@@ -116,7 +100,7 @@ lacking_skips block seen rest line f has there missed =
     cond-true (is_among seen line) (lacking (line ∷ seen) rest) (line ∷ lacking (line ∷ seen) rest) old
 
 pub among_itself : (lines more : Lines) (line : List ℕ) → is_among (lines ++ line ∷ more) line ≡ true
-among_itself [] more line = ap (λ b. b || is_among more line) (text_itself line)
+among_itself [] more line = ap (λ b. b || is_among more line) (same_text line)
 among_itself (x ∷ lines) more line = ap (λ b. bytes_eq line x || b) (among_itself lines more line) ∙ or_true (bytes_eq line x)
 
 -- one more line of the block is gathered, or passed over

@@ -3,6 +3,7 @@ use Rattle.std.proofs.Common.{◌≡◌, ℕ, ◌+◌, Bool, true, false, List, 
 use Rattle.std.specs.Prelude.{cond}
 use Rattle.std.specs.Str.{bytes_eq}
 use Rattle.cfa_base.specs.lemmas.Lists.{none_left, none_right}
+use Rattle.cfa_base.specs.lemmas.EqualTexts.{is_text}
 use Rattle.cfa_tree.specs.Tree.{ValueTree, BlockTree, PolicyTree}
 use Rattle.cfa_kinds.specs.declared.kinds.PromiseType.{PromiseType}
 use Rattle.cfa_kinds.specs.declared.kinds.PromiseType.TheVariants as promises
@@ -24,7 +25,6 @@ use Rattle.cfa_scripts.specs.EditScripts.{Caller, walk_from_first, walked_by, wa
 use Rattle.cfa_scripts.specs.Numbered.{Numbered, numbered_in, name_of}
 use Rattle.cfa_laws.specs.Statuses.{Within, no_no, no_maybe, yes_maybe, yes_yes, AllWithin, RaisesAlike}
 use Rattle.cfa_laws.proofs.WalkTypes.{Inside, Walk}
-use Rattle.cfa_laws.proofs.TextLemmas.{is_text}
 use Rattle.cfa_laws.specs.lemmas.Within.{within_lesser, within_greater}
 use Rattle.cfa_laws.proofs.GuardLemmas.{guard_first, guard_within}
 use Rattle.cfa_laws.proofs.RaiseLemmas.{raises_alike}

@@ -1,4 +1,3 @@
-pub mod TextLemmas
 pub mod SaidLemmas
 pub mod RaiseLemmas
 pub mod FirstLemmas

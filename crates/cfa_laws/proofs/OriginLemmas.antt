@@ -7,6 +7,7 @@ use Rattle.std.specs.Str.{bytes_eq}
 use Rattle.cfa_base.specs.TextMaps.{TextMap, text_cmp}
 use Rattle.cfa_base.specs.lemmas.TextMaps.{get-put}
 use Rattle.cfa_base.specs.lemmas.Lists.{each_append}
+use Rattle.cfa_base.specs.lemmas.EqualTexts.{same_text, is_text}
 use Rattle.cfa_tree.specs.Tree.{ValueTree, BlockTree}
 use Rattle.cfa_kinds.specs.declared.kinds.PromiseType.{PromiseType}
 use Rattle.cfa_kinds.specs.declared.kinds.PromiseType.TheVariants as promises
@@ -32,7 +33,6 @@ use Rattle.cfa_resolve.specs.Instances.{Reached}
 use Rattle.cfa_resolve.specs.Resolution.{caller_of, edit_call, walked_for, unsettled_in, inner_unsettled, resolved_as, resolution}
 use Rattle.cfa_laws.specs.Sources.{IsFirst, RaiseHasFirst, IsMaybe, UnsettledAreMaybe}
 use Rattle.cfa_laws.proofs.WalkTypes.{HandedRaise, Inside, Walk}
-use Rattle.cfa_laws.proofs.TextLemmas.{same_text, is_text}
 use Rattle.cfa_laws.specs.lemmas.MaybeClasses.{lesser_maybe, greater_maybe, guard_is}
 use Rattle.cfa_laws.proofs.FirstLemmas.{raises_first}
 use Rattle.cfa_laws.proofs.GuardLemmas.{guard_first}

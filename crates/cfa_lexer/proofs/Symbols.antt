@@ -6,8 +6,8 @@ use Rattle.cfa_base.specs.declared.tokens.Kind.{Kind}
 use Rattle.cfa_base.specs.declared.tokens.Kind.TheVariants.{FatArrow, ThinArrow, DoubleColon, Colon, Comma, Semicolon, OpenBrace, CloseBrace, OpenParen, CloseParen, Bang, Dot, And, Or}
 use Rattle.cfa_base.specs.Lexing.{is_word_byte, is_quote, spells, Takes, BeginsNone}
 use Rattle.cfa_base.specs.Scanned.{kind_from}
-use Rattle.cfa_base.specs.lemmas.Spelled.{same_bytes}
 use Rattle.cfa_base.specs.lemmas.Taking.{fronted, bar_first, takes_fat_arrow, takes_thin_arrow, takes_double_colon, takes_colon, takes_double_bar, takes_bar, takes_comma, takes_semicolon, takes_open_brace, takes_close_brace, takes_open_paren, takes_close_paren, takes_bang, takes_dot, takes_and}
+use Rattle.cfa_base.specs.lemmas.EqualTexts.{is_text}
 use Rattle.cfa_lexer.specs.Fronts.{symbol_of, TellsFront}
 
 -- the byte that follows, where one does
@@ -22,10 +22,10 @@ no_arrow first bs only lacks kind front after cut spelled =
     both_ways (second bs == 62) lacks (ap (λ x. second x == 62) (sym rest))
 
 fat_arrow_tail : (tail : List ℕ) → IsTrue (spells (kind_from 61 tail) (61 ∷ tail)) → tail ≡ 62 ∷ []
-fat_arrow_tail tail spelled = let same = same_bytes (61 ∷ tail) (61 ∷ 62 ∷ []) spelled in cc
+fat_arrow_tail tail spelled = let same = is_text (61 ∷ tail) (61 ∷ 62 ∷ []) spelled in cc
 
 thin_arrow_tail : (tail : List ℕ) → IsTrue (spells (kind_from 45 tail) (45 ∷ tail)) → tail ≡ 62 ∷ []
-thin_arrow_tail tail spelled = let same = same_bytes (45 ∷ tail) (45 ∷ 62 ∷ []) spelled in cc
+thin_arrow_tail tail spelled = let same = is_text (45 ∷ tail) (45 ∷ 62 ∷ []) spelled in cc
 
 fat_arrow : (bs : List ℕ) → TellsFront (61 ∷ bs) (if second bs == 62 then Some (FatArrow, 2) else None)
 fat_arrow [] = no_arrow 61 [] fat_arrow_tail refl

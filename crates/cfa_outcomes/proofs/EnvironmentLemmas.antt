@@ -1,6 +1,6 @@
 -- What an environment tells after a change.
 use Rattle.std.proofs.Common.{◌≡◌, ◌≢◌, ℕ, ◌<◌, ◌+◌, List, [], ◌∷◌, length, take, get_or, Option, Some, None, is_some, Bool, true, false, cond, ◌||◌, if◌then◌else◌, map, unwrap_or, refl, sym, ap, subst, ◌∙◌}
-use Rattle.std.proofs.lemmas.Bool.{false≢true, false_from_ne_true}
+use Rattle.std.proofs.lemmas.Bool.{false≢true}
 use Rattle.std.proofs.lemmas.List.Folds.{list_any_more}
 use Rattle.std.proofs.lemmas.Map.Steps.{set_value_same}
 use Rattle.std.proofs.lemmas.Slice.Eq.{bytes_eq-Decides}
@@ -14,6 +14,7 @@ use Rattle.std.specs.String.{string_bytes, string_eq}
 use Rattle.cfa_base.specs.TextMaps.{text_cmp, text_map}
 use Rattle.cfa_base.specs.declared.places.PromiseId.{PromiseId}
 use Rattle.cfa_base.specs.lemmas.TextMaps.{get-put, remove-insert, ties_alike, same_texts}
+use Rattle.cfa_base.specs.lemmas.EqualTexts.{same_text, texts_apart}
 use Rattle.cfa_classes.specs.declared.levels.Status.{Status}
 use Rattle.cfa_classes.specs.declared.levels.Status.TheVariants.{No, Maybe, Yes}
 use Rattle.cfa_classes.specs.Status.{greater}
@@ -21,12 +22,6 @@ use Rattle.cfa_classes.specs.Raised.{Raised, none_raised, status_in, raised}
 use Rattle.cfa_classes.specs.lemmas.Raised.{status_in-none_raised, status_in-raised_same, status_in-raised_other}
 use Rattle.cfa_outcomes.specs.Environments.{EnvironmentMaps, with_class, Sources, Marks, marks_at, mark_in, marked, sourced, is_listed, all_yes}
 use Rattle.cfa_outcomes.proofs.HashedTexts.{get-hashed, hashed-put}
-
-same : (text : List ℕ) → bytes_eq text text ≡ true
-same text = (bytes_eq-Decides text text).1 refl
-
-apart : (text other : List ℕ) → other ≢ text → bytes_eq text other ≡ false
-apart text other differ = false_from_ne_true _ (λ e. differ (sym ((bytes_eq-Decides text other).0 e)))
 
 unwrap_or-cond : {A : Type 0} (b : Bool) (x d : A) (o : Option A) → unwrap_or (cond b (Some x) o) d ≡ cond b x (unwrap_or o d)
 unwrap_or-cond true x d o = refl
@@ -42,7 +37,7 @@ marks_at-marked marks path text to other =
 
 pub mark_in-marked_same : (marks : Marks) (path text : List ℕ) (to : Status) → mark_in (marked marks path text to) path text ≡ greater (mark_in marks path text) to
 mark_in-marked_same marks path text to =
-    ap (λ r. status_in r text) (marks_at-marked marks path text to path ∙ ap (λ b. cond b (raised (marks_at marks path) text to) (marks_at marks path)) (same path))
+    ap (λ r. status_in r text) (marks_at-marked marks path text to path ∙ ap (λ b. cond b (raised (marks_at marks path) text to) (marks_at marks path)) (same_text path))
     ∙ status_in-raised_same (marks_at marks path) text to
 
 pub mark_in-marked_other : (marks : Marks) (path text : List ℕ) (to : Status) (other_path other_text : List ℕ)
@@ -70,7 +65,7 @@ unfolding sourced
 sourced_same sources class None = elim (finite.get sources class) as (λ o. o ≡ option_or o None) [ None ↦ refl | Some id ↦ refl ]
 sourced_same sources class (Some source) =
     elim (finite.get sources class) as (λ o. finite.get sources class ≡ o → finite.get (cond (is_some o) sources (finite.insert sources class source)) class ≡ option_or o (Some source)) [
-      | None ↦ λ _. get-put sources class source class ∙ ap (λ b. cond b (Some source) (finite.get sources class)) (same class)
+      | None ↦ λ _. get-put sources class source class ∙ ap (λ b. cond b (Some source) (finite.get sources class)) (same_text class)
       | Some known ↦ λ e. e
     ] refl
 
@@ -80,7 +75,7 @@ sourced_other sources class None other differ = refl
 sourced_other sources class (Some source) other differ =
     elim (finite.contains_key sources class) as (λ b. finite.get (cond b sources (finite.insert sources class source)) other ≡ finite.get sources other) [
       | true ↦ refl
-      | false ↦ get-put sources class source other ∙ ap (λ b. cond b (Some source) (finite.get sources other)) (apart class other differ)
+      | false ↦ get-put sources class source other ∙ ap (λ b. cond b (Some source) (finite.get sources other)) (texts_apart class other (λ e. differ (sym e)))
     ]
 
 pub get-sourced : (sources : Sources) (class : List ℕ) (source : Option PromiseId) (other : List ℕ)

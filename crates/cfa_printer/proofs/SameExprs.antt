@@ -3,13 +3,13 @@ use Rattle.std.proofs.Common.{◌≡◌, ◌==◌, ℕ, List, [], ◌∷◌, ref
 use Rattle.std.specs.Prelude.{IsTrue}
 use Rattle.std.specs.Str.{bytes_eq}
 use Rattle.std.proofs.lemmas.Bool.{false≢true, and_parts, and_from, eq-eqb}
-use Rattle.cfa_base.specs.lemmas.Spelled.{same_bytes}
+use Rattle.cfa_base.specs.lemmas.EqualTexts.{is_text}
 use Rattle.cfa_tree.specs.Tree.{ExprTree, class, negated, all_of, one_of, ExprTrees, no_expr, more_exprs}
 use Rattle.cfa_printer.specs.SameExpr.{same_expr, same_exprs, same_guard}
 
 mutual
   same_expr_is : (a b : ExprTree) → IsTrue (same_expr a b) → a ≡ b
-  same_expr_is (class a) (class b) h = ap class (same_bytes a b h)
+  same_expr_is (class a) (class b) h = ap class (is_text a b h)
   same_expr_is (negated a) (negated b) h = ap negated (same_expr_is a b h)
   same_expr_is (all_of es) (all_of fs) h = ap all_of (same_exprs_are es fs h)
   same_expr_is (one_of es) (one_of fs) h = ap one_of (same_exprs_are es fs h)

@@ -1,9 +1,9 @@
 -- Promisers that are written as directories, and the lengths of the texts that promises give.
-use Rattle.std.proofs.Common.{◌≡◌, ◌∙◌, ◌-◌, ◌≤◌, ℕ, true, false, List, ◌++◌, length, take, drop, codes, if◌then◌else◌, append_assoc, ap, sym, lit≤, arith}
+use Rattle.std.proofs.Common.{◌≡◌, ◌∙◌, ◌-◌, ◌≤◌, ℕ, false, List, ◌++◌, length, take, drop, codes, if◌then◌else◌, append_assoc, ap, sym, lit≤}
 use Rattle.std.specs.Str.{bytes_eq}
 use Rattle.std.proofs.lemmas.Bool.{false_from_ne_true}
-use Rattle.std.proofs.lemmas.Slice.Eq.{bytes_eq-Decides}
 use Rattle.std.proofs.lemmas.List.{take-append-drop}
+use Rattle.cfa_base.specs.lemmas.EqualTexts.{is_text}
 use Rattle.cfa_tree.specs.Tree.{ValueTree}
 use Rattle.cfa_vars.specs.Scopes.{InScope}
 use Rattle.cfa_vars.specs.Expansion.{Chosen}
@@ -15,11 +15,8 @@ use Rattle.cfa_acts.specs.declared.acts.Act.{Act}
 use Rattle.cfa_bodies.specs.Bodies.{whole_or_empty}
 use Rattle.cfa_resolve.specs.FileActs.{is_directory_form, path_part}
 
-same_bytes : (x y : List ℕ) → bytes_eq x y ≡ true → x ≡ y
-same_bytes x y e = grind (arith, bytes_eq-Decides x y)
-
 not_ending : (s n : List ℕ) (i : ℕ) → ((front : List ℕ) → s ≡ front ++ n → ⊥) → bytes_eq (drop i s) n ≡ false
-not_ending s n i none = false_from_ne_true (bytes_eq (drop i s) n) (λ e. none (take i s) (sym (take-append-drop i s) ∙ ap (λ t. take i s ++ t) (same_bytes (drop i s) n e)))
+not_ending s n i none = false_from_ne_true (bytes_eq (drop i s) n) (λ e. none (take i s) (sym (take-append-drop i s) ∙ ap (λ t. take i s ++ t) (is_text (drop i s) n e)))
 
 pub no_directory_form : (s : List ℕ) → ((front : List ℕ) → s ≡ front ++ codes "/." → ⊥) → is_directory_form s ≡ false
 no_directory_form s none = not_ending s (codes "/.") (length s - 2) none

@@ -1,10 +1,10 @@
 -- A chain of calls of which none lies on a cycle has as many callers as calls.
-use Rattle.std.proofs.Common.{◌≡◌, ◌∙◌, ◌≤◌, ℕ, Bool, true, false, List, [], ◌∷◌, ◌++◌, length, map, Option, Some, None, inr, refl, ap, sym, subst}
+use Rattle.std.proofs.Common.{◌≡◌, ◌≤◌, ℕ, Bool, true, false, List, [], ◌∷◌, ◌++◌, length, map, Option, Some, None, inr, refl, sym, subst}
 use Rattle.std.specs.Prelude.{if◌then◌else◌, ⊤}
 use Rattle.std.specs.List.{Contains, IsDistinct, AllByRecursion, cons_option, flat_map, filter_map}
-use Rattle.std.specs.Cmp.{IsEquivalence}
 use Rattle.std.specs.Str.{bytes_eq}
 use Rattle.std.proofs.lemmas.Slice.Eq.{bytes_eq-Decides}
+use Rattle.std.proofs.lemmas.Cmp.{nat_list_eq_equiv}
 use Rattle.std.proofs.lemmas.Map.Made.{is_member-Decides, length-le_from_is_member}
 use Rattle.std.proofs.lemmas.List.Elements.{All-contains, All-from_recursion, Contains-push, Contains-append_left, Contains-append_right}
 use Rattle.std.proofs.lemmas.List.{length-map}
@@ -25,19 +25,6 @@ use Rattle.cfa_calls.specs.Cycles.{Call, Reaches, NoneOnCycle}
 use Rattle.cfa_calls.specs.Cycles.Reaches.{here, onward}
 use Rattle.cfa_schema.specs.Valid.{bundle_name, callee_named, called_by, call_of_kind, call_in_attribute, calls_in_promise, calls_by_type, calls_in_section, calls_in_bundle, calls_in_block, first_bundles_after, calls_of}
 use Rattle.cfa_schema.specs.Laws.{IsChain, one_call, more_calls, ChainsAreShort}
-
-sym_by : (x y : List ℕ) (a b : Bool) → bytes_eq x y ≡ a → bytes_eq y x ≡ b → a ≡ b
-sym_by x y true true e f = refl
-sym_by x y true false e f = sym (sym f ∙ (bytes_eq-Decides y x).1 (sym ((bytes_eq-Decides x y).0 e)))
-sym_by x y false true e f = sym e ∙ (bytes_eq-Decides x y).1 (sym ((bytes_eq-Decides y x).0 f))
-sym_by x y false false e f = refl
-
-bytes_equiv : IsEquivalence bytes_eq
-bytes_equiv = record {
-  refl = λ x. (bytes_eq-Decides x x).1 refl;
-  symm = λ x y. sym_by x y (bytes_eq x y) (bytes_eq y x) refl refl;
-  congr = λ x y z e. ap (λ k. bytes_eq k z) ((bytes_eq-Decides x y).0 e);
-}
 
 caller_of : Call → List ℕ
 caller_of c = c.caller
@@ -167,7 +154,7 @@ chains_are_short policy chain valid is =
     let none : NoneOnCycle (calls_of policy) = λ c h on. valid.none_applies (refusal CallCycle c.place) (inr (c, h, on, refl)) in
     let names = names_of policy in
     let named = seen_all names chain (chain_each (calls_of policy) (λ c. Contains names c.caller) (caller_named policy) chain is) in
-    let within = length-le_from_is_member bytes_equiv (map caller_of chain) names (distinct (calls_of policy) none chain is)
+    let within = length-le_from_is_member nat_list_eq_equiv (map caller_of chain) names (distinct (calls_of policy) none chain is)
     (λ q h. (is_member-Decides bytes_eq-Decides names q).1
     (All-contains (Contains names) (map caller_of chain) q (All-from_recursion (Contains names) (map caller_of chain) named) ((is_member-Decides bytes_eq-Decides (map caller_of chain) q).0 h))) in
     subst (λ n. n ≤ length (filter_map bundle_name policy)) (length-map chain caller_of)

@@ -4,7 +4,6 @@ use Rattle.std.specs.Prelude.{is_some, slice_get, option_and_then, nat_lt, find,
 use Rattle.std.specs.Option.{option_or}
 use Rattle.std.specs.List.{position, position_or_len}
 use Rattle.std.specs.Str.{bytes_eq}
-use Rattle.std.proofs.lemmas.Slice.Eq.{bytes_eq-Decides}
 use Rattle.std.proofs.lemmas.Map.Text.{is_eq-slice_cmp}
 use Rattle.std.proofs.lemmas.List.{length-map, map-append, take_more, take_all, length-take-le}
 use Rattle.std.specs.Cmp.Lexicographic.{nat_list_cmp_total}
@@ -16,6 +15,7 @@ use denote.Ref.{Bor}
 use Rattle.cfa_base.specs.IndexTables.{Notes}
 use Rattle.cfa_base.specs.TextMaps.{TextMap}
 use Rattle.cfa_base.specs.lemmas.Lists.{place_push, option_or-none}
+use Rattle.cfa_base.specs.lemmas.EqualTexts.{is_text}
 use Rattle.cfa_tree.specs.declared.blocks.Block.{Block}
 use Rattle.cfa_tree.specs.Plain.{plain_block}
 use Rattle.cfa_tree.specs.Tree.{PolicyTree}
@@ -33,12 +33,9 @@ from_none : {A : Type 0} → (o p : Option A) → o ≡ None → p ≡ option_or
 from_none None p e = refl
 from_none (Some x) p e = cc
 
-same_text : (q k : List ℕ) → bytes_eq q k ≡ true → q ≡ k
-same_text q k = (bytes_eq-Decides q k).0
-
 kept_by : (m : TextMap ℕ) (name q : List ℕ) (place : ℕ) (b : Bool) → bytes_eq q name ≡ b → is_some (finite.get m name) ≡ true →
     finite.get m q ≡ option_or (finite.get m q) (cond b (Some place) None)
-kept_by m name q place true e some = or_some (finite.get m q) (Some place) (ap (λ k. is_some (finite.get m k)) (same_text q name e) ∙ some)
+kept_by m name q place true e some = or_some (finite.get m q) (Some place) (ap (λ k. is_some (finite.get m k)) (is_text q name e) ∙ some)
 kept_by m name q place false e some = sym (option_or-none (finite.get m q))
 
 -- a name that has a place keeps it
@@ -52,7 +49,7 @@ none_is (Some x) e = cc
 
 put_by : (m : TextMap ℕ) (name q : List ℕ) (place : ℕ) (b : Bool) → bytes_eq q name ≡ b → is_some (finite.get m name) ≡ false →
     cond b (Some place) (finite.get m q) ≡ option_or (finite.get m q) (cond b (Some place) None)
-put_by m name q place true e none = from_none (finite.get m q) (Some place) (none_is (finite.get m q) (ap (λ k. is_some (finite.get m k)) (same_text q name e) ∙ none))
+put_by m name q place true e none = from_none (finite.get m q) (Some place) (none_is (finite.get m q) (ap (λ k. is_some (finite.get m k)) (is_text q name e) ∙ none))
 put_by m name q place false e none = sym (option_or-none (finite.get m q))
 
 -- a name that had none gets this one

@@ -3,11 +3,12 @@ use Rattle.std.proofs.Common.{◌≡◌, ℕ, false, List, refl, sym, ap, ◌∙
 use Rattle.std.specs.Prelude.{codes}
 use Rattle.std.specs.Str.{bytes_eq}
 use Rattle.cfa_base.specs.Escapes.{escaped}
+use Rattle.cfa_base.specs.lemmas.EqualTexts.{texts_differ}
 use Rattle.cfa_outside.specs.declared.worlds.Perms.{Perms}
 use Rattle.cfa_outside.specs.declared.worlds.ServiceRow.{ServiceRow}
 use Rattle.cfa_rows.specs.Cuts.{Lacks, IsCut}
 use Rattle.cfa_rows.specs.Rows.{◌then◌}
-use Rattle.cfa_rows.specs.lemmas.Cuts.{one_cut, no_cut, Lacks-from_test, texts_differ}
+use Rattle.cfa_rows.specs.lemmas.Cuts.{one_cut, no_cut, Lacks-from_test}
 use Rattle.cfa_tables.specs.declared.row_changes.RowChange.{RowChange}
 use Rattle.cfa_tables.specs.declared.row_changes.RowChange.TheVariants.{Permissions, Gone, Service, Lock}
 use Rattle.cfa_tables.specs.RowChanges.{IsRowChange, word_of, fields_of, change_text}

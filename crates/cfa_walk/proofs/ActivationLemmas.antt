@@ -27,6 +27,7 @@ use Rattle.cfa_walk.specs.declared.states.State.{State}
 use Rattle.cfa_walk.specs.History.{History, Event, Begun, Set, Raised, within, scope_in, locally, local_source, source_in, visits_in}
 use Rattle.cfa_walk.specs.Kept.{Keeps, KeepsLocally, Stands, OwnScope, IsFresh, IsUntouched, KeepsLog, wait_at, home_of, scope_at, first, second}
 use Rattle.cfa_base.specs.TextMaps.{TextMap}
+use Rattle.cfa_base.specs.lemmas.EqualTexts.{same_text, is_text}
 use Rattle.cfa_walk.specs.declared.waits.Wait.{Wait}
 use Rattle.cfa_walk.specs.Logs.{Rows}
 use Rattle.cfa_walk.specs.Tellers.{worst_in}
@@ -34,7 +35,7 @@ use Rattle.cfa_defines.specs.FirstMaybe.{first_maybe_of_guard}
 use Rattle.cfa_walk.specs.Waits.{wait_on, wait_of_guard, waits_in}
 use Rattle.cfa_walk.specs.Remembered.{scopes_now}
 use Rattle.cfa_walk.specs.Views.{Setting, status_in, scopes_in, shared_names, shared_in}
-use Rattle.cfa_walk.proofs.SharedLemmas.{same_name, is_same, names_of_pairs, with_its, shared_once, set_in_place}
+use Rattle.cfa_walk.proofs.SharedLemmas.{names_of_pairs, with_its, shared_once, set_in_place}
 use Rattle.cfa_walk.proofs.KeptLemmas.{counts_same, changed, greater_turned, keeps_begun, keeps_set}
 use Rattle.cfa_walk.proofs.WaitLemmas.{no_waits}
 use Rattle.cfa_walk.proofs.LocalLemmas.{statuses_are, other_begun, other_set, own_scope_same, own_set, own_is_unshared, has_own, shared_at, is_shared_at}
@@ -43,10 +44,10 @@ use Rattle.cfa_walk.proofs.LocalLemmas.{statuses_are, other_begun, other_set, ow
 
 module _ (h : History) (path class : List ℕ) (to : Status) (source : Option PromiseId) (name : List ℕ) where
   here : bytes_eq class name ≡ true → (bytes_eq path path && bytes_eq class name) ≡ true
-  here same = ap (λ b. b && bytes_eq class name) (same_name path) ∙ same
+  here same = ap (λ b. b && bytes_eq class name) (same_text path) ∙ same
 
   elsewhere : bytes_eq class name ≡ false → (bytes_eq path path && bytes_eq class name) ≡ false
-  elsewhere differ = ap (λ b. b && bytes_eq class name) (same_name path) ∙ differ
+  elsewhere differ = ap (λ b. b && bytes_eq class name) (same_text path) ∙ differ
 
   raised_here : bytes_eq class name ≡ true → locally (Raised (within path) class to source ∷ h) path name ≡ greater to (locally h path name)
   raised_here same = rw (here same, locally) refl
@@ -68,7 +69,7 @@ module _ (s : Setting) (a : Activation) (e : EnvironmentMaps) (h : History) (kee
       changed before (status_of e) class (greater (before class) to) becomes others name (locally (Raised (within a.path) class to source ∷ h) a.path name)
       (λ same.
       raised_here h a.path class to source name same ∙ greater_turned to (locally h a.path name)
-      ∙ ap (λ x. greater x to) (sym (keeps.0 name)) ∙ ap (λ n. greater (before n) to) (sym (is_same class name same)))
+      ∙ ap (λ x. greater x to) (sym (keeps.0 name)) ∙ ap (λ n. greater (before n) to) (sym (is_text class name same)))
       (λ differ. raised_elsewhere h a.path class to source name differ ∙ sym (keeps.0 name))
 
   raised_source : source_of e class ≡ option_or (source_of a.local class) source → ((other : List ℕ) → other ≢ class → source_of e other ≡ source_of a.local other) →
@@ -78,7 +79,7 @@ module _ (s : Setting) (a : Activation) (e : EnvironmentMaps) (h : History) (kee
       changed before (source_of e) class (option_or (before class) source) becomes others name (local_source (Raised (within a.path) class to source ∷ h) a.path name)
       (λ same.
       source_here h a.path class to source name same ∙ ap (λ o. option_or o source) (sym (keeps.1.0 name))
-      ∙ ap (λ n. option_or (before n) source) (sym (is_same class name same)))
+      ∙ ap (λ n. option_or (before n) source) (sym (is_text class name same)))
       (λ differ. source_elsewhere h a.path class to source name differ ∙ sym (keeps.1.0 name))
 
   pub local_raised : status_of e class ≡ greater (status_of a.local class) to → ((other : List ℕ) → other ≢ class → status_of e other ≡ status_of a.local other) →
@@ -98,7 +99,7 @@ begun_here : (path : List ℕ) (given : List Datum) (h : History) (name : List �
 begun_here path given h name same = rw (same, scope_in) refl
 
 set_here : (path variable : List ℕ) (datum : Datum) (h : History) → scope_in (Set path variable datum ∷ h) path ≡ put (scope_in h path) variable datum
-set_here path variable datum h = rw (same_name path, scope_in) refl
+set_here path variable datum h = rw (same_text path, scope_in) refl
 
 module _ (s : Setting) (st : State) (h : History) (keeps : Keeps s st h) where
   names_kept : map first st.shared.items ≡ shared_names s.policy
@@ -294,7 +295,7 @@ stands_begun s st st' a h name place is at fresh found environment left calls lo
     let k : History = Begun name [] ∷ h in
     let found = shared_found s st h keeps place name found in
     let now = cleared name (scope_in h name) (table_at s st h keeps place name found) in
-    let empty = ap (λ t. slice_set st.shared.items place (name, t)) (sym (begun_here name [] h name (same_name name))) in
+    let empty = ap (λ t. slice_set st.shared.items place (name, t)) (sym (begun_here name [] h name (same_text name))) in
     let counts = counts_same s st h k refl (λ _. refl) refl refl refl keeps.1.1.1.1 in (
       (
         λ class. ap (λ e. status_of e class) environment ∙ keeps.0 class,

@@ -3,6 +3,7 @@ use Rattle.std.proofs.Common.{◌≡◌, ℕ, suc, false, List, [], ◌∷◌, l
 use Rattle.std.specs.Prelude.{Ok, Err}
 use Rattle.cfa_acts.specs.declared.acts.Act.{Act}
 use Rattle.cfa_base.specs.Shown.{Shown}
+use Rattle.cfa_base.specs.lemmas.EqualTexts.{same_text}
 use Rattle.cfa_classes.specs.declared.levels.Status.{Status}
 use Rattle.cfa_output.specs.declared.ends.Stop.{Stop}
 use Rattle.cfa_output.specs.declared.ends.Stop.TheVariants.{Outside, Memory, Visits, Pattern}
@@ -28,7 +29,6 @@ use Rattle.cfa_walk.specs.Tellers.{Teller, worst_in, inner_path}
 use Rattle.cfa_walk.specs.Views.{Setting, Home, shared_names}
 use Rattle.cfa_walk.proofs.LevelLemmas.{goes_weaker, quietly_behind, later_same}
 use Rattle.cfa_walk.proofs.KeptLemmas.{keeps_begun}
-use Rattle.cfa_walk.proofs.SharedLemmas.{same_name}
 use Rattle.cfa_walk.proofs.SpareLemmas.{spare_none, spare_then, spare_begun, inner_has_newline}
 use Rattle.cfa_walk.proofs.DefiningLemmas.{home_same, passed_bind}
 
@@ -69,7 +69,7 @@ ended : (instance : Instance) (name : List ℕ) (given : List Datum) → instanc
 ended instance name given is_call worst h is = subst (λ (work : Work). EndedAs work instance worst h) (sym is_call) is
 
 begun_kept : (path : List ℕ) (given : List Datum) (h : History) → worst_in (Begun path given ∷ h) path ≡ Kept
-begun_kept path given h = rw (same_name path, worst_in) refl
+begun_kept path given h = rw (same_text path, worst_in) refl
 
 unshared : (policy : PolicyTree) (s : Setting) (instance : Instance) → HasPlainNames policy → s.policy ≡ policy → is_listed (shared_names s.policy) (inner_path instance) ≡ false
 unshared policy s instance plain same =

@@ -4,17 +4,18 @@ use Rattle.std.specs.List.{list_any, position_from}
 use Rattle.std.specs.Str.{bytes_eq}
 use Rattle.std.proofs.lemmas.Iterator.Adapters.{position_from-zero}
 use Rattle.cfa_base.specs.Index.{place_of, same_pair, pair_place_of}
+use Rattle.cfa_base.specs.lemmas.EqualTexts.{texts_turned}
 use Rattle.cfa_resolve.specs.declared.instances.Instance.{Instance}
 use Rattle.cfa_values.specs.Lookups.{has_position}
 use Rattle.cfa_resolve.specs.Resolution.{is_listed}
 use Rattle.cfa_walk.specs.History.{is_named}
 use Rattle.cfa_walk.specs.Names.{name_of}
-use Rattle.cfa_walk.specs.lemmas.Names.{same_bytes, same_instance}
+use Rattle.cfa_walk.specs.lemmas.Names.{same_instance}
 
 turned : (classes : List (List ℕ)) (class : List ℕ) → list_any (λ other. bytes_eq class other) classes ≡ is_listed classes class
 turned [] class = refl
 turned (x ∷ xs) class =
-    ap (λ (b : Bool). b || list_any (λ other. bytes_eq class other) xs) (same_bytes class x)
+    ap (λ (b : Bool). b || list_any (λ other. bytes_eq class other) xs) (texts_turned class x)
     ∙ ap (λ (b : Bool). bytes_eq x class || b) (turned xs class)
 
 pub class_among : (classes : List (List ℕ)) (class : List ℕ) → is_some (place_of classes class) ≡ is_listed classes class

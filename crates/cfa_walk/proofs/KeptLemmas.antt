@@ -18,6 +18,7 @@ use Rattle.cfa_resolve.specs.Resolution.{is_listed}
 use Rattle.cfa_walk.specs.declared.states.State.{State}
 use Rattle.cfa_walk.specs.History.{History, Home, Begun, Set, Raised, Reached, Listed, Told, everywhere, within, scope_in, globally, global_source, mark_in, is_named, visits_in}
 use Rattle.cfa_base.specs.TextMaps.{TextMap}
+use Rattle.cfa_base.specs.lemmas.EqualTexts.{same_text, is_text as is_same}
 use Rattle.cfa_walk.specs.declared.waits.Wait.{Wait}
 use Rattle.cfa_walk.specs.declared.walks.Blame.{Blame}
 use Rattle.cfa_walk.specs.Kept.{Keeps, KeepsWaits, KeepsLog, wait_at}
@@ -27,7 +28,7 @@ use Rattle.cfa_walk.specs.Passes.{most_visits}
 use Rattle.cfa_walk.specs.Views.{Setting, from_start, global_status, shared_names, shared_in}
 use Rattle.cfa_walk.specs.Waits.{wait_of_call}
 use Rattle.cfa_walk.specs.Walks.{listed_instances, listings, unsettled_promises, own_unsettled, edits_unsettled}
-use Rattle.cfa_walk.proofs.SharedLemmas.{same_name, is_same, as_it_was}
+use Rattle.cfa_walk.proofs.SharedLemmas.{as_it_was}
 use Rattle.cfa_walk.proofs.LocalLemmas.{other_begun, other_set}
 use Rattle.cfa_walk.proofs.WaitLemmas.{log_reached, logged_none}
 
@@ -134,7 +135,7 @@ pub changed : {X : Type 0} (before after : List ℕ → X) (name : List ℕ) (he
 changed before after name here becomes others other then same differ =
     elim (bytes_eq name other) as (λ b. bytes_eq name other ≡ b → after other ≡ then) [
       | true ↦ λ e. ap after (sym (is_same name other e)) ∙ becomes ∙ sym (same e)
-      | false ↦ λ e. others other (λ is. false≢true (sym e ∙ ap (bytes_eq name) is ∙ same_name name)) ∙ sym (differ e)
+      | false ↦ λ e. others other (λ is. false≢true (sym e ∙ ap (bytes_eq name) is ∙ same_text name)) ∙ sym (differ e)
     ] refl
 
 raised_here : (h : History) (class : List ℕ) (to : Status) (source : Option PromiseId) (name : List ℕ) → bytes_eq class name ≡ true →
@@ -215,8 +216,8 @@ module _ (s : Setting) (st : State) (e : EnvironmentMaps) (h : History) (keeps :
               ∙ ap (λ m. greater m to) (keeps.1.1.0 path text) ∙ greater_turned (mark_in h path text) to ∙ sym (listed_here path text same)
           | false ↦ λ differ.
               others path text (λ both.
-              false≢true (sym differ ∙ ap (λ b. b && bytes_eq instance.text text) (ap (bytes_eq instance.path) (both.0 ∙ is_path) ∙ same_name instance.path)
-              ∙ ap (bytes_eq instance.text) (both.1 ∙ is_text) ∙ same_name instance.text))
+              false≢true (sym differ ∙ ap (λ b. b && bytes_eq instance.text text) (ap (bytes_eq instance.path) (both.0 ∙ is_path) ∙ same_text instance.path)
+              ∙ ap (bytes_eq instance.text) (both.1 ∙ is_text) ∙ same_text instance.text))
               ∙ keeps.1.1.0 path text ∙ sym (listed_elsewhere path text differ)
         ] refl
 

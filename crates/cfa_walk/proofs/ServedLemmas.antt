@@ -5,13 +5,14 @@ use Rattle.std.specs.List.{Contains}
 use Rattle.std.proofs.Math.ListN.{get_or-map}
 use Rattle.std.proofs.lemmas.List.{length-map}
 use Rattle.std.proofs.lemmas.List.Elements.{All-contains_itself, All-weaker}
+use Rattle.cfa_base.specs.lemmas.EqualTexts.{is_text}
 use Rattle.cfa_tree.specs.declared.blocks.Bundle.{Bundle}
 use Rattle.cfa_tree.specs.Tree.{BlockTree, bundle, body, PolicyTree}
 use Rattle.cfa_served.specs.Control.{sequence_of}
 use Rattle.cfa_served.specs.Served.{bundle_of, common_bundles_of, if_bundle, is_bundle_of}
 use Rattle.cfa_walk.specs.Bundles.{IsShared, HasSharedName, seen_bundle}
 use Rattle.cfa_walk.specs.Numbered.{name_of}
-use Rattle.cfa_walk.proofs.SharedLemmas.{is_same, sequence_is_shared, commons_are_shared}
+use Rattle.cfa_walk.proofs.SharedLemmas.{sequence_is_shared, commons_are_shared}
 
 pub sequence_shared : (policy : PolicyTree) → All (IsShared policy) (sequence_of policy)
 sequence_shared policy =
@@ -34,7 +35,7 @@ found_by : (name : List ℕ) (b : BlockTree) (rest : PolicyTree) (test : Bool) (
     (option_and_then if_bundle (find (is_bundle_of name) rest) ≡ Some block → name_of block ≡ name) → name_of block ≡ name
 found_by name (bundle type_name named params sections place) rest true block same e later =
     let is : bundle type_name named params sections place ≡ block = cc in
-    ap name_of (sym is) ∙ sym (is_same name named.name same)
+    ap name_of (sym is) ∙ sym (is_text name named.name same)
 found_by name (body type_name named params attributes place) rest true block same e later = cc
 found_by name b rest false block same e later = later e
 

@@ -3,11 +3,11 @@ use Rattle.std.proofs.Common.{◌≡◌, ℕ, ◌<◌, ◌≤◌, length, take, 
 use Rattle.std.specs.Prelude.{◌||◌, if◌then◌else◌, slice_get, slice_set, option_map}
 use Rattle.std.specs.List.{list_any, Contains}
 use Rattle.std.specs.Str.{bytes_eq}
-use Rattle.std.proofs.lemmas.Bool.{false_from_ne_true, false≢true, or_parts, or_left, or_right}
+use Rattle.std.proofs.lemmas.Bool.{false≢true, or_parts, or_left, or_right}
 use Rattle.std.proofs.lemmas.List.Folds.{list_any-append, list_any_at}
 use Rattle.std.proofs.lemmas.List.{take_all}
 use Rattle.std.proofs.lemmas.Option.{slice_get-map, slice_get_read}
-use Rattle.std.proofs.lemmas.Slice.Eq.{bytes_eq-Decides}
+use Rattle.cfa_base.specs.lemmas.EqualTexts.{same_text, is_text, texts_turned}
 use Rattle.cfa_tree.specs.declared.blocks.Bundle.{Bundle}
 use Rattle.cfa_tree.specs.declared.blocks.Block.TheVariants.{Bundle as a_bundle}
 use Rattle.cfa_tree.specs.Plain.{plain_block}
@@ -18,20 +18,6 @@ use Rattle.cfa_resolve.specs.Resolution.{is_listed}
 use Rattle.cfa_walk.specs.Kept.{first}
 use Rattle.cfa_walk.specs.Numbered.{name_of}
 use Rattle.cfa_walk.specs.Views.{joined_once, shared_names}
-
--- ---- equal names
-
-pub same_name : (name : List ℕ) → bytes_eq name name ≡ true
-same_name name = (bytes_eq-Decides name name).1 refl
-
-pub is_same : (name other : List ℕ) → bytes_eq name other ≡ true → name ≡ other
-is_same name other e = (bytes_eq-Decides name other).0 e
-
-pub apart : (name other : List ℕ) → (name ≡ other → ⊥) → bytes_eq name other ≡ false
-apart name other differ = false_from_ne_true _ (λ e. differ (is_same name other e))
-
-pub turned : (name other : List ℕ) → bytes_eq name other ≡ false → bytes_eq other name ≡ false
-turned name other differ = apart other name (λ e. false≢true (sym differ ∙ (bytes_eq-Decides name other).1 (sym e)))
 
 -- ---- names that are joined
 
@@ -65,7 +51,7 @@ one_more : (names : List (List ℕ)) (name : List ℕ) → IsOnce names → is_l
 one_more [] name once new = (refl, tt)
 one_more (other ∷ names) name once new =
     let both = or_parts (bytes_eq other name) (is_listed names name) new in (
-      list_any-append (λ n. bytes_eq n other) names (name ∷ []) ∙ ap (λ b. b || (bytes_eq name other || false)) once.0 ∙ ap (λ b. b || false) (turned other name both.0),
+      list_any-append (λ n. bytes_eq n other) names (name ∷ []) ∙ ap (λ b. b || (bytes_eq name other || false)) once.0 ∙ ap (λ b. b || false) (texts_turned name other ∙ both.0),
       one_more names name once.1 both.1,
     )
 
@@ -103,7 +89,7 @@ module _ {T : Type 0} (path : List ℕ) (f g : List ℕ → T) (others : (name :
   as_it_was [] new = refl
   as_it_was (name ∷ names) new =
       let both = or_parts (bytes_eq name path) (is_listed names path) new in
-      ap (λ t. pair name t ∷ map (with_its g) names) (others name (turned name path both.0))
+      ap (λ t. pair name t ∷ map (with_its g) names) (others name (texts_turned path name ∙ both.0))
       ∙ ap (λ rest. with_its f name ∷ rest) (as_it_was names both.1)
 
   -- what is changed under one name is changed in its place
@@ -127,7 +113,7 @@ pub place_found : {T : Type 0} (pairs items : List (List ℕ × T)) (place : ℕ
 place_found pairs items place pair name same behind at is =
     ap (λ ps. slice_get (map first ps) place) (sym same) ∙ slice_get-map first items place
     ∙ ap (option_map first) (slice_get_read items (length items) place pair refl behind at)
-    ∙ ap Some (is_same pair.0 name is)
+    ∙ ap Some (is_text pair.0 name is)
 
 pub place_missing : {T : Type 0} (pairs items : List (List ℕ × T)) (place : ℕ) (name : List ℕ) → items ≡ pairs → length items ≤ place →
     list_any (λ pair. bytes_eq pair.0 name) (take place items) ≡ false → is_listed (map first pairs) name ≡ false
@@ -145,7 +131,7 @@ still_listed false names other name listed =
 now_listed : (found : Bool) (names : List (List ℕ)) (name : List ℕ) → is_listed names name ≡ found → is_listed (if found then names else names ++ name ∷ []) name ≡ true
 now_listed true names name e = e
 now_listed false names name e =
-    list_any-append (λ n. bytes_eq n name) names (name ∷ []) ∙ ap (λ b. b || (bytes_eq name name || false)) e ∙ ap (λ b. b || false) (same_name name)
+    list_any-append (λ n. bytes_eq n name) names (name ∷ []) ∙ ap (λ b. b || (bytes_eq name name || false)) e ∙ ap (λ b. b || false) (same_text name)
 
 kept_listed : (names more : List (List ℕ)) (name : List ℕ) → is_listed names name ≡ true → is_listed (joined_once names more) name ≡ true
 kept_listed names [] name listed = listed
@@ -158,7 +144,7 @@ joined_listed names (other ∷ more) name listed =
     let found = is_listed names other in
     let with_it = if found then names else names ++ other ∷ [] in
     elim (bytes_eq other name) as (λ b. bytes_eq other name ≡ b → (b || is_listed more name) ≡ true → is_listed (joined_once with_it more) name ≡ true) [
-      | true ↦ λ same _. kept_listed with_it more name (ap (is_listed with_it) (sym (is_same other name same)) ∙ now_listed found names other refl)
+      | true ↦ λ same _. kept_listed with_it more name (ap (is_listed with_it) (sym (is_text other name same)) ∙ now_listed found names other refl)
       | false ↦ λ _ behind. joined_listed with_it more name behind
     ] refl listed
 
@@ -175,7 +161,7 @@ unfolding shared_names
 sequence_is_shared policy name has =
     joined_listed [] (map name_of (common_bundles_of policy) ++ sequence_of policy) name
     (behind_it (map name_of (common_bundles_of policy)) (sequence_of policy) name
-    (list_any_at (λ n. bytes_eq n name) (sequence_of policy) has.0 name has.1 (ap (λ n. bytes_eq n name) has.2 ∙ same_name name)))
+    (list_any_at (λ n. bytes_eq n name) (sequence_of policy) has.0 name has.1 (ap (λ n. bytes_eq n name) has.2 ∙ same_text name)))
 
 pub commons_are_shared : (policy : PolicyTree) (block : BlockTree) → Contains (common_bundles_of policy) block → is_listed (shared_names policy) (name_of block) ≡ true
 unfolding shared_names
@@ -183,4 +169,4 @@ commons_are_shared policy block has =
     joined_listed [] (map name_of (common_bundles_of policy) ++ sequence_of policy) (name_of block)
     (in_front (map name_of (common_bundles_of policy)) (sequence_of policy) (name_of block)
     (listed_map name_of (common_bundles_of policy) (name_of block)
-    ∙ list_any_at (λ b. bytes_eq (name_of b) (name_of block)) (common_bundles_of policy) has.0 block has.1 (ap (λ b. bytes_eq (name_of b) (name_of block)) has.2 ∙ same_name (name_of block))))
+    ∙ list_any_at (λ b. bytes_eq (name_of b) (name_of block)) (common_bundles_of policy) has.0 block has.1 (ap (λ b. bytes_eq (name_of b) (name_of block)) has.2 ∙ same_text (name_of block))))

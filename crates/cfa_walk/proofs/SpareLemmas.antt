@@ -6,6 +6,7 @@ use Rattle.std.specs.Str.{bytes_eq}
 use Rattle.std.proofs.lemmas.List.{length-append}
 use Rattle.std.proofs.lemmas.List.Elements.{Contains-append_right}
 use Rattle.cfa_base.specs.declared.places.PromiseId.{PromiseId}
+use Rattle.cfa_base.specs.lemmas.EqualTexts.{texts_apart}
 use Rattle.cfa_classes.specs.declared.levels.Status.{Status}
 use Rattle.cfa_outcomes.specs.declared.outcomes.Outcome.{Outcome}
 use Rattle.cfa_resolve.specs.declared.instances.Instance.{Instance}
@@ -17,7 +18,6 @@ use Rattle.cfa_walk.specs.Levels.{SpareIf}
 use Rattle.cfa_walk.specs.Numbered.{Numbered}
 use Rattle.cfa_walk.specs.Tellers.{worst_in, inner_path}
 use Rattle.cfa_walk.specs.Views.{Setting}
-use Rattle.cfa_walk.proofs.SharedLemmas.{apart}
 use Rattle.cfa_walk.proofs.WaitLemmas.{IsIdle, waits_idle, waits_elsewhere, waits_begun}
 use Rattle.cfa_walk.proofs.LocalLemmas.{other_begun, other_set, local_same}
 
@@ -68,7 +68,7 @@ module _ (s : Setting) (a : Activation) (h : History) where
 
 -- a longer path is another
 pub longer_is_other : (at path : List ℕ) → length path < length at → bytes_eq at path ≡ false
-longer_is_other at path longer = apart at path (λ same. let e = ap length same in absurd (omega arith))
+longer_is_other at path longer = texts_apart at path (λ same. let e = ap length same in absurd (omega arith))
 
 pub spare_none : (bound : ℕ) (h : History) → SpareShorter bound h h
 spare_none bound h =

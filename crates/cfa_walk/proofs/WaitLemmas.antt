@@ -22,8 +22,7 @@ use Rattle.std.specs.FinMap as finite
 use Rattle.std.specs.Cmp.Lexicographic.{nat_list_cmp_total}
 use Rattle.std.proofs.lemmas.Map.Text.{is_eq-slice_cmp}
 use Rattle.cfa_base.specs.lemmas.TextMaps.{get-put}
-use Rattle.cfa_walk.proofs.SharedLemmas.{same_name}
-use Rattle.cfa_walk.specs.lemmas.Names.{same_bytes}
+use Rattle.cfa_base.specs.lemmas.EqualTexts.{same_text, texts_turned}
 
 -- ---- promises that are reached
 
@@ -45,7 +44,7 @@ module _ (s : Setting) (home : Home) (p : Numbered) (sets : Bool) (visits : ℕ)
   waits_elsewhere guard differ = waits_skip guard (ap (λ (b : Bool). is_acting p.type && b) differ ∙ and-false (is_acting p.type))
 
 here : {acting : Bool} (path : List ℕ) → acting ≡ true → (acting && bytes_eq path path) ≡ true
-here path is = ap (λ (b : Bool). b && bytes_eq path path) is ∙ same_name path
+here path is = ap (λ (b : Bool). b && bytes_eq path path) is ∙ same_text path
 
 -- its instances are visited next
 pub waits_here : (s : Setting) (home : Home) (p : Numbered) (sets : Bool) (visits : ℕ) (h : History) (guard : Status) → (guard ≡ No → ⊥) → is_acting p.type ≡ true →
@@ -81,7 +80,7 @@ module _ (m : TextMap Wait) (old : Option (TextMap Wait)) (same : (path : List �
   wait_removed none removed =
       ap (λ (x : TextMap Wait). finite.get x other) removed
       ∙ (finite.get-remove nat_list_cmp_total m key other
-      ∙ (ap (λ (b : Bool). cond b None (finite.get m other)) (is_eq-slice_cmp other key ∙ same_bytes other key)
+      ∙ (ap (λ (b : Bool). cond b None (finite.get m other)) (is_eq-slice_cmp other key ∙ texts_turned other key)
       ∙ (ap (λ (k : List ℕ). cond (bytes_eq k other) None (finite.get m other)) is
       ∙ (ap (λ (o : Option Wait). cond (bytes_eq path other) None o) (same other)
       ∙ ap (λ (o : Option Wait). cond (bytes_eq path other) o (wait_at old other)) (sym none)))))

@@ -10,8 +10,8 @@ use Rattle.std.proofs.lemmas.List.{get_or-take, length-take-le}
 use Rattle.cfa_base.specs.declared.tokens.Kind.{Kind}
 use Rattle.cfa_base.specs.declared.tokens.Kind.TheVariants.{Word, Text, Ref, ListRef, FatArrow, ThinArrow, DoubleColon, Colon, Comma, Semicolon, OpenBrace, CloseBrace, OpenParen, CloseParen, Bang, Dot, And, Or}
 use Rattle.cfa_base.specs.Lexing.{is_word_byte, is_quote, is_quoted, closes, name_of, is_reference, spells}
-use Rattle.cfa_base.specs.lemmas.Spelled.{same_bytes}
 use Rattle.cfa_base.specs.lemmas.Taking.{reference_of, Brackets, parentheses, braces}
+use Rattle.cfa_base.specs.lemmas.EqualTexts.{is_text}
 
 -- the last byte is ASCII
 abbrev pub ends_ascii : List ℕ → Bool
@@ -72,7 +72,7 @@ reference_ends sign text reference =
     subst (λ (x : List ℕ). IsTrue (ends_ascii x)) (sym parts.is) (pushed_ends (sign ∷ parts.opening ∷ name_of text) parts.closing (bracket_is_ascii parts.brackets))
 
 symbol_ends : (text spelling : List ℕ) → IsTrue (ends_ascii spelling) → IsTrue (bytes_eq text spelling) → IsTrue (ends_ascii text)
-symbol_ends text spelling ends same = subst (λ (x : List ℕ). IsTrue (ends_ascii x)) (sym (same_bytes text spelling same)) ends
+symbol_ends text spelling ends same = subst (λ (x : List ℕ). IsTrue (ends_ascii x)) (sym (is_text text spelling same)) ends
 
 pub spelled_ends : (kind : Kind) (text : List ℕ) → IsTrue (spells kind text) → IsTrue (ends_ascii text)
 spelled_ends Word [] spelled = absurd (false≢true spelled)

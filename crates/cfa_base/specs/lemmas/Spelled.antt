@@ -2,19 +2,16 @@
 use Rattle.std.proofs.Common.{◌≡◌, ℕ, true, false, ◌||◌, List, [], ◌∷◌, ◌++◌, refl, ap, sym, ◌∙◌, subst, ⊎_elim}
 use Rattle.std.specs.Prelude.{IsTrue, ◌==◌}
 use Rattle.std.specs.Str.{bytes_eq}
-use Rattle.std.specs.Cmp.Lexicographic.{same_text}
 use Rattle.std.proofs.lemmas.Bool.{false≢true, eqb-true, and_parts, or_cases, cond-true}
 use Rattle.cfa_base.specs.declared.tokens.Kind.{Kind}
 use Rattle.cfa_base.specs.declared.tokens.Kind.TheVariants.{Word, Text, Ref, ListRef, FatArrow, ThinArrow, DoubleColon, Colon, Comma, Semicolon, OpenBrace, CloseBrace, OpenParen, CloseParen, Bang, Dot, And, Or}
 use Rattle.cfa_base.specs.Lexing.{is_word_byte, is_quote, is_name, name_of, is_reference, is_separator, is_hash, spells}
 use Rattle.cfa_base.specs.Scanned.{kind_at}
-
-pub same_bytes : (xs ys : List ℕ) → IsTrue (bytes_eq xs ys) → xs ≡ ys
-same_bytes xs ys same = same_text xs ys (sym same)
+use Rattle.cfa_base.specs.lemmas.EqualTexts.{is_text}
 
 -- a text that is one of the table's texts
 at_bytes : (kind : Kind) (text spelling : List ℕ) → kind_at spelling ≡ kind → IsTrue (bytes_eq text spelling) → kind_at text ≡ kind
-at_bytes kind text spelling there same = ap kind_at (same_bytes text spelling same) ∙ there
+at_bytes kind text spelling there same = ap kind_at (is_text text spelling same) ∙ there
 
 pub quote_is : (b : ℕ) (bs : List ℕ) → IsTrue (is_quote b) → kind_at (b ∷ bs) ≡ Text
 quote_is b bs h =
@@ -28,8 +25,8 @@ reference_is : (kind : Kind) (sign : ℕ) (text : List ℕ) →
 reference_is kind sign text there h =
     let parts = and_parts (is_name (name_of text)) (bytes_eq text (sign ∷ 40 ∷ name_of text ++ 41 ∷ []) || bytes_eq text (sign ∷ 123 ∷ name_of text ++ 125 ∷ [])) h in
     ⊎_elim
-    (λ same. ap kind_at (same_bytes text _ same) ∙ there (40 ∷ name_of text ++ 41 ∷ []))
-    (λ same. ap kind_at (same_bytes text _ same) ∙ there (123 ∷ name_of text ++ 125 ∷ []))
+    (λ same. ap kind_at (is_text text _ same) ∙ there (40 ∷ name_of text ++ 41 ∷ []))
+    (λ same. ap kind_at (is_text text _ same) ∙ there (123 ∷ name_of text ++ 125 ∷ []))
     (or_cases (bytes_eq text (sign ∷ 40 ∷ name_of text ++ 41 ∷ [])) (bytes_eq text (sign ∷ 123 ∷ name_of text ++ 125 ∷ [])) parts.1)
 
 pub kind_is : (kind : Kind) (text : List ℕ) → IsTrue (spells kind text) → kind_at text ≡ kind

@@ -11,8 +11,9 @@ use Rattle.cfa_base.specs.declared.tokens.Kind.{Kind}
 use Rattle.cfa_base.specs.declared.tokens.Kind.TheVariants.{Word, Text, Ref, ListRef, FatArrow, ThinArrow, DoubleColon, Colon, Comma, Semicolon, OpenBrace, CloseBrace, OpenParen, CloseParen, Bang, Dot, And, Or}
 use Rattle.cfa_base.specs.Lexing.{is_word_byte, is_word, is_dot, is_nothing, is_quote, is_quoted, closes, is_name, name_of, is_reference, spells, Takes}
 use Rattle.cfa_base.specs.Scanned.{kind_from}
-use Rattle.cfa_base.specs.lemmas.Spelled.{spelled_at, same_bytes, quote_is}
+use Rattle.cfa_base.specs.lemmas.Spelled.{spelled_at, quote_is}
 use Rattle.cfa_base.specs.lemmas.Scanning.{front_first}
+use Rattle.cfa_base.specs.lemmas.EqualTexts.{is_text}
 
 -- a front that spells a token has the first byte of the bytes, and the kind that this byte gives
 pub fronted : (kind : Kind) (front after : List ℕ) (b : ℕ) (bs : List ℕ) → front ++ after ≡ b ∷ bs → IsTrue (spells kind front) →
@@ -38,7 +39,7 @@ takes_by kind b bs rest spelled none_longer = record {
 
 -- what is one of the table's texts is no longer than it
 within_bytes : (b : ℕ) (bs tail : List ℕ) → IsTrue (bytes_eq (b ∷ tail) (b ∷ bs)) → length tail ≤ length bs
-within_bytes b bs tail same = omega (arith, ap length (same_bytes (b ∷ tail) (b ∷ bs) same))
+within_bytes b bs tail same = omega (arith, ap length (is_text (b ∷ tail) (b ∷ bs) same))
 
 pub takes_fat_arrow : (rest : List ℕ) → Takes (61 ∷ 62 ∷ rest) FatArrow (61 ∷ 62 ∷ []) rest
 takes_fat_arrow rest = takes_by FatArrow 61 (62 ∷ []) rest refl (λ tail after cut spelled. within_bytes 61 (62 ∷ []) tail spelled)
@@ -80,20 +81,20 @@ begins_other b (x ∷ xs) = not (x == b)
 
 colons_within : (tail : List ℕ) → IsTrue (spells (kind_from 58 tail) (58 ∷ tail)) → (tail ≡ []) ⊎ (tail ≡ 58 ∷ [])
 colons_within [] spelled = inl refl
-colons_within (x ∷ xs) spelled = let same = same_bytes (58 ∷ x ∷ xs) (58 ∷ 58 ∷ []) spelled in inr (cc)
+colons_within (x ∷ xs) spelled = let same = is_text (58 ∷ x ∷ xs) (58 ∷ 58 ∷ []) spelled in inr (cc)
 
 bars_within : (tail : List ℕ) → IsTrue (spells (kind_from 124 tail) (124 ∷ tail)) → (tail ≡ []) ⊎ (tail ≡ 124 ∷ [])
 bars_within tail spelled =
     ⊎_elim
-    (λ one. let same = same_bytes (124 ∷ tail) (124 ∷ []) one in inl (cc))
-    (λ two. let same = same_bytes (124 ∷ tail) (124 ∷ 124 ∷ []) two in inr (cc))
+    (λ one. let same = is_text (124 ∷ tail) (124 ∷ []) one in inl (cc))
+    (λ two. let same = is_text (124 ∷ tail) (124 ∷ 124 ∷ []) two in inr (cc))
     (or_cases (bytes_eq (124 ∷ tail) (124 ∷ [])) (bytes_eq (124 ∷ tail) (124 ∷ 124 ∷ [])) spelled)
 
 pub bar_first : (b : ℕ) (tail : List ℕ) → IsTrue (spells Or (b ∷ tail)) → b ≡ 124
 bar_first b tail spelled =
     ⊎_elim
-    (λ one. let same = same_bytes (b ∷ tail) (124 ∷ []) one in cc)
-    (λ two. let same = same_bytes (b ∷ tail) (124 ∷ 124 ∷ []) two in cc)
+    (λ one. let same = is_text (b ∷ tail) (124 ∷ []) one in cc)
+    (λ two. let same = is_text (b ∷ tail) (124 ∷ 124 ∷ []) two in cc)
     (or_cases (bytes_eq (b ∷ tail) (124 ∷ [])) (bytes_eq (b ∷ tail) (124 ∷ 124 ∷ [])) spelled)
 
 -- a tail that is empty or the one byte, where the byte doesn't follow, is empty
@@ -254,8 +255,8 @@ pub reference_of : (sign : ℕ) (text : List ℕ) → IsTrue (is_reference sign 
 reference_of sign text h =
     let parts = and_parts (is_name (name_of text)) (bytes_eq text (sign ∷ 40 ∷ name_of text ++ 41 ∷ []) || bytes_eq text (sign ∷ 123 ∷ name_of text ++ 125 ∷ [])) h in
     ⊎_elim
-    (λ same. record { opening = 40; closing = 41; brackets = parentheses; is = same_bytes text _ same; named = parts.0 })
-    (λ same. record { opening = 123; closing = 125; brackets = braces; is = same_bytes text _ same; named = parts.0 })
+    (λ same. record { opening = 40; closing = 41; brackets = parentheses; is = is_text text _ same; named = parts.0 })
+    (λ same. record { opening = 123; closing = 125; brackets = braces; is = is_text text _ same; named = parts.0 })
     (or_cases (bytes_eq text (sign ∷ 40 ∷ name_of text ++ 41 ∷ [])) (bytes_eq text (sign ∷ 123 ∷ name_of text ++ 125 ∷ [])) parts.1)
 
 pub closing_is_no_name : {opening closing : ℕ} → Brackets opening closing → is_name_byte closing ≡ false

@@ -1,10 +1,8 @@
 -- A text is cut at a byte in one way.
-use Rattle.std.proofs.Common.{◌≡◌, ◌≢◌, ℕ, List, [], ◌∷◌, ◌++◌, true, false, not, ◌==◌, refl}
+use Rattle.std.proofs.Common.{◌≡◌, ◌≢◌, ℕ, List, [], ◌∷◌, ◌++◌, true, not, ◌==◌, refl}
 use Rattle.std.proofs.lemmas.List.Elements.{All-nil, All-head, All-tail, All-append, All-cons}
-use Rattle.std.proofs.lemmas.Bool.{and_parts, eqb-false, not-true, both_ways}
-use Rattle.std.proofs.lemmas.Slice.Eq.{bytes_eq-Decides}
+use Rattle.std.proofs.lemmas.Bool.{and_parts, eqb-false, not-true}
 use Rattle.std.specs.List.{list_all}
-use Rattle.std.specs.Str.{bytes_eq}
 use Rattle.cfa_rows.specs.Cuts.{Lacks}
 
 pub one_cut : (byte : ℕ) (front rest front' rest' : List ℕ) → Lacks byte front → Lacks byte front' → front ++ byte ∷ rest ≡ front' ++ byte ∷ rest' → (front ≡ front') × (rest ≡ rest')
@@ -34,10 +32,6 @@ Lacks-append byte text more = All-append (λ b. b ≢ byte) text more
 
 pub Lacks-cons : (byte b : ℕ) (text : List ℕ) → b ≢ byte → Lacks byte text → Lacks byte (b ∷ text)
 Lacks-cons byte b text = All-cons (λ b. b ≢ byte) b text
-
--- two texts that a test tells apart
-pub texts_differ : (text other : List ℕ) → bytes_eq text other ≡ false → text ≡ other → ⊥
-texts_differ text other differ same = both_ways (bytes_eq text other) differ ((bytes_eq-Decides text other).1 same)
 
 -- a text that lacks the byte isn't cut by it
 pub no_cut : (byte : ℕ) (text front rest : List ℕ) → Lacks byte text → text ≡ front ++ byte ∷ rest → ⊥
