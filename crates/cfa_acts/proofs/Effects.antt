@@ -1,6 +1,6 @@
 -- What stands at a path after a change.
 use Rattle.std.proofs.Common.{◌≡◌, ℕ, ◌+◌, List, [], ◌∷◌, ◌++◌, length, take, Bool, true, false, cond, ◌||◌, eqb, Option, Some, None, is_some, refl, sym, ap, ◌∙◌, append_assoc, length-append}
-use Rattle.std.proofs.lemmas.Bool.{false≢true, and_parts, eqb-true}
+use Rattle.std.proofs.lemmas.Bool.{false≢true, and_parts, eqb-true, or_parts}
 use Rattle.std.specs.Cmp.Lexicographic.{nat_list_cmp_total}
 use Rattle.std.specs.List.{list_all, list_any}
 use Rattle.std.specs.Str.{bytes_eq}
@@ -16,10 +16,6 @@ use Rattle.cfa_outside.specs.declared.sites.Change.TheVariants.{PutFile, PutDir,
 use Rattle.cfa_outside.specs.Worlds.{NodeMap, HasParents, is_directory, above, above_from, is_below, new_directory, with_dir, with_dirs, file_with, put_file, put_directory, with_perms, set_perms, set_perms_of}
 use Rattle.cfa_outside.specs.Sites.{after_change}
 use Rattle.cfa_acts.specs.Disturbs.{is_at_or_beneath}
-
-pub or_false : (a b : Bool) → (a || b) ≡ false → (a ≡ false) × (b ≡ false)
-or_false true b e = absurd (false≢true (sym e))
-or_false false b e = (refl, e)
 
 get-without : {X : Type 0} (m : TextMap X) (k q : List ℕ) → map.get (map.remove m k) q ≡ cond (bytes_eq k q) None (map.get m q)
 get-without m k q = map.get-remove nat_list_cmp_total m k q ∙ ap (λ b. cond b None (map.get m q)) (ties_alike k q)
@@ -55,7 +51,7 @@ clear_once m d q other none = elim (is_some (map.get m d)) as (λ b. map.get (co
 clear : (ds : List (List ℕ)) (m : NodeMap) (q : List ℕ) → list_any (λ d. bytes_eq d q) ds ≡ false → map.get m q ≡ None → map.get (with_dirs ds m) q ≡ None
 clear [] m q others none = none
 clear (d ∷ ds) m q others none =
-    let parts = or_false (bytes_eq d q) (list_any (λ d. bytes_eq d q) ds) others in
+    let parts = or_parts (bytes_eq d q) (list_any (λ d. bytes_eq d q) ds) others in
     clear ds (with_dir d m) q parts.1 (clear_once m d q parts.0 none)
 
 -- a path beneath which another isn't is none of the directories above that one
@@ -136,7 +132,7 @@ may_make _ r = false
 
 put_clear : (m : NodeMap) (q r : List ℕ) (made : Node) → map.get m r ≡ None → is_at_or_beneath r q ≡ false → map.get (map.insert (with_dirs (above q) m) q made) r ≡ None
 put_clear m q r made none out =
-    let parts = or_false (bytes_eq r q) (is_below r q) out in
+    let parts = or_parts (bytes_eq r q) (is_below r q) out in
     get-put (with_dirs (above q) m) q made r
     ∙ elim (bytes_eq q r) as (λ b. bytes_eq q r ≡ b → cond b (Some made) (map.get (with_dirs (above q) m) r) ≡ None) [
       | true ↦ λ e. absurd (false≢true (sym parts.0 ∙ ap (λ (p : List ℕ). bytes_eq r p) (is_text q r e) ∙ same_text r))

@@ -1,6 +1,6 @@
 -- A needed change keeps the post of each act that its act doesn't disturb.
 use Rattle.std.proofs.Common.{◌≡◌, ℕ, List, [], Bool, true, false, cond, ◌||◌, ◌&&◌, not, Option, Some, None, is_some, IsTrue, refl, sym, ap, subst, ◌∙◌}
-use Rattle.std.proofs.lemmas.Bool.{false≢true, and_parts, not-false}
+use Rattle.std.proofs.lemmas.Bool.{false≢true, and_parts, not-false, or_parts, or_left, or_right}
 use Rattle.std.specs.Str.{bytes_eq}
 use Rattle.std.specs.FinMap as map
 use Rattle.cfa_base.specs.lemmas.EqualTexts.{same_text, is_text}
@@ -24,7 +24,7 @@ use Rattle.cfa_acts.specs.Disturbs.{modes_differ, lists_differ, disturbs}
 use Rattle.cfa_acts.specs.Settling.{is_settled, keeps_content}
 use Rattle.cfa_acts.specs.Laws.{HasScript, NeededKeepsPost}
 use Rattle.cfa_acts.proofs.Needs.{unmet, create_needs, make_dir_needs, delete_needs, content_needs, copy_needs, takes_no_directory, edit_needs, perms_needs, start_needs, stop_needs, enable_needs, disable_needs, restart_needs, bust_needs, RowNeeds}
-use Rattle.cfa_acts.proofs.Effects.{or_false, apart, left, leaves, may_make, stays_clear, put_over}
+use Rattle.cfa_acts.proofs.Effects.{apart, left, leaves, may_make, stays_clear, put_over}
 use Rattle.cfa_acts.proofs.Posts.{at, made_file, made_bytes, made_perms, set_file, set_directory, set_bytes, set_perms_in, copied, copies_as, kept_perms, row_put, set_settled}
 use Rattle.cfa_acts.proofs.Settled.{settled_content}
 
@@ -149,7 +149,7 @@ lasts_content : (r bytes : List ℕ) (later : Act) (world : World) (change : Cha
 unfolding disturbs post
 lasts_content r bytes later world change holds e quiet =
     lasts_bytes r bytes later world change holds e
-    (λ dirs is. clash r (or_false (bytes_eq r r) false (known (act.Content r bytes) later (act.Delete r dirs) is quiet)).0)
+    (λ dirs is. clash r (or_parts (bytes_eq r r) false (known (act.Content r bytes) later (act.Delete r dirs) is quiet)).0)
     (λ v is. is_text bytes v (not_both (bytes_eq r r) (bytes_eq bytes v) (known (act.Content r bytes) later (act.Content r v) is quiet) (same_text r)))
     (λ t is. met later world change e (act.Edit r t) is
     (settled_content t bytes (map.get world.nodes r) (not_both (bytes_eq r r) (keeps_content t bytes) (known (act.Content r bytes) later (act.Edit r t) is quiet) (same_text r)) holds))
@@ -162,7 +162,7 @@ lasts_edit r script later world change tell are later_are holds e quiet =
     let found = at (is_settled script) (map.get world.nodes r) refl holds in
     meets later change world r found.node found.is e (record {
       stays = λ out. ap (is_settled script) out ∙ found.holds;
-      deleted = λ dirs is. absurd (clash r (or_false (bytes_eq r r) false (known (act.Edit r script) later (act.Delete r dirs) is quiet)).0);
+      deleted = λ dirs is. absurd (clash r (or_parts (bytes_eq r r) false (known (act.Edit r script) later (act.Delete r dirs) is quiet)).0);
       content = λ v is no_directory out.
           ap (is_settled script) out
           ∙ settled_content script v (Some (file_with v (Some found.node))) (not_both (bytes_eq r r) (keeps_content script v) (known (act.Edit r script) later (act.Content r v) is quiet) (same_text r)) (made_bytes v (Some found.node));
@@ -173,14 +173,6 @@ lasts_edit r script later world change tell are later_are holds e quiet =
       copy = λ s v is no_directory out. absurd (clash r (known (act.Edit r script) later (act.Copy s r) is quiet));
       perms = λ mode owners groups present is there out. ap (is_settled script) out ∙ set_settled script (asked_perms mode owners groups present) found.node ∙ found.holds;
     })
-
-or_one : (a b : Bool) → a ≡ true → (a || b) ≡ true
-or_one true b e = refl
-or_one false b e = absurd (false≢true e)
-
-or_other : (a b : Bool) → b ≡ true → (a || b) ≡ true
-or_other true b e = refl
-or_other false b e = e
 
 -- a copy isn't needed where the same copy holds
 no_same_copy : (source path s r : List ℕ) (later : Act) (world : World) (change : Change) → IsTrue (post (act.Copy source path) world) → decision later world ≡ Needs change → later ≡ act.Copy s r → (bytes_eq source s && bytes_eq path r) ≡ true → ⊥
@@ -205,9 +197,9 @@ lasts_copy : (source path : List ℕ) (later : Act) (world : World) (change : Ch
 lasts_copy source path later world change holds is e quiet =
     let found = copied (map.get world.nodes source) (map.get world.nodes path) is in
     copies_as found.bytes (node_after change world source) (node_after change world path)
-    (copy_bytes source path source later world change holds e quiet (or_one (bytes_eq source source) (bytes_eq path source) (same_text source)) found.bytes found.source_has)
+    (copy_bytes source path source later world change holds e quiet (or_left (bytes_eq source source) (bytes_eq path source) (same_text source)) found.bytes found.source_has)
     found.short
-    (copy_bytes source path path later world change holds e quiet (or_other (bytes_eq source path) (bytes_eq path path) (same_text path)) found.bytes found.copy_has)
+    (copy_bytes source path path later world change holds e quiet (or_right (bytes_eq source path) (bytes_eq path path) (same_text path)) found.bytes found.copy_has)
 
 and_rest : (a b : Bool) → a ≡ true → (a && b) ≡ false → b ≡ false
 and_rest true b e is = is
@@ -219,7 +211,7 @@ lasts_perms r mode owners groups later world change holds e quiet =
     let found = at (λ o. has_perms mode owners groups (perms_in o)) (map.get world.nodes r) refl holds in
     meets later change world r found.node found.is e (record {
       stays = λ out. ap (λ (o : Option Node). has_perms mode owners groups (perms_in o)) out ∙ found.holds;
-      deleted = λ dirs is. absurd (clash r (or_false (bytes_eq r r) false (known (act.Perms r mode owners groups) later (act.Delete r dirs) is quiet)).0);
+      deleted = λ dirs is. absurd (clash r (or_parts (bytes_eq r r) false (known (act.Perms r mode owners groups) later (act.Delete r dirs) is quiet)).0);
       content = λ v is no_directory out. ap (λ (o : Option Node). has_perms mode owners groups (perms_in o)) out ∙ ap (has_perms mode owners groups) (made_perms v found.node no_directory) ∙ found.holds;
       edit = λ t v is no_directory out. ap (λ (o : Option Node). has_perms mode owners groups (perms_in o)) out ∙ ap (has_perms mode owners groups) (made_perms v found.node no_directory) ∙ found.holds;
       copy = λ s v is no_directory out. ap (λ (o : Option Node). has_perms mode owners groups (perms_in o)) out ∙ ap (has_perms mode owners groups) (made_perms v found.node no_directory) ∙ found.holds;

@@ -1,6 +1,6 @@
 -- A needed change makes the post of its act.
 use Rattle.std.proofs.Common.{◌≡◌, ℕ, List, [], ◌∷◌, length, Bool, true, false, cond, ◌||◌, ◌&&◌, not, Option, Some, None, is_some, refl, sym, ap, subst, ◌∙◌, arith}
-use Rattle.std.proofs.lemmas.Bool.{false≢true, and_parts, and_from, eq-eqb, ne_eqb, not-false}
+use Rattle.std.proofs.lemmas.Bool.{false≢true, and_parts, and_from, eq-eqb, ne_eqb, not-false, or_parts, or_right, or_left}
 use Rattle.std.specs.Prelude.{nat_le, nat_eq, slice_get}
 use Rattle.std.specs.Cmp.Lexicographic.{pointwise}
 use Rattle.std.specs.Option.{unwrap_or}
@@ -25,15 +25,7 @@ use Rattle.cfa_acts.specs.Disturbs.{modes_differ, lists_differ}
 use Rattle.cfa_acts.specs.Settling.{is_short, leaves as leaves_lines, is_settled}
 use Rattle.cfa_acts.specs.Laws.{NeededMakesPost}
 use Rattle.cfa_acts.proofs.Needs.{create_needs, make_dir_needs, delete_needs, content_needs, copy_needs, edit_needs, perms_needs, start_needs, stop_needs, enable_needs, disable_needs, bust_needs, RowNeeds}
-use Rattle.cfa_acts.proofs.Effects.{or_false, leaves, put_there, directory_there, removed_there}
-
-or_right : (a b : Bool) → b ≡ true → (a || b) ≡ true
-or_right true b e = refl
-or_right false b e = e
-
-or_left : (a b : Bool) → a ≡ true → (a || b) ≡ true
-or_left true b e = refl
-or_left false b e = absurd (false≢true e)
+use Rattle.cfa_acts.proofs.Effects.{leaves, put_there, directory_there, removed_there}
 
 -- what stands at a path, where a test of it passes
 pub record At (T : Option Node → Bool) (here : Option Node) : Type 0 where
@@ -163,8 +155,8 @@ pub kept_perms : (mode other : Option ℕ) (owners groups os gs : List (List ℕ
 kept_perms mode other owners groups os gs present are fit =
     let a = and_parts (is_mode mode present.mode) (is_listed owners present.owner && is_listed groups present.group) are in
     let b = and_parts (is_listed owners present.owner) (is_listed groups present.group) a.1 in
-    let x = or_false (modes_differ mode other) (lists_differ owners os || lists_differ groups gs) fit in
-    let y = or_false (lists_differ owners os) (lists_differ groups gs) x.1 in
+    let x = or_parts (modes_differ mode other) (lists_differ owners os || lists_differ groups gs) fit in
+    let y = or_parts (lists_differ owners os) (lists_differ groups gs) x.1 in
     and_from (is_mode mode (unwrap_or other present.mode)) _ (kept_mode mode other present.mode a.0 x.0)
     (and_from (is_listed owners (listed_or_first os present.owner)) _ (kept_name owners os present.owner b.0 y.0) (kept_name groups gs present.group b.1 y.1))
 

@@ -2,7 +2,7 @@
 use Rattle.std.proofs.Common.{◌≡◌, ℕ, Bool, true, false, cond, List, [], ◌∷◌, ◌++◌, length, Option, Some, None, sym, ap, refl, ◌∙◌, ◌&&◌}
 use Rattle.std.specs.Option.{option_or}
 use Rattle.std.specs.Str.{bytes_eq}
-use Rattle.std.proofs.lemmas.Bool.{false≢true}
+use Rattle.std.proofs.lemmas.Bool.{false≢true, and_parts}
 use Rattle.std.proofs.lemmas.List.{length-map, map-append}
 use Rattle.std.specs.HashMap.{HashMap, UpdatesBy}
 use Rattle.std.proofs.lemmas.Map.Text.{hash_map_updates_str}
@@ -41,13 +41,9 @@ answers_push names name before after answers noted_it other =
     ∙ sym (place_push (bytes_eq other) (texts_of names) name.now (length names) (sym (length-map names _)))
     ∙ ap (λ xs. place_of xs other) (sym (map-append _ names (name ∷ [])))
 
-both_true : (b c : Bool) → (b && c) ≡ true → (b ≡ true) × (c ≡ true)
-both_true true c e = (refl, e)
-both_true false c e = (e, absurd (false≢true e))
-
 pair_is : (x y : Text × Text) → same_pair x y ≡ true → x ≡ y
 pair_is x y e =
-    let both = both_true (bytes_eq x.0 y.0) (bytes_eq x.1 y.1) e in
+    let both = and_parts (bytes_eq x.0 y.0) (bytes_eq x.1 y.1) e in
     ap (λ (first : Text). let pair : Text × Text = (first, x.1) in pair) (is_text x.0 y.0 both.0)
     ∙ ap (λ (second : Text). let pair : Text × Text = (y.0, second) in pair) (is_text x.1 y.1 both.1)
 

@@ -1,7 +1,7 @@
 use Rattle.std.proofs.Common.{◌≡◌, ℕ, ◌+◌, ◌<◌, ◌≤◌, Bool, true, false, not, length, get_or, take, List, [], ◌∷◌, ◌++◌, Option, Some, None, IfSome, IfNone, IsTrue, sym, ap, subst, refl, ◌∙◌, ◌↔◌, arith, ⊎_elim}
 use Rattle.std.specs.List.{Contains}
 use Rattle.std.proofs.lemmas.List.Elements.{Contains-push_cases, Contains-push, Contains-append_left}
-use Rattle.std.proofs.lemmas.Bool.{false≢true}
+use Rattle.std.proofs.lemmas.Bool.{false≢true, not-true}
 use Rattle.std.proofs.lemmas.Bool.Decides.{nat_tests}
 use Rattle.cfa_base.specs.declared.places.Place.{Place}
 use Rattle.std.proofs.lemmas.List.{take_more, take_all, map_push}
@@ -9,10 +9,6 @@ use Rattle.cfa_calls.specs.declared.cycles.Call.{Call as CodeCall}
 use Rattle.cfa_base.specs.Order.{is_before, not_after}
 use Rattle.cfa_calls.specs.Cycles.{Call, OnCycle, IsFirstOnCycle, NoneOnCycle, seen_call, seen_calls}
 use Rattle.cfa_calls.specs.Numbering.{FirstSoFar, may_be_first}
-
-not_true_is : (b : Bool) → not b ≡ true → b ≡ false
-not_true_is true e = absurd (false≢true e)
-not_true_is false e = refl
 
 -- what is not before the later of two places is not before the sooner
 sooner_still : (p q r : Place) → is_before p q ≡ true → is_before r q ≡ false → is_before r p ≡ false
@@ -48,7 +44,7 @@ first_apart Passes calls call (Some place) so_far fails = (
 )
 
 not_before : (place other : Place) → IsTrue (not_after place other) → is_before other place ≡ false
-not_before place other h = not_true_is (is_before other place) h
+not_before place other h = not-true (is_before other place) h
 
 pub first_takes : (Passes : Call → Type 0) (calls : List Call) (call : Call) → (first : Option Place) → FirstSoFar Passes calls first → may_be_first call.place first ≡ true
     → Passes call → FirstSoFar Passes (calls ++ call ∷ []) (Some call.place)

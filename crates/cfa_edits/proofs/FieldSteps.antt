@@ -2,7 +2,7 @@
 use Rattle.std.proofs.Common.{◌≡◌, ℕ, ◌+◌, ◌-◌, ◌<◌, ◌≤◌, true, false, List, [], ◌∷◌, ◌++◌, length, map, Some, None, refl, sym, ap, ◌∙◌, arith, ⊎_elim, zero, suc}
 use Rattle.std.specs.Prelude.{◌==◌, if◌then◌else◌, slice_set, encode_utf8, encode_utf8_all}
 use Rattle.std.specs.List.{slice_split, onto_first, flat_map}
-use Rattle.std.proofs.lemmas.Bool.{cases_Bool, cond-true, cond-false}
+use Rattle.std.proofs.lemmas.Bool.{cases_Bool, cond-true, cond-false, lt-ltb, le-ltb}
 use Rattle.std.proofs.lemmas.Bool.Decides.{nat_tests}
 use Rattle.std.proofs.lemmas.List.{append_assoc, length-map}
 use Rattle.std.specs.List.{count_by}
@@ -182,20 +182,14 @@ fields_count : (separator : ℕ) (line : List ℕ) → length (fields_of separat
 fields_count separator line =
     length-map (parts_of separator (chars line)) encode_utf8_all ∙ length-slice_split (λ c. c == separator) (chars line)
 
-below_test : (m n : ℕ) → m < n → nat_lt m n ≡ true
-below_test m n lt = grind (arith, nat_tests)
-
-above_test : (m n : ℕ) → n ≤ m → nat_lt m n ≡ false
-above_test m n le = grind (arith, nat_tests)
-
 pub with_few : (separator number : ℕ) (value line : List ℕ) → count_by (λ c. c == separator) (chars line) < number - 1 → with_field separator number value line ≡ None
 unfolding with_field
 with_few separator number value line few =
-    cond-true (nat_lt (length (fields_of separator line)) number) None _ (below_test (length (fields_of separator line)) number (omega (arith, fields_count separator line)))
+    cond-true (nat_lt (length (fields_of separator line)) number) None _ (lt-ltb (length (fields_of separator line)) number (omega (arith, fields_count separator line)))
 
 pub with_enough : (separator number : ℕ) (value line : List ℕ) → number - 1 ≤ count_by (λ c. c == separator) (chars line) → 1 ≤ number
     → with_field separator number value line ≡ Some ((if number == 1 then value else []) ++ written_from separator number value 1 (chars line))
 unfolding with_field
 with_enough separator number value line enough some =
-    cond-false (nat_lt (length (fields_of separator line)) number) None _ (above_test (length (fields_of separator line)) number (omega (arith, fields_count separator line)))
+    cond-false (nat_lt (length (fields_of separator line)) number) None _ (le-ltb (length (fields_of separator line)) number (omega (arith, fields_count separator line)))
     ∙ ap Some (sym (written_is separator number value (chars line) (number - 1) (omega arith)))

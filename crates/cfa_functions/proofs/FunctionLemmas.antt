@@ -1,12 +1,12 @@
 -- What functions make of their arguments, step by step.
-use Rattle.std.proofs.Common.{◌≡◌, ◌<◌, ◌≤◌, ◌+◌, ◌^◌, ℕ, zero, suc, Bool, true, false, cond, ◌&&◌, ltb, ⊎_elim, List, [], ◌∷◌, ◌++◌, length, take, get_or, eqb, Some, None, Ok, Err, refl, ap, sym, ◌∙◌, arith, rules, add-one}
+use Rattle.std.proofs.Common.{◌≡◌, ◌<◌, ◌≤◌, ◌+◌, ◌^◌, ℕ, zero, suc, true, false, cond, ◌&&◌, ltb, ⊎_elim, List, [], ◌∷◌, ◌++◌, length, take, get_or, eqb, Some, None, Ok, Err, ap, sym, ◌∙◌, arith, rules, add-one}
 use Rattle.std.specs.List.{flat_map, slice_get}
 use Rattle.std.specs.Option.{option_and_then}
 use Rattle.std.specs.Str.{all_ascii_digits}
 use Rattle.std.specs.Str.Parse.{ParsesUnsigned, digits_value}
 use Rattle.std.proofs.lemmas.Str.Parse.{IsNumeralModel, numerals_by_value, parse_digits}
 use Rattle.std.proofs.lemmas.Option.{slice_get_past}
-use Rattle.std.proofs.lemmas.Bool.{false≢true, cases_lt}
+use Rattle.std.proofs.lemmas.Bool.{cases_lt, and_parts}
 use Rattle.std.proofs.lemmas.Bool.Decides.{nat_tests}
 use borrow.Author.Tests.{ltb-true}
 use Rattle.std.proofs.lemmas.List.{append_assoc, append-nil, take_more, flat_map_more}
@@ -41,15 +41,11 @@ joined_step glue items (suc j) item before whole h is b w = ap (λ t. (t ++ befo
 digits_are : IsNumeralModel (λ ds. all_ascii_digits ds ≡ true) (digits_value 10)
 digits_are = numerals_by_value _ (search rules)
 
-and_true : (s t : Bool) → (s && t) ≡ true → (s ≡ true) × (t ≡ true)
-and_true true t h = (refl, h)
-and_true false t h = absurd (false≢true h)
-
 -- a number is digits, at least one
 is_digits : (text : List ℕ) → is_decimal text ≡ true → (0 < length text) × (all_ascii_digits text ≡ true)
 is_digits text h =
-    let whole = and_true (ltb 0 (length text) && all_ascii_digits text) _ h in
-    let parts = and_true (ltb 0 (length text)) (all_ascii_digits text) whole.0 in
+    let whole = and_parts (ltb 0 (length text) && all_ascii_digits text) _ h in
+    let parts = and_parts (ltb 0 (length text)) (all_ascii_digits text) whole.0 in
     (ltb-true _ _ parts.0, parts.1)
 
 item_of_number : (items : List (List ℕ)) (text : List ℕ) → is_decimal text ≡ true → item_at items text ≡ slice_get items (digits_value 10 text)

@@ -1,6 +1,6 @@
 -- A change that fits leaves each node in directories up to the root.
 use Rattle.std.proofs.Common.{◌≡◌, ℕ, zero, suc, ◌+◌, ◌<◌, ◌≤◌, ◌⊎◌, inl, inr, ⊎_elim, Bool, true, false, cond, ◌||◌, ◌&&◌, not, eqb, eqb-true, List, [], ◌∷◌, ◌++◌, length, get_or, take, drop, Option, Some, None, is_some, Result, Ok, Err, OnOk, OnErr, refl, sym, ap, subst, ◌∙◌, arith}
-use Rattle.std.proofs.lemmas.Bool.{false≢true, cases_lt, eq-eqb}
+use Rattle.std.proofs.lemmas.Bool.{false≢true, cases_lt, eq-eqb, or_parts, and_parts, not-true}
 use Rattle.std.proofs.lemmas.List.{take_more, take-take, get_or-take, length-take-le}
 use Rattle.std.specs.Prelude.{nat_eq}
 use Rattle.std.specs.List.{list_all, list_any, starts_with}
@@ -30,11 +30,8 @@ all_in : (test : List ℕ → Bool) (ps : List (List ℕ)) → list_all test ps 
 unfolding In
 all_in test [] all p among = absurd among
 all_in test (q ∷ qs) all p among =
-    let parts = split (test q) (list_all test qs) all in
-    ⊎_elim (λ (same : p ≡ q). ap test same ∙ parts.0) (λ (later : In p qs). all_in test qs parts.1 p later) among where
-      split : (a b : Bool) → (a && b) ≡ true → (a ≡ true) × (b ≡ true)
-      split true b e = (refl, e)
-      split false b e = absurd (false≢true e)
+    let parts = and_parts (test q) (list_all test qs) all in
+    ⊎_elim (λ (same : p ≡ q). ap test same ∙ parts.0) (λ (later : In p qs). all_in test qs parts.1 p later) among
 
 in_all : (test : List ℕ → Bool) (ps : List (List ℕ)) → ((p : List ℕ) → In p ps → test p ≡ true) → list_all test ps ≡ true
 unfolding In
@@ -45,11 +42,8 @@ none_in : (test : List ℕ → Bool) (ps : List (List ℕ)) → list_any test ps
 unfolding In
 none_in test [] none p among = absurd among
 none_in test (q ∷ qs) none p among =
-    let parts = split (test q) (list_any test qs) none in
-    ⊎_elim (λ (same : p ≡ q). ap test same ∙ parts.0) (λ (later : In p qs). none_in test qs parts.1 p later) among where
-      split : (a b : Bool) → (a || b) ≡ false → (a ≡ false) × (b ≡ false)
-      split true b e = absurd (false≢true (sym e))
-      split false b e = (refl, e)
+    let parts = or_parts (test q) (list_any test qs) none in
+    ⊎_elim (λ (same : p ≡ q). ap test same ∙ parts.0) (λ (later : In p qs). none_in test qs parts.1 p later) among
 
 -- what stands before a slash of a path, other than its first byte
 record Cut (path p : List ℕ) (from : ℕ) : Type 0 where
@@ -418,14 +412,6 @@ none_made (d ∷ ds) m stand =
     let once : with_dir d m ≡ m = ap (λ b. cond b m (map.insert m d new_directory)) (directory_there (map.get m d) (stand d (inl refl))) in
     ap (with_dirs ds) once ∙ none_made ds m (λ p among. stand p (inr among))
 
-both_hold : (a b : Bool) → (a && b) ≡ true → (a ≡ true) × (b ≡ true)
-both_hold true b e = (refl, e)
-both_hold false b e = absurd (false≢true e)
-
-lacks_of : (b : Bool) → not b ≡ true → b ≡ false
-lacks_of true e = absurd (false≢true e)
-lacks_of false e = refl
-
 no_directory_absent : (o : Option Node) → is_some o ≡ false → is_directory o ≡ false
 no_directory_absent (Some n) lacks = absurd (false≢true (sym lacks))
 no_directory_absent None lacks = refl
@@ -433,10 +419,10 @@ no_directory_absent None lacks = refl
 -- a node is added where none stands, in directories
 pub add_keeps : (nodes : NodeMap) (path : List ℕ) (node : Node) → is_free nodes path ≡ true → HasParents nodes → HasParents (map.insert nodes path node)
 add_keeps nodes path node free parents =
-    let parts = both_hold (not (map.contains_key nodes path)) (is_in_directories nodes path) free in
+    let parts = and_parts (not (map.contains_key nodes path)) (is_in_directories nodes path) free in
     let stand = λ (p : List ℕ) (among : In p (above path)). all_in (λ d. is_directory (map.get nodes d)) (above path) parts.1 p among in
     subst (λ (m : NodeMap). HasParents (map.insert m path node)) (none_made (above path) nodes stand)
-    (put_keeps nodes path node (λ p among. directory_is_no_file (map.get nodes p) (stand p among)) (no_directory_absent (map.get nodes path) (lacks_of (map.contains_key nodes path) parts.0)) parents)
+    (put_keeps nodes path node (λ p among. directory_is_no_file (map.get nodes p) (stand p among)) (no_directory_absent (map.get nodes path) (not-true (map.contains_key nodes path) parts.0)) parents)
 
 -- what was put, or what was left, still has its parents
 pub kept_if : {X E : Type 0} (r : Result X E) (before after put : NodeMap) → OnOk r (after ≡ put) → OnErr r (after ≡ before) → HasParents put → HasParents before → HasParents after

@@ -1,6 +1,6 @@
 -- The path that a text names is its own path.
 use Rattle.std.proofs.Common.{◌≡◌, ◌≢◌, ℕ, suc, ◌-◌, eqb, Bool, true, false, cond, ◌&&◌, not, List, [], ◌∷◌, ◌++◌, length, get_or, filter, Some, None, refl, sym, ap, subst, ◌∙◌, arith}
-use Rattle.std.proofs.lemmas.Bool.{false≢true}
+use Rattle.std.proofs.lemmas.Bool.{false≢true, and_from, and_parts, not-true}
 use Rattle.std.proofs.lemmas.Bool.Decides.{nat_tests}
 use Rattle.std.specs.Prelude.{nat_le}
 use Rattle.std.specs.List.{list_all, slice_split, onto_first}
@@ -24,10 +24,6 @@ AllPlain (part ∷ parts) = Plain part × AllPlain parts
 -- a text with a first byte isn't empty
 has_bytes : (b : ℕ) (bs : List ℕ) → not (eqb (length (b ∷ bs)) 0) ≡ true
 has_bytes b bs = let some : length (b ∷ bs) ≡ suc (length bs) = refl in grind (arith, nat_tests)
-
-both : (a b : Bool) → a ≡ true → b ≡ true → (a && b) ≡ true
-both true b p q = q
-both false b p q = p
 
 -- a text without a slash before a text that begins with one
 split_plain : (part rest : List ℕ) (parts : List (List ℕ)) → Plain part → slice_split is_slash rest ≡ [] ∷ parts → slice_split is_slash (part ++ rest) ≡ part ∷ parts
@@ -116,7 +112,7 @@ rooted_joined ([] ∷ parts) plain some more = absurd (false≢true some.0)
 rooted_joined ((c ∷ cs) ∷ parts) plain some more =
     let last = last_byte 47 (c ∷ cs ++ joined parts) in
     let plain_end = through c cs (joined parts) plain.0.0 plain.0.1 (λ d other. ends_joined parts plain.1 some.1 d other) in
-    both (not (eqb (length (joined ((c ∷ cs) ∷ parts))) 0)) _ (has_bytes 47 (c ∷ cs ++ joined parts)) (ap not (last ∙ plain_end))
+    and_from (not (eqb (length (joined ((c ∷ cs) ∷ parts))) 0)) _ (has_bytes 47 (c ∷ cs ++ joined parts)) (ap not (last ∙ plain_end))
 
 onto_some : (b : ℕ) (parts : List (List ℕ)) → filter is_part (onto_first b parts) ≢ []
 onto_some b [] e = cc
@@ -134,20 +130,12 @@ some_component b (c ∷ cs) ends none =
       | false ↦ λ rest. onto_some b (slice_split is_slash (c ∷ cs)) rest
     ] none
 
-split : (a b : Bool) → (a && b) ≡ true → (a ≡ true) × (b ≡ true)
-split true b e = (refl, e)
-split false b e = absurd (false≢true e)
-
-false_of : (b : Bool) → not b ≡ true → b ≡ false
-false_of true e = absurd (false≢true e)
-false_of false e = refl
-
 rooted_has : (text : List ℕ) → is_rooted text ≡ true → components text ≢ []
 rooted_has [] rooted = absurd (false≢true rooted)
 rooted_has (b ∷ bs) rooted =
-    let whole = split (not (eqb (length (b ∷ bs)) 0)) (eqb b 47 && not (eqb (get_or (b ∷ bs) (length (b ∷ bs) - 1) 0) 47)) rooted in
-    let ends = split (eqb b 47) (not (eqb (get_or (b ∷ bs) (length (b ∷ bs) - 1) 0) 47)) whole.1 in
-    some_component b bs (sym (last_byte b bs) ∙ false_of (eqb (get_or (b ∷ bs) (length (b ∷ bs) - 1) 0) 47) ends.1)
+    let whole = and_parts (not (eqb (length (b ∷ bs)) 0)) (eqb b 47 && not (eqb (get_or (b ∷ bs) (length (b ∷ bs) - 1) 0) 47)) rooted in
+    let ends = and_parts (eqb b 47) (not (eqb (get_or (b ∷ bs) (length (b ∷ bs) - 1) 0) 47)) whole.1 in
+    some_component b bs (sym (last_byte b bs) ∙ not-true (eqb (get_or (b ∷ bs) (length (b ∷ bs) - 1) 0) 47) ends.1)
 
 rooted_again : (text : List ℕ) → is_rooted text ≡ true → is_rooted (joined (components text)) ≡ true
 rooted_again text rooted = rooted_joined (components text) (components_plain text) (filter_parts (slice_split is_slash text)) (rooted_has text rooted)
@@ -162,11 +150,11 @@ reads text = (is_rooted text && list_all is_component (components text)) && nat_
 
 reads_again : (text : List ℕ) → reads text ≡ true → reads (joined (components text)) ≡ true
 reads_again text is =
-    let whole = split (is_rooted text && list_all is_component (components text)) (nat_le (length (joined (components text))) 1024) is in
-    let parts = split (is_rooted text) (list_all is_component (components text)) whole.0 in
+    let whole = and_parts (is_rooted text && list_all is_component (components text)) (nat_le (length (joined (components text))) 1024) is in
+    let parts = and_parts (is_rooted text) (list_all is_component (components text)) whole.0 in
     let again = components_again text in
-    both (is_rooted (joined (components text)) && list_all is_component (components (joined (components text)))) _
-    (both (is_rooted (joined (components text))) _ (rooted_again text parts.0) (ap (list_all is_component) again ∙ parts.1))
+    and_from (is_rooted (joined (components text)) && list_all is_component (components (joined (components text)))) _
+    (and_from (is_rooted (joined (components text))) _ (rooted_again text parts.0) (ap (list_all is_component) again ∙ parts.1))
     (ap (λ (ps : List (List ℕ)). nat_le (length (joined ps)) 1024) again ∙ whole.1)
 
 pub path_again : (text path : List ℕ) → path_of text ≡ Some path → path_of path ≡ Some path

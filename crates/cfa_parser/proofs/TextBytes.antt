@@ -1,7 +1,7 @@
 -- What the spelling of a token means is UTF-8 where the spelling is.
 use Rattle.std.proofs.Common.{◌≡◌, ℕ, suc, ◌+◌, ◌-◌, ◌<◌, ◌≤◌, Bool, true, false, cond, if◌then◌else◌, ◌||◌, ◌&&◌, ◌==◌, IsTrue, List, [], ◌∷◌, ◌++◌, length, take, drop, get_or, refl, ap, ◌∙◌, sym, subst, append-nil, arith, ltb, length-append}
 use Rattle.std.specs.Str.{IsUtf8}
-use Rattle.std.proofs.lemmas.Bool.{ltb-true, ltb-false, le-ltb, false≢true}
+use Rattle.std.proofs.lemmas.Bool.{ltb-true, ltb-false, le-ltb, false≢true, and_parts}
 use Rattle.std.proofs.lemmas.Str.{IsUtf8-nil, IsUtf8-append, IsUtf8-between, IsCharBoundary-after_ascii, IsCharBoundary-before_ascii, encode_ascii, length-encode, len_utf8_bounds}
 use Rattle.cfa_base.specs.declared.tokens.Kind.TheVariants.{Text}
 use Rattle.cfa_base.specs.Lexing.{is_quote, closes, is_quoted, is_reference, is_escapable, unescaped, content_of, name_of}
@@ -67,10 +67,6 @@ high_utf8 true xs rest some h utf8 later =
     subst IsUtf8 (sym (behind_high xs rest some h)) (IsUtf8-append (92 ∷ []) (xs ++ unescaped false rest) (ascii_utf8 92 (omega arith)) (IsUtf8-append xs (unescaped false rest) utf8 later))
 high_utf8 false xs rest some h utf8 later = subst IsUtf8 (sym (unescaped_high xs rest h)) (IsUtf8-append xs (unescaped false rest) utf8 later)
 
-both_true : (a b : Bool) → (a && b) ≡ true → (a ≡ true) × (b ≡ true)
-both_true true b e = (refl, e)
-both_true false b e = absurd (false≢true e)
-
 char_utf8 : (behind low : Bool) (c : ℕ) (rest : List ℕ) → ltb c 128 ≡ low → scalar c ≡ true → ((behind : Bool) → IsUtf8 (unescaped behind rest)) → IsUtf8 (unescaped behind (encode c ++ rest))
 char_utf8 behind true c rest is s later =
     let below : c < 128 = ltb-true c 128 is in
@@ -83,7 +79,7 @@ encodes_utf8 : (cs : List ℕ) → scalars cs ≡ true → (behind : Bool) → I
 encodes_utf8 [] h false = IsUtf8-nil
 encodes_utf8 [] h true = ascii_utf8 92 (omega arith)
 encodes_utf8 (c ∷ cs) h behind =
-    let parts = both_true (scalar c) (scalars cs) h in
+    let parts = and_parts (scalar c) (scalars cs) h in
     char_utf8 behind (ltb c 128) c (encodes cs) refl parts.0 (encodes_utf8 cs parts.1)
 
 unescaped_utf8 : (bytes : List ℕ) → IsUtf8 bytes → IsUtf8 (unescaped false bytes)
@@ -117,9 +113,9 @@ quote_ascii b is = by_test (ltb b 128) refl
 
 quoted_utf8 : (text : List ℕ) → IsUtf8 text → IsTrue (is_quoted text) → IsUtf8 (take (length text - 2) (drop 1 text))
 quoted_utf8 [] utf8 quoted = absurd (false≢true quoted)
-quoted_utf8 (b ∷ []) utf8 quoted = absurd (false≢true (both_true (is_quote b) false quoted).1)
+quoted_utf8 (b ∷ []) utf8 quoted = absurd (false≢true (and_parts (is_quote b) false quoted).1)
 quoted_utf8 (b ∷ c ∷ bs) utf8 quoted =
-    inner_utf8 (b ∷ c ∷ bs) 0 utf8 (omega arith) (quote_ascii b (both_true (is_quote b) (closes b false (c ∷ bs)) quoted).0) (spelled_ends Text (b ∷ c ∷ bs) quoted)
+    inner_utf8 (b ∷ c ∷ bs) 0 utf8 (omega arith) (quote_ascii b (and_parts (is_quote b) (closes b false (c ∷ bs)) quoted).0) (spelled_ends Text (b ∷ c ∷ bs) quoted)
 
 content_utf8 : (text : List ℕ) → IsUtf8 text → IsTrue (is_quoted text) → IsUtf8 (content_of text)
 content_utf8 text utf8 quoted = unescaped_utf8 (take (length text - 2) (drop 1 text)) (quoted_utf8 text utf8 quoted)

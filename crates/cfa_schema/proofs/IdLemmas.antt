@@ -7,6 +7,7 @@ use Rattle.std.proofs.lemmas.Slice.Eq.{bytes_eq-Decides}
 use Rattle.std.proofs.lemmas.Bool.Decides.{nat_tests}
 use Rattle.std.proofs.lemmas.List.{length-append}
 use Rattle.std.proofs.lemmas.List.Elements.{All-append, All-cons, All-contains, All-contains_itself, All-get_or, All-head, All-map, All-nil, All-tail, All-weaker, Contains-append_left, Contains-append_right}
+use Rattle.std.proofs.lemmas.Bool.{or_parts}
 use Rattle.cfa_base.specs.declared.places.Place.{Place}
 use Rattle.cfa_base.specs.declared.places.PromiseId.{PromiseId}
 use Rattle.cfa_base.specs.lemmas.Lists.{none_left, none_right}
@@ -137,14 +138,10 @@ ids_stand name before (x ∷ after) all e typed =
     (ids_stand name (before ++ x ∷ []) after all (e ∙ sym (append_assoc before (x ∷ []) after)) (All-tail HasType x after typed)))
 
 -- names that aren't repeated
-neither : (a b : Bool) → (a || b) ≡ false → (a ≡ false) × (b ≡ false)
-neither true b e = cc
-neither false b e = (refl, e)
-
 any_both : (test : List ℕ → Bool) (xs : List (List ℕ)) (x : List ℕ) → list_any test (xs ++ x ∷ []) ≡ false → (list_any test xs ≡ false) × (test x ≡ false)
-any_both test [] x e = (refl, (neither (test x) false e).0)
+any_both test [] x e = (refl, (or_parts (test x) false e).0)
 any_both test (y ∷ xs) x e =
-    let both = neither (test y) (list_any test (xs ++ x ∷ [])) e in
+    let both = or_parts (test y) (list_any test (xs ++ x ∷ [])) e in
     let more = any_both test xs x both.1 in
     (ap (λ b. b || list_any test xs) both.0 ∙ more.0, more.1)
 

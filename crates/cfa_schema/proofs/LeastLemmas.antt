@@ -5,6 +5,7 @@ use Rattle.std.specs.List.{Contains}
 use Rattle.std.proofs.lemmas.List.Elements.{Contains-push_cases, Contains-push, Contains-append_left}
 use Rattle.std.proofs.lemmas.List.{append-nil}
 use Rattle.std.proofs.lemmas.Bool.Decides.{nat_tests}
+use Rattle.std.proofs.lemmas.Bool.{and_parts, or_parts}
 use Rattle.cfa_base.specs.declared.places.Place.{Place}
 use Rattle.cfa_values.specs.declared.refusals.Refusal.{Refusal}
 use Rattle.cfa_base.specs.Order.{is_before}
@@ -18,10 +19,6 @@ before_still p q r before not_before = grind (arith, nat_tests)
 before_itself : (p : Place) → is_before p p ≡ false
 before_itself p = grind (arith, nat_tests)
 
-both_true : (a b : Bool) → (a && b) ≡ true → (a ≡ true) × (b ≡ true)
-both_true true b e = (refl, e)
-both_true false b e = cc
-
 pub and_false : (a : Bool) → (a && false) ≡ false
 and_false true = refl
 and_false false = refl
@@ -31,8 +28,8 @@ same_number m n e = grind (arith, nat_tests)
 
 same_is : (p q : Place) → is_same_place p q ≡ true → p ≡ q
 same_is p q e =
-    let first = both_true (p.file == q.file) ((p.line == q.line) && (p.col == q.col)) e in
-    let second = both_true (p.line == q.line) (p.col == q.col) first.1 in
+    let first = and_parts (p.file == q.file) ((p.line == q.line) && (p.col == q.col)) e in
+    let second = and_parts (p.line == q.line) (p.col == q.col) first.1 in
     let files = same_number p.file q.file first.0 in
     let lines = same_number p.line q.line second.0 in
     let cols = same_number p.col q.col second.1 in
@@ -140,10 +137,6 @@ least_of_list rs = least_noted [] rs None none_contained
 
 -- two refusals of which none is sooner are one
 
-either_false : (a b : Bool) → (a || b) ≡ false → (a ≡ false) × (b ≡ false)
-either_false true b e = cc
-either_false false b e = (refl, e)
-
 places_tie : (p q : Place) → is_before p q ≡ false → is_before q p ≡ false → is_same_place p q ≡ true
 places_tie p q after before = grind (arith, nat_tests)
 
@@ -189,8 +182,8 @@ same_code c d e = sym (code_again c) ∙ ap code_of e ∙ code_again d
 pub tie_is : (r s : Refusal) → is_sooner r s ≡ false → is_sooner s r ≡ false → r ≡ s
 unfolding is_sooner
 tie_is r s e f =
-    let one = either_false (is_before r.place s.place) (is_same_place r.place s.place && nat_lt (number_of r.code) (number_of s.code)) e in
-    let two = either_false (is_before s.place r.place) (is_same_place s.place r.place && nat_lt (number_of s.code) (number_of r.code)) f in
+    let one = or_parts (is_before r.place s.place) (is_same_place r.place s.place && nat_lt (number_of r.code) (number_of s.code)) e in
+    let two = or_parts (is_before s.place r.place) (is_same_place s.place r.place && nat_lt (number_of s.code) (number_of r.code)) f in
     let there = places_tie r.place s.place one.0 two.0 in
     let back = places_tie s.place r.place two.0 one.0 in
     let places = same_is r.place s.place there in

@@ -1,5 +1,6 @@
 -- The first refusal of the lines of the table, with those on cycles.
-use Rattle.std.proofs.Common.{ℕ, ◌≡◌, ◌∙◌, Bool, true, false, not, List, Option, Some, None, IfSome, IfNone, ◌⊎◌, inl, inr, ⊎_elim, IsTrue, refl, ap, sym, subst}
+use Rattle.std.proofs.Common.{ℕ, ◌≡◌, ◌∙◌, Bool, true, false, List, Option, Some, None, IfSome, IfNone, ◌⊎◌, inl, inr, ⊎_elim, IsTrue, refl, ap, sym, subst}
+use Rattle.std.proofs.lemmas.Bool.{not-true}
 use Rattle.std.specs.Prelude.{Result, IfErr, IsErrOf, ◌≢◌, ◌||◌, ◌&&◌, nat_lt, if◌then◌else◌}
 use Rattle.std.specs.List.{Contains}
 use Rattle.cfa_base.specs.declared.places.Place.{Place}
@@ -25,15 +26,11 @@ first_on calls found o place h is same = subst (λ (cs : List Call). IsFirstOnCy
 pub none_on : (calls found : List Call) (o : Option Place) → IfNone o (NoneOnCycle found) → o ≡ None → found ≡ calls → NoneOnCycle calls
 none_on calls found o h is same = subst NoneOnCycle same (subst (λ (x : Option Place). IfNone x (NoneOnCycle found)) is h)
 
-true_not : (b : Bool) → not b ≡ true → b ≡ false
-true_not true e = cc
-true_not false e = refl
-
 -- of two calls on cycles the one that isn't before isn't refused sooner
 cycle_not_sooner : (place other : Place) → IsTrue (not_after place other) → is_sooner (refusal CallCycle other) (refusal CallCycle place) ≡ false
 unfolding is_sooner
 cycle_not_sooner place other h =
-    ap (λ b. b || (is_same_place other place && nat_lt 9 9)) (true_not (is_before other place) h) ∙ and_false (is_same_place other place)
+    ap (λ b. b || (is_same_place other place && nat_lt 9 9)) (not-true (is_before other place) h) ∙ and_false (is_same_place other place)
 
 pub first_of_table : (policy : PolicyTree) (listed first : Option Refusal) → listed ≡ noted None (refusals policy) → NotesCycle (calls_of policy) listed first → Least (Applies policy) first
 first_of_table policy listed first e (no_cycle none) =

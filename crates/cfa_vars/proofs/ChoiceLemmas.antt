@@ -5,7 +5,7 @@ use Rattle.std.specs.Str.{bytes_eq}
 use Rattle.std.proofs.lemmas.List.{append-nil, append_assoc, length-append, length-map, map-append, map-id, drop_more}
 use Rattle.std.proofs.lemmas.List.Concat.{flat_map-append}
 use Rattle.std.proofs.lemmas.List.Sums.{fold-append}
-use Rattle.std.proofs.lemmas.Bool.{false≢true, cases_lt}
+use Rattle.std.proofs.lemmas.Bool.{false≢true, cases_lt, le-ltb}
 use Rattle.std.proofs.lemmas.Bool.Decides.{nat_tests}
 use Rattle.std.proofs.Math.Nat.{mul_assoc}
 use Rattle.std.proofs.lemmas.Option.{slice_get-map, slice_get_within, get_or_from_slice_get}
@@ -109,15 +109,12 @@ capped_product : (b r : ℕ) → min (min b 4097 * r) 4097 ≡ min (b * r) 4097
 capped_product b zero = omega arith
 capped_product b (suc r) = ⊎_elim (λ h. omega arith) (λ h. let same : min b 4097 ≡ b = omega arith in ap (λ n. min (n * suc r) 4097) same) (cases_lt 4097 b)
 
-not_long : (n : ℕ) → n ≤ 4096 → nat_lt 4096 n ≡ false
-not_long n h = grind (arith, nat_tests)
-
 not_zero : (n : ℕ) → eqb (suc n) 0 ≡ false
 not_zero n = grind (arith, nat_tests)
 
 pub count_more : (count : ℕ) (key : List ℕ) (items : List (List ℕ)) (rest lists : Lists) → StillToCount count ((key, items) ∷ rest) lists → length items ≤ 4096 → StillToCount (min (count * length items) 4097) rest lists
 count_more count key items rest lists so_far short = record {
-  short = sym (ap (λ t. t || list_any (λ m. nat_lt 4096 (length m.1)) rest) (not_long (length items) short)) ∙ so_far.short;
+  short = sym (ap (λ t. t || list_any (λ m. nat_lt 4096 (length m.1)) rest) (le-ltb 4096 (length items) short)) ∙ so_far.short;
   counted = capped_product (count * length items) (length (all_choices rest)) ∙ ap (λ n. min n 4097) (mul_assoc count (length items) (length (all_choices rest)) ∙ ap (λ n. count * n) (sym (length-all_choices key items rest))) ∙ so_far.counted;
   bound = omega arith;
 }

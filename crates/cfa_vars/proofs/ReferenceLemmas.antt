@@ -1,5 +1,5 @@
 -- Where references stand in a text, and the pieces of a text.
-use Rattle.std.proofs.Common.{◌≡◌, ◌≢◌, ◌<◌, ◌≤◌, ◌+◌, ◌⊎◌, inl, inr, ⊎_elim, ℕ, suc, zero, Bool, true, false, ◌&&◌, cond, eqb, List, [], ◌∷◌, ◌++◌, length, take, drop, map, get_or, Option, Some, None, refl, arith, lit<, ap, subst, add-suc, add-zero, ◌∙◌, sym}
+use Rattle.std.proofs.Common.{◌≡◌, ◌≢◌, ◌<◌, ◌≤◌, ◌+◌, ◌⊎◌, inl, inr, ⊎_elim, ℕ, suc, zero, Bool, true, false, cond, eqb, List, [], ◌∷◌, ◌++◌, length, take, drop, map, get_or, Option, Some, None, refl, arith, lit<, ap, subst, add-suc, add-zero, ◌∙◌, sym}
 use Rattle.std.specs.List.{prefix_len, take_while}
 use Rattle.std.specs.Option.{option_map}
 use Rattle.std.proofs.lemmas.Option.{cond_some, none-some, same_Some}
@@ -7,14 +7,10 @@ use Rattle.std.proofs.lemmas.List.{drop_all, drop-drop, get_or-drop, get_or_past
 use Rattle.std.proofs.lemmas.List.Sums.{prefix_len_passes}
 use Rattle.std.specs.Str.{IsUtf8, IsCharBoundary}
 use Rattle.std.proofs.lemmas.Str.{IsCharBoundary-before_ascii, IsCharBoundary-after_ascii}
-use Rattle.std.proofs.lemmas.Bool.{false≢true, eqb-true, cases_lt}
+use Rattle.std.proofs.lemmas.Bool.{eqb-true, cases_lt, and_parts}
 use Rattle.std.proofs.lemmas.Bool.Decides.{nat_tests}
 use Rattle.cfa_base.specs.Lexing.{is_name}
 use Rattle.cfa_vars.specs.References.{is_name_byte, closing, name_before, reference_at, literal, reference, Piece, begun_by, pieces}
-
-both : (s t : Bool) → (s && t) ≡ true → (s ≡ true) × (t ≡ true)
-both true t h = (refl, h)
-both false t h = absurd (false≢true h)
 
 -- a name with the bracket that closes it, at the front of a text
 record Closed (close : ℕ) (rest name : List ℕ) : Type 0 where
@@ -45,7 +41,7 @@ module _ (close : ℕ) (rest : List ℕ) (open_close : 0 < close) where
   unfolding front
   closed_name name h =
       let c = cond_some _ front name h in
-      let b = both (is_name front) (eqb (get_or rest (length front) 0) close) c.0 in
+      let b = and_parts (is_name front) (eqb (get_or rest (length front) 0) close) c.0 in
       subst (λ (n : List ℕ). Closed close rest n) c.1 (closed_front b.0 (eqb-true _ _ b.1))
 
 -- where the reference of this name stands at the front of a text, and what its bytes are

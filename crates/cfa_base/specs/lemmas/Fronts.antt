@@ -1,6 +1,6 @@
 -- Texts that begin alike stand together in byte order.
 use Rattle.std.proofs.Common.{◌≡◌, ℕ, List, [], ◌∷◌, Bool, true, false, ◌&&◌, ◌<◌, ◌≤◌, eq-eqb, refl, sym, ap, ◌∙◌, arith}
-use Rattle.std.proofs.lemmas.Bool.{false≢true}
+use Rattle.std.proofs.lemmas.Bool.{false≢true, and_from}
 use Rattle.std.proofs.lemmas.Bool.Decides.{nat_tests}
 use Rattle.std.proofs.lemmas.Cmp.{ranked}
 use Rattle.std.specs.Prelude.{nat_eq}
@@ -31,10 +31,6 @@ heads_agree x y b is = grind (arith, nat_tests)
 tails_agree : (x y : ℕ) (b : Bool) → (nat_eq x y && b) ≡ true → b ≡ true
 tails_agree x y b is = grind (arith, nat_tests)
 
-both : (a b : Bool) → a ≡ true → b ≡ true → (a && b) ≡ true
-both true b p q = q
-both false b p q = p
-
 -- a text that begins with a front isn't before it
 pub from_front : (front text : List ℕ) → starts_with nat_eq text front ≡ true → is_gt (text_cmp front text) ≡ false
 from_front [] [] is = refl
@@ -55,4 +51,4 @@ between (x ∷ xs) (y ∷ ys) (z ∷ zs) a b is =
     let high : y ≤ z = not_above y z (text_cmp ys zs) b in
     let here : x ≡ y = omega arith in
     let there : y ≡ z = omega arith in
-    both (nat_eq x y) (starts_with nat_eq ys xs) (eq-eqb x y here) (between xs ys zs (rest_above x y (text_cmp xs ys) here a) (rest_above y z (text_cmp ys zs) there b) (tails_agree x z (starts_with nat_eq zs xs) is))
+    and_from (nat_eq x y) (starts_with nat_eq ys xs) (eq-eqb x y here) (between xs ys zs (rest_above x y (text_cmp xs ys) here a) (rest_above y z (text_cmp ys zs) there b) (tails_agree x z (starts_with nat_eq zs xs) is))

@@ -1,6 +1,6 @@
 -- Look-ups and changes of a map with text keys, seen as a finite map from bytes.
 use Rattle.std.proofs.Common.{◌≡◌, ℕ, List, [], ◌∷◌, Bool, true, false, cond, ◌||◌, Option, Some, None, is_some, refl, sym, ap, ◌∙◌}
-use Rattle.std.proofs.lemmas.Bool.{false≢true}
+use Rattle.std.proofs.lemmas.Bool.{false≢true, or_right}
 use Rattle.std.proofs.lemmas.Cmp.{tied_itself}
 use Rattle.std.proofs.lemmas.Map.Text.{is_eq-slice_cmp, btree_map_updates_text}
 use Rattle.std.proofs.lemmas.Slice.Eq.{bytes_eq-Decides}
@@ -80,21 +80,15 @@ any_passes test q [] passes among = absurd (false≢true among)
 any_passes test q (k ∷ ks) passes among =
     elim (eq_by_cmp text_cmp q k) as (λ b. eq_by_cmp text_cmp q k ≡ b → (b || list_any (eq_by_cmp text_cmp q) ks) ≡ true → (test k || list_any test ks) ≡ true) [
       | true ↦ λ same _. ap (λ b. b || list_any test ks) (ap test (sym (tied q k same)) ∙ passes)
-      | false ↦ λ _ rest. or_later (test k) (any_passes test q ks passes rest)
-    ] refl among where
-      or_later : (b : Bool) {c : Bool} → c ≡ true → (b || c) ≡ true
-      or_later true e = refl
-      or_later false e = e
+      | false ↦ λ _ rest. or_right (test k) (list_any test ks) (any_passes test q ks passes rest)
+    ] refl among
 
 -- none passes, where each that is among them doesn't
 pub none_passes : (test : List ℕ → Bool) (ks : List (List ℕ)) → ((q : List ℕ) → list_any (eq_by_cmp text_cmp q) ks ≡ true → test q ≡ false) → list_any test ks ≡ false
 none_passes test [] each = refl
 none_passes test (k ∷ ks) each =
     ap (λ b. b || list_any test ks) (each k (ap (λ b. b || list_any (eq_by_cmp text_cmp k) ks) (ties k)))
-    ∙ none_passes test ks (λ q among. each q (later (eq_by_cmp text_cmp q k) among)) where
-      later : (b : Bool) {c : Bool} → c ≡ true → (b || c) ≡ true
-      later true e = refl
-      later false e = e
+    ∙ none_passes test ks (λ q among. each q (or_right (eq_by_cmp text_cmp q k) (list_any (eq_by_cmp text_cmp q) ks) among))
 
 -- two texts tie exactly where they are the same bytes
 pub ties_alike : (k q : List ℕ) → eq_by_cmp text_cmp q k ≡ bytes_eq k q

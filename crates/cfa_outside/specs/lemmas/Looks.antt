@@ -1,7 +1,6 @@
 -- What a look tells of what stands there, as the other calls of a site ask it.
 use Rattle.std.proofs.Common.{◌≡◌, ℕ, ◌≤◌, Bool, true, false, List, length, Option, Some, None, refl, arith}
-use Rattle.std.proofs.lemmas.Bool.Decides.{nat_tests}
-use Rattle.std.specs.Prelude.{nat_le}
+use Rattle.std.proofs.lemmas.Bool.{le-leb}
 use Rattle.std.specs.FinMap as map
 use Rattle.cfa_base.specs.declared.limits.TheConstants.{MOST_FILE_BYTES}
 use Rattle.cfa_outside.specs.declared.worlds.Node.{Node}
@@ -9,12 +8,9 @@ use Rattle.cfa_outside.specs.declared.worlds.Node.TheVariants as node
 use Rattle.cfa_outside.specs.declared.sites.Look.TheVariants.{File, Dir}
 use Rattle.cfa_outside.specs.Worlds.{NodeMap, is_blocked, has_below, shows, look_at, is_readable}
 
-short_is_readable : (length most : ℕ) → length ≤ most → nat_le length most ≡ true
-short_is_readable length most short = grind (arith, nat_tests)
-
 file_shown : (here : Option Node) (blocked below : Bool) (size : ℕ) → shows here blocked below ≡ File size → size ≤ MOST_FILE_BYTES → is_readable here ≡ true
 file_shown (Some (node.File bytes _)) blocked below size is short =
-    let same : length bytes ≡ size = cc in short_is_readable (length bytes) MOST_FILE_BYTES (omega (arith, same))
+    let same : length bytes ≡ size = cc in le-leb (length bytes) MOST_FILE_BYTES (omega (arith, same))
 file_shown (Some (node.Dir _)) blocked below size is short = cc
 file_shown None true below size is short = cc
 file_shown None false below size is short = cc

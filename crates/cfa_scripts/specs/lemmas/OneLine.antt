@@ -4,6 +4,7 @@ use Rattle.std.specs.Prelude.{not}
 use Rattle.std.specs.List.{list_any}
 use Rattle.std.proofs.lemmas.Bool.Decides.{nat_tests}
 use Rattle.std.proofs.lemmas.List.Elements.{All-nil, All-cons}
+use Rattle.std.proofs.lemmas.Bool.{not-true}
 use Rattle.cfa_edits.specs.Scripts.{IsOneLine}
 
 pub not_newline : (b : ℕ) → (b == 10) ≡ false → b ≢ 10
@@ -18,9 +19,5 @@ no_newline : (content : List ℕ) → list_any (λ byte. byte == 10) content ≡
 no_newline [] h = All-nil (λ byte. byte ≢ 10)
 no_newline (b ∷ rest) h = one_line_by b rest (b == 10) (list_any (λ byte. byte == 10) rest) refl refl (ap not h) (no_newline rest)
 
-not_true : (b : Bool) → not b ≡ true → b ≡ false
-not_true true h = cc
-not_true false h = refl
-
 pub one_line : (content : List ℕ) → not (list_any (λ byte. byte == 10) content) ≡ true → IsOneLine content
-one_line content h = no_newline content (not_true (list_any (λ byte. byte == 10) content) h)
+one_line content h = no_newline content (not-true (list_any (λ byte. byte == 10) content) h)
