@@ -2,6 +2,7 @@
 use Rattle.std.proofs.Common.{◌≡◌, ℕ, Bool, true, false, ◌||◌, List, [], ◌∷◌, ◌++◌, length, take, Some, None, Option, refl, sym, ap, ◌∙◌, append-nil}
 use Rattle.std.specs.Prelude.{if◌then◌else◌}
 use Rattle.std.specs.List.{flat_map}
+use Rattle.cfa_base.specs.lemmas.Truths.{or_false}
 use Rattle.cfa_outside.specs.declared.sites.Call.{Call}
 use Rattle.cfa_outside.specs.declared.sites.Change.{Change}
 use Rattle.cfa_outside.specs.declared.sites.Entry.{Entry}
@@ -32,10 +33,6 @@ one_of false both first second e = e
 pub record_in_both : (a b : List Entry) → has_record (a ++ b) ≡ has_record a || has_record b
 record_in_both [] b = refl
 record_in_both (entry ∷ a) b = one_of (is_record entry) (has_record (a ++ b)) (has_record a) (has_record b) (record_in_both a b)
-
-or_none : (b : Bool) → b || false ≡ b
-or_none true = refl
-or_none false = refl
 
 no_record_in_lock : (moment : ℕ) (has_locks : Bool) (instance : Instance) → has_record (lock_entries moment has_locks instance) ≡ false
 no_record_in_lock moment true instance = refl
@@ -78,11 +75,11 @@ pub record_of_added : (moment n : ℕ) (instance : Instance) (has has_locks : Bo
 record_of_added moment n instance has has_locks planned m =
     record_in_both (entries_of moment n instance (done_by planned m) has) (lock_entries moment has_locks instance)
     ∙ ap (λ b. has_record (entries_of moment n instance (done_by planned m) has) || b) (no_record_in_lock moment has_locks instance)
-    ∙ or_none (has_record (entries_of moment n instance (done_by planned m) has))
+    ∙ or_false (has_record (entries_of moment n instance (done_by planned m) has))
     ∙ record_of_acts moment n instance has planned m
 
 pub record_of_lock : (has : Bool) (moment : ℕ) (has_locks : Bool) (instance : Instance) → has ≡ has || has_record (lock_entries moment has_locks instance)
-record_of_lock has moment has_locks instance = sym (ap (λ b. has || b) (no_record_in_lock moment has_locks instance) ∙ or_none has)
+record_of_lock has moment has_locks instance = sym (ap (λ b. has || b) (no_record_in_lock moment has_locks instance) ∙ or_false has)
 
 -- ---- outcomes and lines
 

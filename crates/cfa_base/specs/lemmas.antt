@@ -9,3 +9,4 @@ pub mod Scanning
 pub mod Spelled
 pub mod Taking
 pub mod TextMaps
+pub mod Truths

@@ -6,6 +6,7 @@ use Rattle.std.proofs.lemmas.List.Folds.{find-append}
 use Rattle.std.specs.declared.alloc.Global.{Global}
 use Rattle.std.specs.declared.vec.Vec.{Vec}
 use Rattle.cfa_base.specs.declared.places.Place.{Place}
+use Rattle.cfa_base.specs.lemmas.Truths.{or_true}
 use Rattle.cfa_tree.specs.declared.values.Value.{Value, List as Listed, Call as Called}
 use Rattle.cfa_tree.specs.Plain.{plain_value}
 use Rattle.cfa_tree.specs.Tree.{value_trees}
@@ -76,10 +77,6 @@ module _ (scopes : InScope) where
   combined_so : (reads : List Read) (many : Bool) → first_lacking scopes reads ≡ None → has_too_many scopes reads ≡ many → combined scopes reads ≡ combined_by scopes reads None many
   unfolding combined
   combined_so reads many e h = ap (λ o. combined_by scopes reads o (has_too_many scopes reads)) e ∙ ap (combined_by scopes reads None) h
-
-  or_true : (b : Bool) → (b || true) ≡ true
-  or_true true = refl
-  or_true false = refl
 
   pub long_list_is_too_many : (reads : List Read) → first_lacking scopes reads ≡ None → list_any (is_long_list scopes) reads ≡ true → too_many ≡ combined scopes reads
   long_list_is_too_many reads e h =

@@ -7,6 +7,7 @@ use Rattle.std.proofs.lemmas.Bool.{cond-true, cond-false}
 use Rattle.std.proofs.lemmas.List.{append_assoc, reverse-append, length-append, take_at, drop_at}
 use denote.Ref.{Bor}
 use Rattle.cfa_base.specs.lemmas.EqualTexts.{same_text, texts_turned}
+use Rattle.cfa_base.specs.lemmas.Truths.{or_true, or_false, or_assoc}
 use Rattle.cfa_edits.specs.Edits.{Lines, is_among, lacking, spot_in, put_at, inserted}
 use Rattle.cfa_edits.specs.declared.edits.Spot.{Spot}
 use Rattle.cfa_edits.specs.Steps.{has_line}
@@ -16,18 +17,6 @@ pub has_updated : {S : Type 0} (line : List ℕ) (before after : HashSet (Bor (L
     → UpdatesBy (λ x y. bytes_eq x.now y.now) (λ key. bytes_eq line key.now) before after b
     → (other : List ℕ) → has_line after other ≡ cond (bytes_eq line other) b (has_line before other)
 has_updated line before after b updates other = updates.0 (record { ref_ptr = (0, 0); now = other })
-
-or_true : (b : Bool) → (b || true) ≡ true
-or_true true = refl
-or_true false = refl
-
-or_false : (b : Bool) → (b || false) ≡ b
-or_false true = refl
-or_false false = refl
-
-or_assoc : (a b c : Bool) → ((a || b) || c) ≡ (a || (b || c))
-or_assoc true b c = refl
-or_assoc false b c = refl
 
 among-push : (lines : Lines) (line other : List ℕ) → is_among (lines ++ line ∷ []) other ≡ (is_among lines other || bytes_eq other line)
 among-push [] line other = or_false (bytes_eq other line)

@@ -9,6 +9,7 @@ use Rattle.std.proofs.lemmas.Bool.{and_parts, or_parts}
 use Rattle.cfa_base.specs.declared.places.Place.{Place}
 use Rattle.cfa_values.specs.declared.refusals.Refusal.{Refusal}
 use Rattle.cfa_base.specs.Order.{is_before}
+use Rattle.cfa_base.specs.lemmas.Truths.{and_false}
 use Rattle.cfa_values.specs.declared.refusals.Code.{Code}
 use Rattle.cfa_values.specs.declared.refusals.Code.TheVariants.{UnknownType, TypeOutOfScope, UnknownAttribute, WrongValue, UnknownBody, UnknownBundle, ArgumentCount, Duplicate, CallCycle, NoSequence, BadClassText, ReferenceOutOfScope, BadPattern}
 use Rattle.cfa_values.specs.Refusals.{number_of, is_same_place, is_sooner, sooner, noted}
@@ -18,10 +19,6 @@ before_still p q r before not_before = grind (arith, nat_tests)
 
 before_itself : (p : Place) → is_before p p ≡ false
 before_itself p = grind (arith, nat_tests)
-
-pub and_false : (a : Bool) → (a && false) ≡ false
-and_false true = refl
-and_false false = refl
 
 same_number : (m n : ℕ) → (m == n) ≡ true → m ≡ n
 same_number m n e = grind (arith, nat_tests)

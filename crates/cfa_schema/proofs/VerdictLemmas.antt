@@ -16,8 +16,9 @@ use Rattle.cfa_schema.specs.Collected.{HasRefused, IfRefused, HasFirstBad, Notes
 use Rattle.cfa_base.specs.Lexing.{first_place}
 use Rattle.cfa_schema.specs.Defined.{has_sequence}
 use Rattle.cfa_base.specs.Order.{is_before, not_after}
+use Rattle.cfa_base.specs.lemmas.Truths.{and_false}
 use Rattle.cfa_values.specs.Refusals.{refusal, is_same_place, is_sooner, sooner, noted}
-use Rattle.cfa_schema.proofs.LeastLemmas.{Least, least_same, least_more, least_of_list, least_wider, itself_not_sooner, and_false}
+use Rattle.cfa_schema.proofs.LeastLemmas.{Least, least_same, least_more, least_of_list, least_wider, itself_not_sooner}
 use Rattle.cfa_values.specs.declared.refusals.Code.TheVariants.{CallCycle, NoSequence}
 
 pub first_on : (calls found : List Call) (o : Option Place) (place : Place) → IfSome o (IsFirstOnCycle found) → o ≡ Some place → found ≡ calls → IsFirstOnCycle calls place

@@ -1,6 +1,7 @@
 -- The broken references and the refused names of a text, from its first reference on.
 use Rattle.std.proofs.Common.{◌≡◌, ℕ, Bool, true, false, cond, ◌==◌, ◌||◌, List, [], ◌∷◌, ◌++◌, map, not, is_none, is_some, Option, Some, None, MatchOption, refl, ap, sym, ◌∙◌, append-nil}
 use Rattle.std.specs.List.{filter_map, list_any}
+use Rattle.cfa_base.specs.lemmas.Truths.{or_assoc}
 use Rattle.cfa_vars.specs.References.{Piece, literal, reference, name_in, pieces, names_in}
 use Rattle.cfa_vars.specs.declared.references.Reference.{Reference}
 use Rattle.cfa_values.specs.Scope.{begins_with_bracket, has_broken_reference, is_empty_list, is_literal}
@@ -14,10 +15,6 @@ names_in_more text before name after h = ap (filter_map name_in) h ∙ names_pas
 
 names_in_none : (text : List ℕ) → pieces text ≡ map literal text → names_in text ≡ []
 names_in_none text h = ap (filter_map name_in) (h ∙ sym (append-nil (map literal text))) ∙ names_past text []
-
-or_assoc : (a b c : Bool) → ((a || b) || c) ≡ (a || (b || c))
-or_assoc true b c = refl
-or_assoc false b c = refl
 
 none_broken : (t other : Bool) → (cond t false false || other) ≡ ((cond t false false || false) || other)
 none_broken true other = refl

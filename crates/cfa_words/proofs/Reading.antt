@@ -14,6 +14,7 @@ use Rattle.clap.specs.Simple.{built, entered, matches_of}
 use Rattle.std.proofs.lemmas.Slice.Eq.{bytes_eq-Decides}
 use Rattle.clap.specs.declared.error.kind.ErrorKind.TheVariants as kind
 use Rattle.clap.proofs.OnLiterals.{clap_on_literals}
+use Rattle.cfa_base.specs.lemmas.Truths.{or_false, and_false}
 use Rattle.cfa_words.specs.Parser.{command_line, command_rule}
 use Rattle.cfa_words.specs.Words.{Given, Next, Piece, after_D, define, flag, given, also, any, classes, letters, named, no_lock, pieces, plain, plain_only, strict, unknown, value, whole, with_pieces, word_read}
 use Rattle.cfa_words.proofs.Looks.{Look, end_look, first_D, first_K, first_char, is_end, letters_look, long_look, own_look, seen, text_after}
@@ -136,10 +137,6 @@ letters_text word c more is u = text_after 45 (c ∷ more) (lit< tt) (subst IsUt
 -- a word of its own that is read when something is pending
 abbrev owned : List Text → List Row → Option (Text × List Text) → Bool → Text → List Text → Kinds × List Row
 owned ws rows pending ended word rest = onward [] (held rows pending, own_word) (at rows pending idle (place ws) ended) word rest
-
-and_false : (b : Bool) → (b && false) ≡ false
-and_false true = refl
-and_false false = refl
 
 module _ (rows : List Row) (pending : Option (Text × List Text)) (bad : settle_fault rules false (held rows pending) ≡ [] → ⊥) where
   unsettled : (b : Bool) → cond (b && false) [] (settle_fault rules false (held rows pending)) ≡ [] → ⊥
@@ -275,10 +272,6 @@ Plain_law rest = (ws : List Text) (n s : Bool) (c : Option Text) (rows : List Ro
     → Agrees (target (mk ws n s c) (pieces plain_only rest)) (run (at rows pending idle (place ws) true) rest)
 
 -- ---- words of their own
-
-or_false : (b : Bool) → (b || false) ≡ b
-or_false true = refl
-or_false false = refl
 
 abbrev goes_on : List Row → Option (Text × List Text) → Text → ℕ → Bool → Text → List Text → Kinds × List Row
 goes_on rows pending id next ended word rest = run (at (settled_list rows pending) (Some (id, word ∷ [])) idle next ended) rest

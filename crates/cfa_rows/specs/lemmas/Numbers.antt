@@ -1,5 +1,5 @@
 -- Numbers in decimal have nothing but digits, and tell their number.
-use Rattle.std.proofs.Common.{◌≡◌, ℕ, ◌^◌, ◌<◌, ◌≤◌, List, [], ◌∷◌, Bool, true, false, not, ◌&&◌, ◌||◌, ◌==◌, ltb, length, get_or, ⊎_elim, Result, Ok, Err, refl, sym, ap, ◌∙◌, arith}
+use Rattle.std.proofs.Common.{◌≡◌, ℕ, ◌^◌, ◌<◌, ◌≤◌, List, [], ◌∷◌, true, false, not, ◌&&◌, ◌||◌, ◌==◌, ltb, length, get_or, ⊎_elim, Result, Ok, Err, refl, sym, ap, ◌∙◌, arith}
 use Rattle.std.proofs.lemmas.Bool.{both_ways, and_parts, and_from, cases_Bool, cases_lt, eq-eqb, eqb-true, lt-ltb, ltb-true}
 use Rattle.std.proofs.lemmas.Bool.Decides.{nat_tests}
 use Rattle.std.proofs.lemmas.Fmt.{digits_decimal, decimal_digit, first_decimal, decimal_nonempty, decimal-digits_value, parse-decimal}
@@ -11,6 +11,7 @@ use Rattle.std.specs.Result.{result_ok}
 use Rattle.std.specs.Str.{all_ascii_digits}
 use Rattle.std.specs.Str.Parse.{digits_value, ParsesUnsigned}
 use Rattle.cfa_base.specs.Decimals.{is_decimal}
+use Rattle.cfa_base.specs.lemmas.Truths.{or_true}
 use Rattle.cfa_rows.specs.Cuts.{Lacks}
 use Rattle.cfa_rows.specs.Rows.{Reads}
 
@@ -30,12 +31,8 @@ digits-lack byte (d ∷ ds) other all =
 pub decimal-lacks : (byte n : ℕ) → is_ascii_digit byte ≡ false → n < 2 ^ 64 → Lacks byte (decimal n)
 decimal-lacks byte n other small = digits-lack byte (decimal n) other (digits_decimal numerals n small)
 
-or_right : (b : Bool) → (b || true) ≡ true
-or_right true = refl
-or_right false = refl
-
 is_decimal-parts : (ds : List ℕ) → 0 < length ds → all_ascii_digits ds ≡ true → (get_or ds 0 0 ≡ 48 → length ds ≡ 1) → is_decimal ds ≡ true
-is_decimal-parts ds some digits first = and_from _ _ (and_from _ _ (lt-ltb 0 (length ds) some) digits) (⊎_elim (λ zero. let one = eq-eqb (length ds) 1 (first (eqb-true (get_or ds 0 0) 48 zero)) in rw one (or_right _)) (λ other. rw other refl) (cases_Bool (get_or ds 0 0 == 48)))
+is_decimal-parts ds some digits first = and_from _ _ (and_from _ _ (lt-ltb 0 (length ds) some) digits) (⊎_elim (λ zero. let one = eq-eqb (length ds) 1 (first (eqb-true (get_or ds 0 0) 48 zero)) in rw one (or_true _)) (λ other. rw other refl) (cases_Bool (get_or ds 0 0 == 48)))
 
 first_of_decimal : (n : ℕ) → n < 2 ^ 64 → get_or (decimal n) 0 0 ≡ 48 → length (decimal n) ≡ 1
 first_of_decimal n small zero =
