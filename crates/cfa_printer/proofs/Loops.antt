@@ -68,11 +68,6 @@ regrouped old opening inner closing whole out mid first is one two three =
     three ∙ (ap (λ x. x ++ closing) (two ∙ ap (λ x. x ++ inner) one)
     ∙ (append_assoc (old ++ opening) inner closing ∙ (append_assoc old opening _ ∙ ap (λ x. old ++ x) (sym is))))
 
--- a text for each tree of an item is a text for each item
-pub flat_map-map : {A B : Type 0} (f : B → List ℕ) (g : A → B) (xs : List A) → flat_map f (map g xs) ≡ flat_map (λ x. f (g x)) xs
-flat_map-map f g [] = refl
-flat_map-map f g (x ∷ xs) = ap (λ y. f (g x) ++ y) (flat_map-map f g xs)
-
 pub map-map : {A B : Type 0} (f : B → List ℕ) (g : A → B) (xs : List A) → map f (map g xs) ≡ map (λ x. f (g x)) xs
 map-map f g [] = refl
 map-map f g (x ∷ xs) = ap (λ y. f (g x) ∷ y) (map-map f g xs)

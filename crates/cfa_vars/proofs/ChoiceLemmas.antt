@@ -1,10 +1,11 @@
 -- The names of several texts, the lists among them, and the choices of their items.
 use Rattle.std.proofs.Common.{◌≡◌, ◌<◌, ◌≤◌, ◌+◌, ◌*◌, ◌==◌, ℕ, suc, zero, min, Bool, true, false, ◌||◌, cond, eqb, nat_lt, List, [], ◌∷◌, ◌++◌, length, map, drop, get_or, find, is_none, Option, Some, None, refl, arith, ⊎_elim, ap, sym, ◌∙◌}
-use Rattle.std.specs.List.{filter_map, cons_option, flat_map, list_any}
+use Rattle.std.specs.List.{cons_option, flat_map, list_any}
 use Rattle.std.specs.Str.{bytes_eq}
 use Rattle.std.proofs.lemmas.List.{append-nil, append_assoc, length-append, length-map, map-append, map-id, drop_more}
 use Rattle.std.proofs.lemmas.List.Concat.{flat_map-append}
 use Rattle.std.proofs.lemmas.List.Sums.{fold-append}
+use Rattle.std.proofs.lemmas.List.Elements.{filter_map-append}
 use Rattle.std.proofs.lemmas.Bool.{false≢true, cases_lt, le-ltb}
 use Rattle.std.proofs.lemmas.Bool.Decides.{nat_tests}
 use Rattle.std.proofs.Math.Nat.{mul_assoc}
@@ -36,14 +37,6 @@ find_here false x inner outer other h f = f h
 find-append_found : {X : Type 0} (p : X → Bool) (xs ys : List X) (y : X) → find p xs ≡ Some y → find p (xs ++ ys) ≡ Some y
 find-append_found p [] ys y h = cc
 find-append_found p (x ∷ xs) ys y h = find_here (p x) x (find p xs) (find p (xs ++ ys)) (Some y) h (find-append_found p xs ys y)
-
-cons_option-append : {Y : Type 0} (o : Option Y) (xs ys zs : List Y) → zs ≡ xs ++ ys → cons_option o zs ≡ cons_option o xs ++ ys
-cons_option-append None xs ys zs h = h
-cons_option-append (Some y) xs ys zs h = ap (λ t. y ∷ t) h
-
-filter_map-append : {X Y : Type 0} (f : X → Option Y) (xs ys : List X) → filter_map f (xs ++ ys) ≡ filter_map f xs ++ filter_map f ys
-filter_map-append f [] ys = refl
-filter_map-append f (x ∷ xs) ys = cons_option-append (f x) (filter_map f xs) (filter_map f ys) (filter_map f (xs ++ ys)) (filter_map-append f xs ys)
 
 module _ (scopes : InScope) where
   unset : List ℕ → Bool

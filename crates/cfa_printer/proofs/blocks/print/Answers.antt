@@ -1,8 +1,9 @@
 use Rattle.std.proofs.Common.{sym, ap, ◌∙◌}
 use Rattle.std.specs.List.{flat_map}
+use Rattle.std.proofs.lemmas.List.Folds.{flat_map-map}
 use Rattle.cfa_tree.specs.Plain.{plain_block}
 use Rattle.cfa_printer.specs.Printing.{printed_block}
-use Rattle.cfa_printer.proofs.Loops.{piece_end, flat_map-map}
+use Rattle.cfa_printer.proofs.Loops.{piece_end}
 use Rattle.cfa_printer.proofs.blocks.print.Goals as goal
 
 pub returns : goal.returns

@@ -1,8 +1,9 @@
 use Rattle.std.proofs.Common.{sym, ap, ◌∙◌, ◌++◌}
 use Rattle.std.specs.String.{string_bytes}
+use Rattle.std.proofs.lemmas.List.Folds.{flat_map-map}
 use Rattle.cfa_tree.specs.Plain.{plain_section}
 use Rattle.cfa_printer.specs.Printing.{printed_section}
-use Rattle.cfa_printer.proofs.Loops.{piece_end, flat_map-map}
+use Rattle.cfa_printer.proofs.Loops.{piece_end}
 use Rattle.cfa_printer.proofs.blocks.push_sections.Goals as goal
 
 pub returns : goal.returns
