@@ -151,16 +151,6 @@ seen_at policy p scopes statuses path = reached_at policy p.id scopes (status_in
 
 module _ (policy : PolicyTree) (p : Numbered) (scopes : InScope) (statuses : Statuses) (st : State) (a : Activation)
     (sees : (s : Setting) (h : History) → Stands s st a h → scopes ≡ scopes_in s h (home_of a)) (global : statuses ≡ st.environment.statuses) where
-  seen_is : (s : Setting) (home : Home) (status : Status) (h : History) → StandsAt policy s home status st a h →
-      resolution (seen_at policy p scopes statuses a.path) ≡ resolution_at s home p h
-  seen_is s home status h stands =
-      let its : Home = home_of a in
-      ap (λ (x : InScope). resolution (reached_at policy p.id x (status_in statuses) a.path (p.type, p.promise))) (sees s h stands.1.1.1)
-      ∙ (ap (λ (x : Statuses). resolution (reached_at policy p.id (scopes_in s h its) (status_in x) a.path (p.type, p.promise))) global
-      ∙ (ap (λ (x : List ℕ → Status). resolution (reached_at policy p.id (scopes_in s h its) x a.path (p.type, p.promise))) (fun_ext stands.1.1.1.0.0)
-      ∙ (ap (λ (x : Home). resolution (reached_at policy p.id (scopes_in s h x) (global_status s h) x.path (p.type, p.promise))) stands.1.0
-      ∙ ap (λ (x : PolicyTree). resolution (reached_at x p.id (scopes_in s h home) (global_status s h) home.path (p.type, p.promise))) (sym stands.0))))
-
   reached_is : (s : Setting) (home : Home) (status : Status) (h : History) → StandsAt policy s home status st a h →
       seen_at policy p scopes statuses a.path ≡ reached_in_history s h home p.type p
   reached_is s home status h stands =
@@ -170,6 +160,10 @@ module _ (policy : PolicyTree) (p : Numbered) (scopes : InScope) (statuses : Sta
       ∙ (ap (λ (x : List ℕ → Status). reached_at policy p.id (scopes_in s h its) x a.path (p.type, p.promise)) (fun_ext stands.1.1.1.0.0)
       ∙ (ap (λ (x : Home). reached_at policy p.id (scopes_in s h x) (global_status s h) x.path (p.type, p.promise)) stands.1.0
       ∙ ap (λ (x : PolicyTree). reached_at x p.id (scopes_in s h home) (global_status s h) home.path (p.type, p.promise)) (sym stands.0))))
+
+  seen_is : (s : Setting) (home : Home) (status : Status) (h : History) → StandsAt policy s home status st a h →
+      resolution (seen_at policy p scopes statuses a.path) ≡ resolution_at s home p h
+  seen_is s home status h stands = ap resolution (reached_is s home status h stands)
 
   -- a pattern that its edit bundle builds
   pub too_big : (guard : Status) → (guard ≡ No → ⊥) → (text : List ℕ) (st' : State) (a1 : Activation) (refused : Option (List ℕ)) (pats pats' : Shown (List (List ℕ))) →

@@ -1,6 +1,5 @@
 -- Promises that define variables and classes, by what they do to what is kept of a history.
 use Rattle.std.proofs.Common.{◌≡◌, ℕ, ◌+◌, ◌-◌, ◌≤◌, ◌<◌, Bool, true, false, List, [], ◌∷◌, ◌++◌, length, map, Option, inl, inr, refl, sym, ap, subst, ◌∙◌, arith, Some, append-nil}
-use Rattle.std.specs.Prelude.{Result, Ok, Err, OnOk}
 use Rattle.std.proofs.lemmas.Bool.{le-leb, lt-leb}
 use Rattle.std.proofs.lemmas.List.{map-append}
 use Rattle.cfa_base.specs.declared.places.PromiseId.{PromiseId}
@@ -175,10 +174,6 @@ raised_one_more s is_common st' a a' b handed one h same stands =
     subst (λ (k : History). Stands s st' b k)
     (ap (λ (x : Home). raise_handed (place_of is_common x) (one ∷ []) (raise_handed (place_of is_common (home_of a)) handed h)) (home_same a a' same)
     ∙ sym (raise_handed_more (place_of is_common (home_of a)) handed one h)) stands
-
-pub on_ok : {E : Type 0} (P Q : Type 0) (result : Result (Unit {0}) E) → (P → Q) → OnOk result P → OnOk result Q
-on_ok P Q (Ok done) weaker holds = weaker holds
-on_ok P Q (Err e) weaker holds = tt
 
 -- a class is raised within the activation
 pub raised_within : (s : Setting) (st : State) (a a' : Activation) (is_common : Bool) (one : Handed) (h : History) → is_common ≡ false →

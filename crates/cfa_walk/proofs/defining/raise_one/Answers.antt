@@ -1,10 +1,11 @@
+use Rattle.std.proofs.lemmas.Result.{on_ok_weaker}
 use Rattle.cfa_walk.proofs.LaterLemmas.{here_ok, state_ok}
-use Rattle.cfa_walk.proofs.DefiningLemmas.{on_ok, raised_within}
+use Rattle.cfa_walk.proofs.DefiningLemmas.{raised_within}
 use Rattle.cfa_walk.proofs.defining.raise_one.Goals as goal
 
 pub returns-else-is_common-clause-stands : goal.returns-else-is_common-clause-stands
 returns-else-is_common-clause-stands c =
-    on_ok _ _ c.raise-else-is_common.result
+    on_ok_weaker c.raise-else-is_common.result
     (λ keeps s h stands. raised_within s c.args.state.now c.args.activation.now c.raise-else-is_common.new.self c.args.is_common c.args.handed h c.if-is_common.false (keeps s h) stands)
     c.raise-else-is_common.ensures.keeps
 
