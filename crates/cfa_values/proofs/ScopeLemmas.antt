@@ -1,20 +1,11 @@
 -- The broken references and the refused names of a text, from its first reference on.
-use Rattle.std.proofs.Common.{◌≡◌, ℕ, Bool, true, false, cond, ◌==◌, ◌||◌, List, [], ◌∷◌, ◌++◌, map, not, is_none, is_some, Option, Some, None, MatchOption, refl, ap, sym, ◌∙◌, append-nil}
-use Rattle.std.specs.List.{filter_map, list_any}
+use Rattle.std.proofs.Common.{◌≡◌, ℕ, Bool, true, false, cond, ◌==◌, ◌||◌, List, [], ◌∷◌, ◌++◌, map, not, is_none, is_some, Option, Some, None, MatchOption, refl, ap, sym, ◌∙◌}
+use Rattle.std.specs.List.{list_any}
 use Rattle.cfa_base.specs.lemmas.Truths.{or_assoc}
-use Rattle.cfa_vars.specs.References.{Piece, literal, reference, name_in, pieces, names_in}
+use Rattle.cfa_vars.specs.References.{Piece, literal, reference, pieces, names_in}
+use Rattle.cfa_vars.specs.lemmas.Names.{names_in_more, names_in_none}
 use Rattle.cfa_vars.specs.declared.references.Reference.{Reference}
 use Rattle.cfa_values.specs.Scope.{begins_with_bracket, has_broken_reference, is_empty_list, is_literal}
-
-names_past : (bytes : List ℕ) (ps : List Piece) → filter_map name_in (map literal bytes ++ ps) ≡ filter_map name_in ps
-names_past [] ps = refl
-names_past (b ∷ bs) ps = names_past bs ps
-
-names_in_more : (text before name after : List ℕ) → pieces text ≡ map literal before ++ reference name ∷ pieces after → names_in text ≡ name ∷ names_in after
-names_in_more text before name after h = ap (filter_map name_in) h ∙ names_past before (reference name ∷ pieces after)
-
-names_in_none : (text : List ℕ) → pieces text ≡ map literal text → names_in text ≡ []
-names_in_none text h = ap (filter_map name_in) (h ∙ sym (append-nil (map literal text))) ∙ names_past text []
 
 none_broken : (t other : Bool) → (cond t false false || other) ≡ ((cond t false false || false) || other)
 none_broken true other = refl
