@@ -12,12 +12,10 @@ use Rattle.cfa_calls.specs.Cycles.{Call, Reaches, OnCycle, seen_call, seen_calls
 use Rattle.cfa_calls.specs.Cycles.Reaches.{here, onward}
 use Rattle.cfa_base.specs.Index.{place_of}
 use Rattle.cfa_base.specs.lemmas.EqualTexts.{same_text, is_text}
+use Rattle.cfa_base.specs.lemmas.Lists.{behind_one}
 use Rattle.cfa_calls.specs.Numbering.{names_of, number_in, edge_in, HasEdges, Traces}
 use Rattle.cfa_calls.specs.Reaching.{row_of, Leads}
 use Rattle.cfa_calls.specs.Reaching.Leads.{stay, step}
-
-contains_cons : {X : Type 0} (xs : List X) (y x : X) → Contains xs x → Contains (y ∷ xs) x
-contains_cons xs y x at = (suc at.0, omega (arith, at.1), at.2)
 
 contains_map : {X Y : Type 0} (f : X → Y) (xs : List X) (x : X) → Contains xs x → Contains (map f xs) (f x)
 contains_map f xs x at = (at.0, omega (arith, at.1, length-map xs f), get_or-map f xs at.0 x ∙ ap f at.2)
@@ -26,7 +24,7 @@ from_map : {X Y : Type 0} (f : X → Y) → (xs : List X) (y : Y) (k : ℕ) → 
     → (x : X) × Contains xs x × (f x ≡ y)
 from_map f [] y k h is = absurd (omega arith)
 from_map f (x ∷ xs) y zero h is = (x, (0, omega arith, refl), is)
-from_map f (x ∷ xs) y (suc k) h is = let r = from_map f xs y k (omega arith) is in (r.0, contains_cons xs x r.0 r.1, r.2)
+from_map f (x ∷ xs) y (suc k) h is = let r = from_map f xs y k (omega arith) is in (r.0, behind_one x xs r.0 r.1, r.2)
 
 -- the names of a call are among those of all calls
 names_at : (calls : List Call) (call : Call) (k : ℕ) → k < length calls → get_or calls k call ≡ call
@@ -36,8 +34,8 @@ names_at (c ∷ cs) call zero h is =
     subst (λ (x : Call). Contains (names_of (c ∷ cs)) x.caller × Contains (names_of (c ∷ cs)) x.callee) is ((0, omega arith, refl), (1, omega arith, refl))
 names_at (c ∷ cs) call (suc k) h is =
     let r = names_at cs call k (omega arith) is in (
-      contains_cons (c.callee ∷ names_of cs) c.caller call.caller (contains_cons (names_of cs) c.callee call.caller r.0),
-      contains_cons (c.callee ∷ names_of cs) c.caller call.callee (contains_cons (names_of cs) c.callee call.callee r.1),
+      behind_one c.caller (c.callee ∷ names_of cs) call.caller (behind_one c.callee (names_of cs) call.caller r.0),
+      behind_one c.caller (c.callee ∷ names_of cs) call.callee (behind_one c.callee (names_of cs) call.callee r.1),
     )
 
 abbrev Found : List (List ℕ) → List ℕ → Option ℕ → ℕ → Type 0

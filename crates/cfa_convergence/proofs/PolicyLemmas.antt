@@ -12,7 +12,7 @@ use Rattle.cfa_base.specs.declared.limits.TheConstants.{MOST_SOURCE_BYTES}
 use Rattle.cfa_base.specs.declared.places.Place.{Place}
 use Rattle.cfa_base.specs.declared.places.PromiseId.{PromiseId}
 use Rattle.cfa_base.specs.Lexing.{is_word_byte}
-use Rattle.cfa_base.specs.lemmas.Lists.{none_left, none_right, none_in, one_empty, each_append, all_flat}
+use Rattle.cfa_base.specs.lemmas.Lists.{none_left, none_right, none_in, one_empty, each_append, all_flat, first_here, behind_one}
 use Rattle.cfa_bodies.specs.Bodies.{name_given}
 use Rattle.cfa_tree.specs.Tree.{ValueTree, text, word, reference, list_reference, list, call, AttributeTree, PromiseTree, SectionTree, NamedTree, BlockTree, bundle, body, PolicyTree}
 use Rattle.cfa_kinds.specs.declared.kinds.BundleType.{BundleType}
@@ -32,7 +32,7 @@ use Rattle.cfa_served.specs.lemmas.Promises.{second, seconds_in}
 use Rattle.cfa_schema.specs.Defined.{bundle_head, definitions_of}
 use Rattle.cfa_schema.specs.Laws.{Stands, in_promise, by_word, by_call, NamesBundle, by_name, by_text, NothingIsRefused, AgentBundleIsThere, IsWord, HasWordName, WordsLackNewlines, NamesAreWords, NamedBundleStands, CommonBundlesStand, CommonNamesAreWords, SequenceNamesAreWords, IsCounted, IdsAreCounted}
 use Rattle.cfa_served.specs.Served.{common_bundles_of}
-use Rattle.cfa_schema.specs.lemmas.Found.{word_bytes, first_here, behind_one, found, given}
+use Rattle.cfa_schema.specs.lemmas.Found.{word_bytes, found, given}
 use Rattle.cfa_schema.specs.Sourced.{IsSourced}
 use Rattle.cfa_schema.specs.Valid.{Valid, refusals, repeated_bodies_after, body_name, bundle_name, default_refusals, block_refusals, bundle_by, other_type}
 use Rattle.cfa_walk.specs.Numbered.{Numbered, numbered_as, numbered_from, numbered_in, name_of}

@@ -8,7 +8,7 @@ use Rattle.std.proofs.lemmas.Cmp.{nat_list_eq_equiv}
 use Rattle.std.proofs.lemmas.Map.Made.{is_member-Decides, length-le_from_is_member}
 use Rattle.std.proofs.lemmas.List.Elements.{All-contains, All-from_recursion, Contains-push, Contains-append_left, Contains-append_right}
 use Rattle.std.proofs.lemmas.List.{length-map}
-use Rattle.cfa_base.specs.lemmas.Lists.{each_append, each_weaker}
+use Rattle.cfa_base.specs.lemmas.Lists.{each_append, each_weaker, each_flat}
 use Rattle.cfa_tree.specs.Tree.{ValueTree, AttributeTree, PromiseTree, SectionTree, NamedTree, BlockTree, bundle, body, PolicyTree}
 use Rattle.cfa_kinds.specs.declared.kinds.BundleType.{BundleType}
 use Rattle.cfa_kinds.specs.declared.kinds.BundleType.TheVariants as bundles
@@ -69,10 +69,6 @@ module _ (calls : List Call) where
 -- ---- the callers are bundles
 
 module _ {X : Type 0} (P : X → Type 0) where
-  of_each : {Y : Type 0} (f : Y → List X) → ((y : Y) → AllByRecursion P (f y)) → (ys : List Y) → AllByRecursion P (flat_map f ys)
-  of_each f each [] = tt
-  of_each f each (y ∷ ys) = each_append P (f y) (flat_map f ys) (each y) (of_each f each ys)
-
   abbrev Holds : Option X → Type 0
   Holds None = ⊤
   Holds (Some x) = P x
@@ -105,7 +101,7 @@ by_promise name p = of_some (IsBy name) (call_in_attribute name) (by_attribute n
 
 by_type : (name : List ℕ) (type : Option PromiseType) (ps : List PromiseTree) → AllByRecursion (IsBy name) (calls_by_type name type ps)
 by_type name None ps = tt
-by_type name (Some promises.Methods) ps = of_each (IsBy name) (calls_in_promise name) (by_promise name) ps
+by_type name (Some promises.Methods) ps = each_flat (IsBy name) (calls_in_promise name) (by_promise name) ps
 by_type name (Some type) ps = tt
 
 by_section : (name : List ℕ) (s : SectionTree) → AllByRecursion (IsBy name) (calls_in_section name s)
@@ -116,7 +112,7 @@ names_of policy = map name_in (filter_map bundle_name policy)
 
 by_bundle : (name : List ℕ) (type : Option BundleType) (sections : List SectionTree) → AllByRecursion (IsBy name) (calls_in_bundle name type sections)
 by_bundle name None sections = tt
-by_bundle name (Some bundles.Agent) sections = of_each (IsBy name) (calls_in_section name) (by_section name) sections
+by_bundle name (Some bundles.Agent) sections = each_flat (IsBy name) (calls_in_section name) (by_section name) sections
 by_bundle name (Some type) sections = tt
 
 -- the calls of a bundle, where it makes some, and those of the bundles behind it

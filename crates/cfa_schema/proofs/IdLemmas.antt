@@ -10,7 +10,7 @@ use Rattle.std.proofs.lemmas.List.Elements.{All-append, All-cons, All-contains, 
 use Rattle.std.proofs.lemmas.Bool.{or_parts}
 use Rattle.cfa_base.specs.declared.places.Place.{Place}
 use Rattle.cfa_base.specs.declared.places.PromiseId.{PromiseId}
-use Rattle.cfa_base.specs.lemmas.Lists.{none_left, none_right}
+use Rattle.cfa_base.specs.lemmas.Lists.{none_left, none_right, first_here}
 use Rattle.cfa_tree.specs.Tree.{PromiseTree, SectionTree, NamedTree, BlockTree, bundle, body, PolicyTree}
 use Rattle.cfa_kinds.specs.declared.kinds.BundleType.{BundleType}
 use Rattle.cfa_kinds.specs.declared.kinds.PromiseType.{PromiseType}
@@ -25,7 +25,6 @@ use Rattle.cfa_schema.specs.Valid.{Valid, bundle_name, bundle_by, section_by, se
 use Rattle.cfa_schema.specs.Defined.{definitions_of}
 use Rattle.cfa_schema.specs.Laws.{ListedIdsAreFound, FoundIdsAreListed}
 use Rattle.cfa_served.specs.lemmas.Promises.{second, second_is, seconds_in}
-use Rattle.cfa_schema.specs.lemmas.Found.{first_here}
 use Rattle.cfa_schema.proofs.FactLemmas.{block_passes, names_pass}
 
 -- ---- an id that is found is in the list

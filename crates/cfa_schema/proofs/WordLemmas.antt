@@ -10,7 +10,7 @@ use Rattle.std.proofs.lemmas.List.Elements.{All-append, All-cons, All-contains, 
 use Rattle.cfa_base.specs.declared.limits.TheConstants.{MOST_SOURCE_BYTES}
 use Rattle.cfa_base.specs.declared.places.Place.{Place}
 use Rattle.cfa_base.specs.Lexing.{is_word_byte}
-use Rattle.cfa_base.specs.lemmas.Lists.{none_left, none_right, each_append}
+use Rattle.cfa_base.specs.lemmas.Lists.{none_left, none_right, each_append, first_here, behind_one}
 use Rattle.cfa_tree.specs.Tree.{ValueTree, list, AttributeTree, PromiseTree, SectionTree, NamedTree, BlockTree, bundle, body, PolicyTree}
 use Rattle.cfa_kinds.specs.declared.kinds.BodyType.TheVariants as bodies
 use Rattle.cfa_kinds.specs.declared.kinds.Kind.TheVariants as kinds
@@ -26,7 +26,7 @@ use Rattle.cfa_served.specs.Served.{is_bundle_of, if_bundle, bundle_of, is_commo
 use Rattle.cfa_schema.specs.Sourced.{IsSourced}
 use Rattle.cfa_schema.specs.Valid.{Valid}
 use Rattle.cfa_schema.specs.Laws.{of_body, IsWord, HasWordName, WordsLackNewlines, NamesAreWords, ParamsAreWords, LinesAreCounts, LinesAreFew, PromisesAreFew, NamedBundleStands, CommonBundlesStand, NamedBundleIsWord, CommonNamesAreWords, SequenceNamesAreWords, IsCounted, IdsAreCounted}
-use Rattle.cfa_schema.specs.lemmas.Found.{word_bytes, first_here, behind_one, IsFound, found, given}
+use Rattle.cfa_schema.specs.lemmas.Found.{word_bytes, IsFound, found, given}
 use Rattle.cfa_schema.proofs.FactLemmas.{nothing_is_refused}
 use Rattle.cfa_schema.proofs.SizeLemmas.{sourced_has_few}
 use Rattle.cfa_schema.proofs.SoundLemmas.{HasWord, StandsWithin, AllStandWithin, IsSoundBlock, IsSoundBundle, last_line, sourced_is_sound}

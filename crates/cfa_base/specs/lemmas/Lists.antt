@@ -5,6 +5,14 @@ use Rattle.std.specs.List.{AllByRecursion as Each, Contains, flat_map, position,
 use Rattle.std.proofs.lemmas.Iterator.Adapters.{position_from-zero}
 use Rattle.std.proofs.lemmas.List.Elements.{All-cons, All-contains, All-contains_itself, All-from_recursion, All-head, All-nil, All-weaker, Contains-append_left, Contains-append_right}
 
+-- ---- items of a list
+
+pub first_here : {X : Type 0} (x : X) (xs : List X) → Contains (x ∷ xs) x
+first_here x xs = All-head (Contains (x ∷ xs)) x xs (All-contains_itself (x ∷ xs))
+
+pub behind_one : {X : Type 0} (x : X) (xs : List X) (y : X) → Contains xs y → Contains (x ∷ xs) y
+behind_one x xs y has = Contains-append_right (x ∷ []) xs y has
+
 -- ---- parts of an empty list
 
 pub none_left : {X : Type 0} (xs ys : List X) → xs ++ ys ≡ [] → xs ≡ []
@@ -24,13 +32,17 @@ one_empty f xs x e has = All-contains (λ y. f y ≡ []) xs x (All-from_recursio
 
 pub none_in : {X : Type 0} → (xs : List X) → ((x : X) → Contains xs x → ⊥) → xs ≡ []
 none_in [] h = refl
-none_in (x ∷ xs) h = absurd (h x (All-head (Contains (x ∷ xs)) x xs (All-contains_itself (x ∷ xs))))
+none_in (x ∷ xs) h = absurd (h x (first_here x xs))
 
 -- ---- what holds of each item
 
 pub each_append : {X : Type 0} (P : X → Type 0) (xs ys : List X) → Each P xs → Each P ys → Each P (xs ++ ys)
 each_append P [] ys p q = q
 each_append P (x ∷ xs) ys p q = (p.0, each_append P xs ys p.1 q)
+
+pub each_flat : {X Y : Type 0} (P : Y → Type 0) (f : X → List Y) → ((x : X) → Each P (f x)) → (xs : List X) → Each P (flat_map f xs)
+each_flat P f each [] = tt
+each_flat P f each (x ∷ xs) = each_append P (f x) (flat_map f xs) (each x) (each_flat P f each xs)
 
 pub each_weaker : {X : Type 0} (P Q : X → Type 0) → ((x : X) → P x → Q x) → (xs : List X) → Each P xs → Each Q xs
 each_weaker P Q f [] all = tt

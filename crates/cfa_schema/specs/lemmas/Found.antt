@@ -6,8 +6,9 @@ use Rattle.std.specs.Str.{bytes_eq}
 use Rattle.std.proofs.lemmas.Bool.{and_parts}
 use Rattle.std.proofs.lemmas.Option.{none-some, same_Some}
 use Rattle.std.proofs.lemmas.Slice.Eq.{bytes_eq-Decides}
-use Rattle.std.proofs.lemmas.List.Elements.{All-cons, All-contains_itself, All-head, All-nil, Contains-append_right}
+use Rattle.std.proofs.lemmas.List.Elements.{All-cons, All-nil}
 use Rattle.cfa_base.specs.Lexing.{is_word_byte}
+use Rattle.cfa_base.specs.lemmas.Lists.{first_here, behind_one}
 use Rattle.cfa_tree.specs.Tree.{ValueTree, AttributeTree}
 use Rattle.cfa_values.specs.Attributes.{value_of}
 
@@ -18,12 +19,6 @@ word_bytes (b ∷ bs) h =
     All-cons (λ b. IsTrue (is_word_byte b)) b bs parts.0 (word_bytes bs parts.1)
 
 -- ---- items of a list
-
-pub first_here : {X : Type 0} (x : X) (xs : List X) → Contains (x ∷ xs) x
-first_here x xs = All-head (Contains (x ∷ xs)) x xs (All-contains_itself (x ∷ xs))
-
-pub behind_one : {X : Type 0} (x : X) (xs : List X) (y : X) → Contains xs y → Contains (x ∷ xs) y
-behind_one x xs y has = Contains-append_right (x ∷ []) xs y has
 
 pub record IsFound {X : Type 0} (test : X → Bool) (xs : List X) (x : X) : Type 0 where
   pub passes : test x ≡ true
