@@ -1,7 +1,8 @@
 -- What the promises of conflicts meet in.
 use Rattle.std.proofs.Common.{◌≡◌, ℕ, ◌+◌, ◌==◌, Bool, true, false, if◌then◌else◌, List, [], ◌∷◌, ◌++◌, map, Some, None, Option, sym, ap, subst}
 use Rattle.std.proofs.lemmas.Option.{none-some, same_Some}
-use Rattle.std.specs.List.{flat_map, filter}
+use Rattle.std.specs.List.{AllByRecursion, filter}
+use Rattle.cfa_base.specs.lemmas.Lists.{each_append, each_flat}
 use Rattle.cfa_acts.specs.declared.acts.Act.{Act}
 use Rattle.cfa_acts.specs.declared.acts.Act.TheVariants.{Create, MakeDir, Delete, Content, Copy, Edit, Perms, Start, Stop, Enable, Disable, Restart, Bust}
 use Rattle.cfa_acts.specs.Disturbs.{disturbs}
@@ -21,19 +22,13 @@ use Rattle.cfa_conflict.specs.declared.verdicts.Verdict.TheVariants as verdict
 use Rattle.cfa_conflict.specs.Conflicts.{resource_of, is_live, unsettled_conflict, restart_of, restarts_of, waits_for, unsure_by, unsure_at, undone, undone_by, undone_by_other, undone_by_later, is_visited_after, undone_in, undone_from, first_visit, conflicts_at, conflicts_from, conflicts, first_or_accepted, live_instances, verdict_of}
 use Rattle.cfa_conflict.specs.Analyses.{IsResource, presence, content, perms, running, enabled, restart, class, nothing, verdict_over, analysis_of, ConflictsMeet}
 
+abbrev HasResource : Conflict → Type 0
+HasResource c = IsResource c.resource
+
 abbrev Each : List Conflict → Type 0
-Each [] = Unit {0}
-Each (c ∷ cs) = IsResource c.resource × Each cs
+Each cs = AllByRecursion HasResource cs
 
 -- ---- lists
-
-each_both : (a b : List Conflict) → Each a → Each b → Each (a ++ b)
-each_both [] b x y = y
-each_both (c ∷ a) b x y = (x.0, each_both a b x.1 y)
-
-each_flat : {X : Type 0} (f : X → List Conflict) (xs : List X) → ((x : X) → Each (f x)) → Each (flat_map f xs)
-each_flat f [] h = tt
-each_flat f (x ∷ xs) h = each_both (f x) (flat_map f xs) (h x) (each_flat f xs h)
 
 each_map : {X : Type 0} (f : X → Conflict) (xs : List X) → ((x : X) → IsResource (f x).resource) → Each (map f xs)
 each_map f [] h = tt
@@ -93,11 +88,11 @@ undone_each : (instance other : Instance) (acts : List Act) (later : Act) → Ea
 undone_each instance other acts later = each_map (undone instance other) (filter (disturbs later) acts) resource_is
 
 other_each : (instance other : Instance) → Each (undone_by_other instance other)
-other_each instance other = each_flat (undone_by instance other (acts_of instance.work)) (acts_of other.work) (undone_each instance other (acts_of instance.work))
+other_each instance other = each_flat HasResource (undone_by instance other (acts_of instance.work)) (undone_each instance other (acts_of instance.work)) (acts_of other.work)
 
 later_each : (instance : Instance) (earlier later : List Act) → Each (undone_by_later instance earlier later)
 later_each instance earlier [] = tt
-later_each instance earlier (act ∷ later) = each_both (undone_by instance instance earlier act) (undone_by_later instance (earlier ++ act ∷ []) later)
+later_each instance earlier (act ∷ later) = each_append HasResource (undone_by instance instance earlier act) (undone_by_later instance (earlier ++ act ∷ []) later)
     (undone_each instance instance earlier act) (later_each instance (earlier ++ act ∷ []) later)
 
 undone_in_each : (visits : List Visit) (instance : Instance) (place : ℕ) (other_instance : Instance) (other : ℕ) → Each (undone_in visits instance place other_instance other)
@@ -106,25 +101,25 @@ undone_in_each visits instance place other_instance other = each_if (place == ot
 
 undone_from_each : (visits : List Visit) (instance : Instance) (place : ℕ) (others : List Instance) (from : ℕ) → Each (undone_from visits instance place others from)
 undone_from_each visits instance place [] from = tt
-undone_from_each visits instance place (other ∷ others) from = each_both (undone_in visits instance place other from) (undone_from visits instance place others (from + 1))
+undone_from_each visits instance place (other ∷ others) from = each_append HasResource (undone_in visits instance place other from) (undone_from visits instance place others (from + 1))
     (undone_in_each visits instance place other from) (undone_from_each visits instance place others (from + 1))
 
 -- ---- all conflicts
 
 at_each : (walk : Walk) (instance : Instance) (place : ℕ) → Each (conflicts_at walk instance place)
-at_each walk instance place = each_both (restarts_of instance) (unsure_at instance (first_visit walk.visits place) ++ undone_from walk.visits instance place walk.instances 0)
-    (each_flat (restart_of instance) (acts_of instance.work) (restart_each instance))
-    (each_both (unsure_at instance (first_visit walk.visits place)) (undone_from walk.visits instance place walk.instances 0)
+at_each walk instance place = each_append HasResource (restarts_of instance) (unsure_at instance (first_visit walk.visits place) ++ undone_from walk.visits instance place walk.instances 0)
+    (each_flat HasResource (restart_of instance) (restart_each instance) (acts_of instance.work))
+    (each_append HasResource (unsure_at instance (first_visit walk.visits place)) (undone_from walk.visits instance place walk.instances 0)
     (unsure_at_each instance (first_visit walk.visits place)) (undone_from_each walk.visits instance place walk.instances 0))
 
 from_each : (kept walk : Walk) (instances : List Instance) (from : ℕ) → Each (conflicts_from kept walk instances from)
 from_each kept walk [] from = tt
-from_each kept walk (instance ∷ instances) from = each_both (if is_live kept instance then conflicts_at walk instance from else []) (conflicts_from kept walk instances (from + 1))
+from_each kept walk (instance ∷ instances) from = each_append HasResource (if is_live kept instance then conflicts_at walk instance from else []) (conflicts_from kept walk instances (from + 1))
     (each_if (is_live kept instance) _ _ (at_each walk instance from) tt) (from_each kept walk instances (from + 1))
 
 all_each : (kept walk : Walk) → Each (conflicts kept walk)
 unfolding conflicts
-all_each kept walk = each_both (map unsettled_conflict walk.unsettled) (conflicts_from kept walk walk.instances 0)
+all_each kept walk = each_append HasResource (map unsettled_conflict walk.unsettled) (conflicts_from kept walk walk.instances 0)
     (each_map unsettled_conflict walk.unsettled (λ blame. class blame.class)) (from_each kept walk walk.instances 0)
 
 -- ---- the verdict
