@@ -5,6 +5,7 @@ pub mod EqualTexts
 pub mod Escapes
 pub mod Fronts
 pub mod Lists
+pub mod Order
 pub mod Scanning
 pub mod Spelled
 pub mod Taking

@@ -1,21 +1,14 @@
-use Rattle.std.proofs.Common.{◌≡◌, ℕ, ◌+◌, ◌<◌, ◌≤◌, Bool, true, false, not, length, get_or, take, List, [], ◌∷◌, ◌++◌, Option, Some, None, IfSome, IfNone, IsTrue, sym, ap, subst, refl, ◌∙◌, ◌↔◌, arith, ⊎_elim}
+use Rattle.std.proofs.Common.{◌≡◌, ℕ, ◌+◌, ◌<◌, ◌≤◌, Bool, true, false, not, length, get_or, take, List, [], ◌∷◌, ◌++◌, Option, Some, None, IfSome, IfNone, IsTrue, sym, ap, subst, refl, ◌∙◌, ◌↔◌, ⊎_elim}
 use Rattle.std.specs.List.{Contains}
 use Rattle.std.proofs.lemmas.List.Elements.{Contains-push_cases, Contains-push, Contains-append_left}
 use Rattle.std.proofs.lemmas.Bool.{false≢true, not-true}
-use Rattle.std.proofs.lemmas.Bool.Decides.{nat_tests}
 use Rattle.cfa_base.specs.declared.places.Place.{Place}
 use Rattle.std.proofs.lemmas.List.{take_more, take_all, map_push}
 use Rattle.cfa_calls.specs.declared.cycles.Call.{Call as CodeCall}
 use Rattle.cfa_base.specs.Order.{is_before, not_after}
+use Rattle.cfa_base.specs.lemmas.Order.{before_still, before_itself}
 use Rattle.cfa_calls.specs.Cycles.{Call, OnCycle, IsFirstOnCycle, NoneOnCycle, seen_call, seen_calls}
 use Rattle.cfa_calls.specs.Numbering.{FirstSoFar, may_be_first}
-
--- what is not before the later of two places is not before the sooner
-sooner_still : (p q r : Place) → is_before p q ≡ true → is_before r q ≡ false → is_before r p ≡ false
-sooner_still p q r before not_before = grind (arith, nat_tests)
-
-itself_not_before : (p : Place) → is_before p p ≡ false
-itself_not_before p = grind (arith, nat_tests)
 
 -- one call more: it comes later, it does not pass, or it is the new first
 pub first_later : (Passes : Call → Type 0) (calls : List Call) (call : Call) → (first : Option Place) → FirstSoFar Passes calls first → may_be_first call.place first ≡ false
@@ -52,15 +45,15 @@ first_takes Passes calls call None so_far e pass = (
   (call, Contains-push calls call, pass, refl),
   λ other at passes. ⊎_elim
       (λ (was : Contains calls other). absurd (so_far other was passes))
-      (λ (is : call ≡ other). subst (λ (x : Call). not (is_before x.place call.place) ≡ true) is (ap not (itself_not_before call.place)))
+      (λ (is : call ≡ other). subst (λ (x : Call). not (is_before x.place call.place) ≡ true) is (ap not (before_itself call.place)))
       (Contains-push_cases calls call other at),
 )
 first_takes Passes calls call (Some place) so_far e pass = (
   (call, Contains-push calls call, pass, refl),
   λ other at passes. ⊎_elim
       (λ (was : Contains calls other).
-      ap not (sooner_still call.place place other.place e (not_before place other.place (so_far.1 other was passes))))
-      (λ (is : call ≡ other). subst (λ (x : Call). not (is_before x.place call.place) ≡ true) is (ap not (itself_not_before call.place)))
+      ap not (before_still call.place place other.place e (not_before place other.place (so_far.1 other was passes))))
+      (λ (is : call ≡ other). subst (λ (x : Call). not (is_before x.place call.place) ≡ true) is (ap not (before_itself call.place)))
       (Contains-push_cases calls call other at),
 )
 

@@ -10,15 +10,10 @@ use Rattle.cfa_base.specs.declared.places.Place.{Place}
 use Rattle.cfa_values.specs.declared.refusals.Refusal.{Refusal}
 use Rattle.cfa_base.specs.Order.{is_before}
 use Rattle.cfa_base.specs.lemmas.Truths.{and_false}
+use Rattle.cfa_base.specs.lemmas.Order.{before_still, before_itself}
 use Rattle.cfa_values.specs.declared.refusals.Code.{Code}
 use Rattle.cfa_values.specs.declared.refusals.Code.TheVariants.{UnknownType, TypeOutOfScope, UnknownAttribute, WrongValue, UnknownBody, UnknownBundle, ArgumentCount, Duplicate, CallCycle, NoSequence, BadClassText, ReferenceOutOfScope, BadPattern}
 use Rattle.cfa_values.specs.Refusals.{number_of, is_same_place, is_sooner, sooner, noted}
-
-before_still : (p q r : Place) → is_before p q ≡ true → is_before r q ≡ false → is_before r p ≡ false
-before_still p q r before not_before = grind (arith, nat_tests)
-
-before_itself : (p : Place) → is_before p p ≡ false
-before_itself p = grind (arith, nat_tests)
 
 same_number : (m n : ℕ) → (m == n) ≡ true → m ≡ n
 same_number m n e = grind (arith, nat_tests)
