@@ -2,7 +2,7 @@
 use Rattle.std.proofs.Common.{◌≡◌, ℕ, ◌+◌, ◌-◌, ◌<◌, ◌≤◌, true, false, List, [], ◌∷◌, ◌++◌, length, map, Some, None, refl, sym, ap, ◌∙◌, arith, ⊎_elim, zero, suc}
 use Rattle.std.specs.Prelude.{◌==◌, if◌then◌else◌, slice_set, encode_utf8, encode_utf8_all}
 use Rattle.std.specs.List.{slice_split, onto_first, flat_map}
-use Rattle.std.proofs.lemmas.Bool.{cases_Bool, cond-true, cond-false, lt-ltb, le-ltb}
+use Rattle.std.proofs.lemmas.Bool.{cases_Bool, cond-true, cond-false, lt-ltb, le-ltb, eqb-true, eq-eqb}
 use Rattle.std.proofs.lemmas.Bool.Decides.{nat_tests}
 use Rattle.std.proofs.lemmas.List.{append_assoc, length-map}
 use Rattle.std.specs.List.{count_by}
@@ -54,23 +54,17 @@ texts_in : (separator c : ℕ) (cs first : List ℕ) (more : List (List ℕ)) �
 texts_in separator c cs first more p other =
     ap (map encode_utf8_all) (cond-false (c == separator) ([] ∷ parts_of separator cs) (onto_first c (parts_of separator cs)) other ∙ ap (onto_first c) p.are)
 
-same_char : (c d : ℕ) → (c == d) ≡ true → c ≡ d
-same_char c d here = grind (arith, nat_tests)
-
 not_same : (k n : ℕ) → n < k → (k == n) ≡ false
 not_same k n lt = grind (arith, nat_tests)
 
 not_yet : (k n : ℕ) → k < n → (k == n) ≡ false
 not_yet k n lt = grind (arith, nat_tests)
 
-is_same : (k : ℕ) → (k == k) ≡ true
-is_same k = grind (arith, nat_tests)
-
 -- the two ways to write one character on
 at_separator : (separator n : ℕ) (value : List ℕ) (k c : ℕ) (cs : List ℕ) → (c == separator) ≡ true
     → written_from separator n value k (c ∷ cs) ≡ encode_utf8 separator ++ ((if k + 1 == n then value else []) ++ written_from separator n value (k + 1) cs)
 at_separator separator n value k c cs here =
-    cond-true (c == separator) _ _ here ∙ ap (λ d. encode_utf8 d ++ ((if k + 1 == n then value else []) ++ written_from separator n value (k + 1) cs)) (same_char c separator here)
+    cond-true (c == separator) _ _ here ∙ ap (λ d. encode_utf8 d ++ ((if k + 1 == n then value else []) ++ written_from separator n value (k + 1) cs)) (eqb-true c separator here)
 
 in_field : (separator n : ℕ) (value : List ℕ) (k c : ℕ) (cs : List ℕ) → (c == separator) ≡ false
     → written_from separator n value k (c ∷ cs) ≡ (if k == n then [] else encode_utf8 c) ++ written_from separator n value k cs
@@ -118,7 +112,7 @@ inside separator n value (c ∷ cs) first more q =
     let e : onto_first c (p.0 ∷ p.1) ≡ first ∷ more = ap (onto_first c) (sym p.2.are) ∙ sym (cond-false (c == separator) ([] ∷ parts_of separator cs) (onto_first c (parts_of separator cs)) other) ∙ q.are in
     let same : p.1 ≡ more = cc in
     in_field separator n value n c cs other
-    ∙ ap (λ b. (if b then [] else encode_utf8 c) ++ written_from separator n value n cs) (is_same n)
+    ∙ ap (λ b. (if b then [] else encode_utf8 c) ++ written_from separator n value n cs) (eq-eqb n n refl)
     ∙ inside separator n value cs p.0 p.1 p.2
     ∙ ap (λ ms. behind separator (map encode_utf8_all ms)) same)
     (cases_Bool (c == separator))
@@ -133,7 +127,7 @@ below separator n value k zero (c ∷ cs) e =
     ⊎_elim
     (λ here. at_separator separator n value k c cs here
     ∙ ap (λ i. encode_utf8 separator ++ ((if i == n then value else []) ++ written_from separator n value i cs)) next
-    ∙ ap (λ b. encode_utf8 separator ++ ((if b then value else []) ++ written_from separator n value n cs)) (is_same n)
+    ∙ ap (λ b. encode_utf8 separator ++ ((if b then value else []) ++ written_from separator n value n cs)) (eq-eqb n n refl)
     ∙ ap (λ x. encode_utf8 separator ++ (value ++ x)) (inside separator n value cs p.0 p.1 p.2)
     ∙ sym (joined_next separator value (map encode_utf8_all p.1))
     ∙ ap (λ fields. joined_fields separator (slice_set ([] ∷ fields) 1 value)) (sym (texts_are separator cs p.0 p.1 p.2))

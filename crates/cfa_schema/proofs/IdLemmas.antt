@@ -7,7 +7,7 @@ use Rattle.std.proofs.lemmas.Slice.Eq.{bytes_eq-Decides}
 use Rattle.std.proofs.lemmas.Bool.Decides.{nat_tests}
 use Rattle.std.proofs.lemmas.List.{length-append}
 use Rattle.std.proofs.lemmas.List.Elements.{All-append, All-cons, All-contains, All-contains_itself, All-get_or, All-head, All-map, All-nil, All-tail, All-weaker, Contains-append_left, Contains-append_right}
-use Rattle.std.proofs.lemmas.Bool.{or_parts}
+use Rattle.std.proofs.lemmas.Bool.{or_parts, eq-eqb}
 use Rattle.cfa_base.specs.declared.places.Place.{Place}
 use Rattle.cfa_base.specs.declared.places.PromiseId.{PromiseId}
 use Rattle.cfa_base.specs.lemmas.Lists.{none_left, none_right, first_here}
@@ -108,9 +108,6 @@ get_behind : {X : Type 0} (before : List X) (x : X) (after : List X) → slice_g
 get_behind [] x after = refl
 get_behind (y ∷ before) x after = get_behind before x after
 
-same_line : (n : ℕ) → (n == n) ≡ true
-same_line n = grind (arith, nat_tests)
-
 is_counted : (n : ℕ) → nat_lt 0 (n + 1) ≡ true
 is_counted n = grind (arith, nat_tests)
 
@@ -129,7 +126,7 @@ ids_stand name before (x ∷ after) all e typed =
         found = x;
         counted = is_counted (length before);
         here = ap (λ n. slice_get all n) number ∙ ap (λ (xs : List Worded). slice_get xs (length before)) e ∙ get_behind before x after;
-        line = same_line x.1.place.line;
+        line = eq-eqb x.1.place.line x.1.place.line refl;
         has_type = All-head HasType x after typed;
       },
     )

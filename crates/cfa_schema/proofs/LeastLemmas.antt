@@ -5,7 +5,7 @@ use Rattle.std.specs.List.{Contains}
 use Rattle.std.proofs.lemmas.List.Elements.{Contains-push_cases, Contains-push, Contains-append_left}
 use Rattle.std.proofs.lemmas.List.{append-nil}
 use Rattle.std.proofs.lemmas.Bool.Decides.{nat_tests}
-use Rattle.std.proofs.lemmas.Bool.{and_parts, or_parts}
+use Rattle.std.proofs.lemmas.Bool.{and_parts, or_parts, eqb-true}
 use Rattle.cfa_base.specs.declared.places.Place.{Place}
 use Rattle.cfa_values.specs.declared.refusals.Refusal.{Refusal}
 use Rattle.cfa_base.specs.Order.{is_before}
@@ -15,16 +15,13 @@ use Rattle.cfa_values.specs.declared.refusals.Code.{Code}
 use Rattle.cfa_values.specs.declared.refusals.Code.TheVariants.{UnknownType, TypeOutOfScope, UnknownAttribute, WrongValue, UnknownBody, UnknownBundle, ArgumentCount, Duplicate, CallCycle, NoSequence, BadClassText, ReferenceOutOfScope, BadPattern}
 use Rattle.cfa_values.specs.Refusals.{number_of, is_same_place, is_sooner, sooner, noted}
 
-same_number : (m n : ℕ) → (m == n) ≡ true → m ≡ n
-same_number m n e = grind (arith, nat_tests)
-
 same_is : (p q : Place) → is_same_place p q ≡ true → p ≡ q
 same_is p q e =
     let first = and_parts (p.file == q.file) ((p.line == q.line) && (p.col == q.col)) e in
     let second = and_parts (p.line == q.line) (p.col == q.col) first.1 in
-    let files = same_number p.file q.file first.0 in
-    let lines = same_number p.line q.line second.0 in
-    let cols = same_number p.col q.col second.1 in
+    let files = eqb-true p.file q.file first.0 in
+    let lines = eqb-true p.line q.line second.0 in
+    let cols = eqb-true p.col q.col second.1 in
     λ i. record { file = files i; line = lines i; col = cols i }
 
 -- of three refusals, two tests tell the third: each is a test of places, a test that they are the same, and a test of codes

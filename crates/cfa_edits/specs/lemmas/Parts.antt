@@ -2,7 +2,7 @@
 use Rattle.std.proofs.Common.{◌≡◌, ◌≢◌, ℕ, ◌+◌, ◌<◌, ◌^◌, ◌%◌, true, false, List, [], ◌∷◌, map, refl, sym, ap, ◌∙◌, arith, eqb, All, nat_eq}
 use Rattle.std.specs.Fmt.{decimal}
 use Rattle.std.specs.List.{join_with_byte, slice_split, list_all}
-use Rattle.std.proofs.lemmas.Bool.{ne_eqb, true≢false, and_parts}
+use Rattle.std.proofs.lemmas.Bool.{ne_eqb, true≢false, and_parts, eq-eqb}
 use Rattle.std.proofs.lemmas.Bool.Decides.{nat_tests}
 use Rattle.std.proofs.lemmas.Fmt.{decimal_by_steps}
 use Rattle.std.proofs.lemmas.List.Elements.{All-nil, All-cons, All-head, All-tail, All-append, All-push, All-weaker}
@@ -22,13 +22,10 @@ clash m n differ e = grind (arith, nat_tests)
 split_at : (c : ℕ) (text : List ℕ) → Lacks c text → All (λ b. eqb b c ≡ false) text
 split_at c text none = All-weaker (λ b. b ≢ c) (λ b. eqb b c ≡ false) (λ b ne. ne_eqb b c ne) text none
 
-itself : (c : ℕ) → eqb c c ≡ true
-itself c = grind (arith, nat_tests)
-
 split_joined : (c : ℕ) (text : List ℕ) (texts : List (List ℕ)) → All (Lacks c) (text ∷ texts) → slice_split (λ b. eqb b c) (join_with_byte c (text ∷ texts)) ≡ text ∷ texts
 split_joined c text [] all = slice_split_none (λ b. eqb b c) text (split_at c text (All-head (Lacks c) text [] all))
 split_joined c text (next ∷ texts) all =
-    slice_split_at (λ b. eqb b c) text c (join_with_byte c (next ∷ texts)) (split_at c text (All-head (Lacks c) text (next ∷ texts) all)) (itself c)
+    slice_split_at (λ b. eqb b c) text c (join_with_byte c (next ∷ texts)) (split_at c text (All-head (Lacks c) text (next ∷ texts) all)) (eq-eqb c c refl)
     ∙ ap (λ parts. text ∷ parts) (split_joined c next texts (All-tail (Lacks c) text (next ∷ texts) all))
 
 pub joined_tells : (c : ℕ) (text other : List ℕ) (texts others : List (List ℕ)) → All (Lacks c) (text ∷ texts) → All (Lacks c) (other ∷ others)
