@@ -1,7 +1,7 @@
 -- The patterns that a classes promise builds: where an expression of it, in one of its combinations, is a call, the text that this
 -- call builds. An expression is the value of `expression`, else of `not`, else an item of `and`, else an item of `or`.
 use Rattle.std.specs.Prelude.{ℕ, List, [], ◌∷◌, codes, Contains, Option, Some, None, unwrap_or}
-use Rattle.cfa_tree.specs.Tree.{ValueTree, text, word, reference, list_reference, list, call, ValueTrees, no_value, more_values, PromiseTree}
+use Rattle.cfa_tree.specs.Tree.{ValueTree, text, word, reference, list_reference, list, call, values_in, PromiseTree}
 use Rattle.cfa_values.specs.Attributes.{value_of}
 use Rattle.cfa_vars.specs.Scopes.{InScope}
 use Rattle.cfa_vars.specs.Expansion.{Chosen}
@@ -15,10 +15,6 @@ pattern_of_value scopes choice (reference name place) = None
 pattern_of_value scopes choice (list_reference name place) = None
 pattern_of_value scopes choice (list items place) = None
 pattern_of_value scopes choice (call name arguments place) = pattern_of_call scopes choice name arguments
-
-abbrev pub values_in : ValueTrees → List ValueTree
-values_in no_value = []
-values_in (more_values value rest) = value ∷ values_in rest
 
 abbrev pub expressions_by : (expression negation conjunction disjunction : Option ValueTree) → List ValueTree
 expressions_by (Some value) negation conjunction disjunction = value ∷ []

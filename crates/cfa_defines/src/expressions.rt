@@ -5,12 +5,12 @@ ghost use Rattle.cfa_classes.specs.Raised.{greater_in};
 ghost use Rattle.cfa_functions.specs.Builds.{IsBuilt, pattern_of_call, refused_in};
 ghost use Rattle.cfa_functions.specs.Calls.{answer_of};
 ghost use Rattle.cfa_tree.specs.Plain.{plain_promise, plain_value};
-ghost use Rattle.cfa_tree.specs.Tree.{value_trees};
+ghost use Rattle.cfa_tree.specs.Tree.{value_trees, values_in};
 ghost use Rattle.cfa_vars.specs.Scopes.{look};
 ghost use Rattle.cfa_defines.specs.OwnTexts.{held_list};
 ghost use Rattle.cfa_defines.specs.Items.{items_or_none, items_written};
 ghost use Rattle.cfa_defines.specs.ClassPromises.{answer_said, given_said, text_said, joined};
-ghost use Rattle.cfa_defines.specs.Builds.{BuiltAmong, pattern_of_value, values_in, expressions_of};
+ghost use Rattle.cfa_defines.specs.Builds.{BuiltAmong, pattern_of_value, expressions_of};
 ghost use Rattle.cfa_defines.specs.Joining.{operation, together};
 ghost use Rattle.cfa_defines.specs.SeenContexts.{variables_of, status_of, value_in, item_in, items_in, list_in, expressed_in};
 

@@ -5,7 +5,7 @@ use Rattle.std.specs.List.{Contains, flat_map, filter_map}
 use Rattle.std.proofs.lemmas.Bool.Decides.{nat_tests}
 use Rattle.cfa_base.specs.declared.places.Place.{Place}
 use Rattle.cfa_base.specs.lemmas.Lists.{none_left, none_right, one_empty, none_in}
-use Rattle.cfa_tree.specs.Tree.{ValueTree, AttributeTree, PromiseTree, SectionTree, BlockTree, bundle, body, PolicyTree}
+use Rattle.cfa_tree.specs.Tree.{ValueTree, AttributeTree, PromiseTree, SectionTree, BlockTree, bundle, body, PolicyTree, values_in}
 use Rattle.cfa_kinds.specs.declared.kinds.BundleType.{BundleType}
 use Rattle.cfa_kinds.specs.declared.kinds.BundleType.TheVariants as bundles
 use Rattle.cfa_kinds.specs.declared.kinds.PromiseType.{PromiseType}
@@ -17,7 +17,7 @@ use Rattle.cfa_values.specs.declared.refusals.Code.{Code}
 use Rattle.cfa_values.specs.declared.refusals.Code.TheVariants.{WrongValue, TypeOutOfScope, ArgumentCount, UnknownBundle}
 use Rattle.cfa_values.specs.Refusals.{only_if}
 use Rattle.cfa_values.specs.Definitions.{BundleHead, BodyHead, bundle_named, body_named}
-use Rattle.cfa_values.specs.Values.{Setting, text_scope, value_count, values_in, item_refusals, body_found, body_refusals, bundle_found, is_type, edit_refusals, is_known, named_by_text, method_refusals, value_refusals, repeated}
+use Rattle.cfa_values.specs.Values.{Setting, text_scope, value_count, item_refusals, body_found, body_refusals, bundle_found, is_type, edit_refusals, is_known, named_by_text, method_refusals, value_refusals, repeated}
 use Rattle.cfa_values.specs.Attributes.{attribute_name, attribute_by, attribute_refusals, attributes_refusals, value_of}
 use Rattle.cfa_served.specs.Control.{control_of}
 use Rattle.cfa_schema.specs.Defined.{definitions_of}

@@ -11,13 +11,13 @@ use Rattle.cfa_base.specs.declared.limits.TheConstants.{MOST_SOURCE_BYTES}
 use Rattle.cfa_base.specs.declared.places.Place.{Place}
 use Rattle.cfa_base.specs.Lexing.{is_word_byte}
 use Rattle.cfa_base.specs.lemmas.Lists.{none_left, none_right, each_append, first_here, behind_one}
-use Rattle.cfa_tree.specs.Tree.{ValueTree, list, AttributeTree, PromiseTree, SectionTree, NamedTree, BlockTree, bundle, body, PolicyTree}
+use Rattle.cfa_tree.specs.Tree.{ValueTree, list, AttributeTree, PromiseTree, SectionTree, NamedTree, BlockTree, bundle, body, PolicyTree, values_in}
 use Rattle.cfa_kinds.specs.declared.kinds.BodyType.TheVariants as bodies
 use Rattle.cfa_kinds.specs.declared.kinds.Kind.TheVariants as kinds
 use Rattle.cfa_kinds.specs.Kinds.{bundle_type, body_type, body_attribute, common_attribute}
 use Rattle.cfa_values.specs.Scope.{in_body}
 use Rattle.cfa_values.specs.Definitions.{BundleHead, bundle_named}
-use Rattle.cfa_values.specs.Values.{Setting, values_in, known_items, known_item_refusals, name_in, repeated, in_sequence_refusals, sequence_item_refusals, sequence_refusals}
+use Rattle.cfa_values.specs.Values.{Setting, known_items, known_item_refusals, name_in, repeated, in_sequence_refusals, sequence_item_refusals, sequence_refusals}
 use Rattle.cfa_values.specs.Attributes.{attribute_by, value_of}
 use Rattle.cfa_served.specs.Checked.{promises_of, ids_from, ids_in_block, promise_ids_of, promise_count, HasFew}
 use Rattle.cfa_served.specs.Control.{is_control, control_of, names_listed, names_given, sequence_of}

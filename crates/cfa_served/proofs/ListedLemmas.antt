@@ -4,15 +4,12 @@ use Rattle.std.specs.List.{filter_map}
 use Rattle.cfa_base.specs.declared.places.Place.{Place}
 use Rattle.cfa_tree.specs.declared.values.Value.{Value}
 use Rattle.cfa_tree.specs.Plain.{plain_value}
-use Rattle.cfa_tree.specs.Tree.{ValueTree, list, value_trees}
+use Rattle.cfa_tree.specs.Tree.{list, value_trees}
+use Rattle.cfa_tree.specs.lemmas.Rows.{values_in_trees}
 use Rattle.cfa_values.specs.declared.items.Item.{Item}
 use Rattle.cfa_values.specs.Kept.{item_name, seen_item}
-use Rattle.cfa_values.specs.Values.{known_named, values_in, name_in}
+use Rattle.cfa_values.specs.Values.{known_named, name_in}
 use Rattle.cfa_served.specs.Control.{names_listed}
-
-values_in_trees : (vs : List ValueTree) → values_in (value_trees vs) ≡ vs
-values_in_trees [] = refl
-values_in_trees (v ∷ vs) = ap (λ rest. v ∷ rest) (values_in_trees vs)
 
 names_seen : (items : List Item) → map item_name items ≡ map name_in (map seen_item items)
 names_seen [] = refl

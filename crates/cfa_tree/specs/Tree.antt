@@ -72,3 +72,8 @@ expr_trees (e ∷ es) = more_exprs e (expr_trees es)
 abbrev pub value_trees : List ValueTree → ValueTrees
 value_trees [] = no_value
 value_trees (v ∷ vs) = more_values v (value_trees vs)
+
+-- the values of a list or of a call's arguments, as a list
+abbrev pub values_in : ValueTrees → List ValueTree
+values_in no_value = []
+values_in (more_values v vs) = v ∷ values_in vs

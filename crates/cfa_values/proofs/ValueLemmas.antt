@@ -7,18 +7,15 @@ use Rattle.std.proofs.lemmas.List.{length-map, drop_more}
 use Rattle.cfa_base.specs.declared.places.Place.{Place}
 use Rattle.cfa_tree.specs.declared.values.Value.{Value}
 use Rattle.cfa_tree.specs.Plain.{plain_value}
-use Rattle.cfa_tree.specs.Tree.{ValueTree, value_trees}
+use Rattle.cfa_tree.specs.Tree.{ValueTree, value_trees, values_in}
+use Rattle.cfa_tree.specs.lemmas.Rows.{values_in_trees}
 use Rattle.cfa_kinds.specs.declared.functions.Function.{Function}
 use Rattle.cfa_values.specs.declared.refusals.Refusal.{Refusal}
 use Rattle.cfa_kinds.specs.Functions.{function_named, answers_class, takes_count, takes_list}
-use Rattle.cfa_values.specs.Values.{values_in, Setting, value_count, called, call_refusals, argument_refusals, arguments_refusals}
+use Rattle.cfa_values.specs.Values.{Setting, value_count, called, call_refusals, argument_refusals, arguments_refusals}
 use Rattle.cfa_values.specs.Refusals.{noted, only_if}
 use Rattle.cfa_values.specs.Noted.{noted_both, then_noted}
 use Rattle.cfa_values.specs.declared.refusals.Code.TheVariants.{WrongValue, ArgumentCount}
-
-pub values_are : (vs : List ValueTree) → values_in (value_trees vs) ≡ vs
-values_are [] = refl
-values_are (v ∷ vs) = ap (λ ws. v ∷ ws) (values_are vs)
 
 pub count_is : (vs : List ValueTree) → value_count (value_trees vs) ≡ length vs
 count_is [] = refl
@@ -30,7 +27,7 @@ counted xs = count_is (map plain_value xs) ∙ length-map xs plain_value
 -- what is noted of the items of a list
 pub listed : (old new : Option Refusal) (rule : ValueTree → List Refusal) (xs : List Value) → new ≡ noted old (flat_map rule (map plain_value xs)) →
     new ≡ noted old (flat_map rule (values_in (value_trees (map plain_value xs))))
-listed old new rule xs e = e ∙ ap (λ vs. noted old (flat_map rule vs)) (sym (values_are (map plain_value xs)))
+listed old new rule xs e = e ∙ ap (λ vs. noted old (flat_map rule vs)) (sym (values_in_trees (map plain_value xs)))
 
 -- what is noted of a call by the number of its arguments, and then of these
 pub named_call : (old mid new : Option Refusal) (by_count : ℕ → List Refusal) (rule : ValueTree → List Refusal) (xs : List Value) →
@@ -79,7 +76,7 @@ call_known s wants_class name arguments place found f answers takes n is a w t =
 -- what is noted of the items of a list as a whole
 pub listed_whole : (old new : Option Refusal) (whole : List ValueTree → List Refusal) (xs : List Value) → new ≡ noted old (whole (map plain_value xs)) →
     new ≡ noted old (whole (values_in (value_trees (map plain_value xs))))
-listed_whole old new whole xs e = e ∙ ap (λ vs. noted old (whole vs)) (sym (values_are (map plain_value xs)))
+listed_whole old new whole xs e = e ∙ ap (λ vs. noted old (whole vs)) (sym (values_in_trees (map plain_value xs)))
 
 -- the same, where their number was noted before
 pub counted_whole : (old mid new : Option Refusal) (by_count : ℕ → List Refusal) (whole : List ValueTree → List Refusal) (xs : List Value) →

@@ -5,7 +5,7 @@ use Rattle.std.specs.Prelude.{ℕ, Bool, true, false, ◌||◌, ◌&&◌, List, 
 use Rattle.std.specs.List.{filter_map, flat_map}
 use Rattle.cfa_base.specs.declared.limits.TheConstants.{MOST_INPUTS}
 use Rattle.cfa_base.specs.declared.places.Place.{Place}
-use Rattle.cfa_tree.specs.Tree.{ValueTree, text, word, reference, list_reference, list, call, ValueTrees, no_value, more_values, NamedTree}
+use Rattle.cfa_tree.specs.Tree.{ValueTree, text, word, reference, list_reference, list, call, ValueTrees, no_value, more_values, values_in, NamedTree}
 use Rattle.cfa_vars.specs.References.{list_reference_of}
 use Rattle.cfa_kinds.specs.declared.kinds.BundleType.{BundleType}
 use Rattle.cfa_kinds.specs.declared.kinds.BundleType.TheVariants.{Agent, Common, EditLine}
@@ -37,11 +37,6 @@ abbrev pub known_named : ValueTree → Option NamedTree
 known_named (text content place) = if is_known content then Some (record { name = content; place = place }) else None
 known_named (word name place) = Some (record { name = name; place = place })
 known_named v = None
-
--- the values of a list or of a call's arguments, as a list
-abbrev pub values_in : ValueTrees → List ValueTree
-values_in no_value = []
-values_in (more_values v vs) = v ∷ values_in vs
 
 abbrev pub name_in : NamedTree → List ℕ
 name_in n = n.name

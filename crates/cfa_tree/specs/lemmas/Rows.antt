@@ -1,5 +1,5 @@
--- What a variant with a `Vec` is as a tree, by the items of that `Vec`.
-use Rattle.std.proofs.Common.{◌≡◌, ℕ, List, refl, ap, ◌∙◌, map}
+-- What a variant with a `Vec` is as a tree, by the items of that `Vec`; and the values of the tree of a list.
+use Rattle.std.proofs.Common.{◌≡◌, ℕ, List, [], ◌∷◌, refl, ap, ◌∙◌, map}
 use Rattle.std.specs.declared.alloc.Global.{Global}
 use Rattle.std.specs.declared.boxed.Box.{Box}
 use Rattle.std.specs.declared.vec.Vec.{Vec}
@@ -9,7 +9,7 @@ use Rattle.cfa_tree.specs.declared.expressions.Expr.TheBlock.{hidden-the_row-Exp
 use Rattle.cfa_tree.specs.declared.values.Value.{Value, List as Listed, Call as Called, Row_of-Value, end_of-Value, more_of-Value, items-the_row-Value, items_hidden-the_row-Value-0}
 use Rattle.cfa_tree.specs.declared.values.Value.TheBlock.{hidden-the_row-Value-0}
 use Rattle.cfa_tree.specs.Plain.{plain_expr, plain_exprs, plain_value, plain_values}
-use Rattle.cfa_tree.specs.Tree.{negated, all_of, one_of, more_exprs, expr_trees, list, call, more_values, value_trees}
+use Rattle.cfa_tree.specs.Tree.{ValueTree, negated, all_of, one_of, more_exprs, expr_trees, list, call, more_values, value_trees, values_in}
 
 pub plain_exprs-row : {m : _} (row : Row_of-Expr m) → plain_exprs row ≡ expr_trees (map plain_expr (items-the_row-Expr m row))
 plain_exprs-row end_of-Expr = refl
@@ -26,6 +26,10 @@ plain_expr-Or parts =
 pub plain_values-row : {m : _} (row : Row_of-Value m) → plain_values row ≡ value_trees (map plain_value (items-the_row-Value m row))
 plain_values-row end_of-Value = refl
 plain_values-row (more_of-Value v rest) = ap (more_values (plain_value v)) (plain_values-row rest)
+
+pub values_in_trees : (vs : List ValueTree) → values_in (value_trees vs) ≡ vs
+values_in_trees [] = refl
+values_in_trees (v ∷ vs) = ap (λ rest. v ∷ rest) (values_in_trees vs)
 
 pub plain_value-List : (items : Vec Value Global) (place : Place) → plain_value (Listed items place) ≡ list (value_trees (map plain_value items.items)) place
 plain_value-List items place =
