@@ -1,5 +1,6 @@
 pub mod Causes
 pub mod Keys
+pub mod Lacking
 pub mod Shown
 pub mod Lexing
 pub mod Tokens

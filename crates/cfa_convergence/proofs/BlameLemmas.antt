@@ -30,7 +30,7 @@ use Rattle.cfa_convergence.specs.Conflicts.{is_same}
 use Rattle.cfa_convergence.specs.Keys.{AreAlike, KeysTellWorks}
 use Rattle.cfa_convergence.proofs.LevelLemmas.{IsCall}
 use Rattle.cfa_convergence.proofs.NameLemmas.{names_of}
-use Rattle.cfa_edits.specs.lemmas.Parts.{Lacks}
+use Rattle.cfa_base.specs.Lacking.{Lacks}
 use Rattle.cfa_convergence.proofs.SourceLemmas.{IsGiven, AreSourced, raise_sourced, begin_sourced}
 
 -- ---- paths of calls

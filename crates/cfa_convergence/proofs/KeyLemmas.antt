@@ -25,7 +25,8 @@ use Rattle.cfa_resolve.specs.declared.instances.Work.TheVariants.{Acts, Call, Re
 use Rattle.cfa_resolve.specs.KeyTexts.{fields_after, octal_digit, mode_text, mode_field, names_field, yes_or_no, act_text, work_text, classes_text, key_text}
 use Rattle.cfa_laws.specs.Keys.{IsMode, IsGiven, AreGiven, IsPlainId}
 use Rattle.cfa_convergence.specs.Keys.{AreAlike, KeysTellWorks}
-use Rattle.cfa_edits.specs.lemmas.Parts.{Lacks, clash, joined_tells, lacks_joined, IsSeparator, lacks_word, lacks_escaped, all_escaped, lacks_decimal, all_tell, comma}
+use Rattle.cfa_base.specs.Lacking.{Lacks}
+use Rattle.cfa_edits.specs.lemmas.Parts.{clash, joined_tells, lacks_joined, IsSeparator, lacks_word, lacks_escaped, all_escaped, lacks_decimal, all_tell, comma}
 use Rattle.cfa_rows.specs.lemmas.Cuts.{one_cut}
 use Rattle.cfa_convergence.proofs.PartLemmas.{lacks_led, semicolon, space, asterisk}
 

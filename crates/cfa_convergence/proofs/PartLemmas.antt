@@ -2,7 +2,8 @@
 use Rattle.std.proofs.Common.{◌≢◌, ℕ, List, [], ◌∷◌, refl, arith, All}
 use Rattle.std.specs.List.{flat_map}
 use Rattle.std.proofs.lemmas.List.Elements.{All-nil, All-cons, All-head, All-tail, All-append}
-use Rattle.cfa_edits.specs.lemmas.Parts.{Lacks, IsSeparator}
+use Rattle.cfa_base.specs.Lacking.{Lacks}
+use Rattle.cfa_edits.specs.lemmas.Parts.{IsSeparator}
 
 -- texts behind separators
 pub lacks_led : (c separator : ℕ) (texts : List (List ℕ)) → separator ≢ c → All (Lacks c) texts → Lacks c (flat_map (λ text. separator ∷ text) texts)

@@ -11,7 +11,8 @@ use Rattle.cfa_base.specs.Escapes.{escaped, is_field_byte}
 use Rattle.cfa_base.specs.lemmas.Escapes.{fields_tell_texts}
 use Rattle.cfa_base.specs.Patterns.{PatternText, pattern_of}
 use Rattle.cfa_edits.specs.Laws.{TextsTellScripts}
-use Rattle.cfa_edits.specs.lemmas.Parts.{Lacks, clash, joined_tells, lacks_joined, IsSeparator, lacks_word, lacks_escaped, all_escaped, lacks_decimal, all_tell, comma}
+use Rattle.cfa_base.specs.Lacking.{Lacks}
+use Rattle.cfa_edits.specs.lemmas.Parts.{clash, joined_tells, lacks_joined, IsSeparator, lacks_word, lacks_escaped, all_escaped, lacks_decimal, all_tell, comma}
 use Rattle.cfa_edits.specs.Scripts.{IsSpot, IsEdit, spot_name, spot_pattern, block_text, edit_fields, edit_text, script_text}
 use Rattle.cfa_edits.specs.declared.edits.Edit.{Edit}
 use Rattle.cfa_edits.specs.declared.edits.Edit.TheVariants.{Delete, Field, Insert, Replace}

@@ -17,8 +17,9 @@ use Rattle.cfa_base.specs.Keys.{is_key}
 use Rattle.cfa_base.specs.Lexing.{is_word, is_word_byte}
 use Rattle.cfa_base.specs.declared.places.PromiseId.{PromiseId}
 use Rattle.cfa_base.specs.lemmas.EqualTexts.{texts_differ}
-use Rattle.cfa_rows.specs.Cuts.{Lacks, IsCut}
+use Rattle.cfa_rows.specs.Cuts.{IsCut}
 use Rattle.cfa_rows.specs.lemmas.Cuts.{one_cut, no_cut, Lacks-from_test, Lacks-append, Lacks-cons}
+use Rattle.cfa_base.specs.Lacking.{Lacks}
 use Rattle.cfa_rows.specs.lemmas.Numbers.{decimal-lacks}
 use Rattle.cfa_rows.specs.lemmas.Keys.{key-lacks}
 use Rattle.cfa_rows.specs.lemmas.Rows.{TellsRows}

@@ -1,7 +1,7 @@
 -- A journal is a line for each record, each in its place, and then a last piece without a newline, if it was torn.
 use Rattle.std.specs.Prelude.{◌≡◌, ℕ, List, ◌++◌, length, None}
 use Rattle.cfa_rows.specs.Rows.{written, InOrder, HasBadLine}
-use Rattle.cfa_rows.specs.Cuts.{Lacks}
+use Rattle.cfa_base.specs.Lacking.{Lacks}
 use Rattle.cfa_journal.specs.declared.records.Record.{Record}
 use Rattle.cfa_journal.specs.Records.{record_text, Follows}
 

@@ -1,7 +1,8 @@
 // Texts cut at a byte, and compared with a word.
 ghost use Rattle.std.specs.Prelude.{◌≡◌, IfNone, IfSome};
 ghost use Rattle.std.specs.Str.{bytes_eq};
-ghost use Rattle.cfa_rows.specs.Cuts.{IsCut, Lacks};
+ghost use Rattle.cfa_base.specs.Lacking.{Lacks};
+ghost use Rattle.cfa_rows.specs.Cuts.{IsCut};
 
 /// What stands before the first place of a byte in a text, and behind it. `None` where the byte doesn't stand there.
 pub fn cut(text: &[u8], byte: u8) -> Option<(&[u8], &[u8])>

@@ -3,7 +3,8 @@ use Rattle.std.proofs.Common.{◌≡◌, ℕ, true, false, List, Option, Some, N
 use Rattle.std.specs.Prelude.{codes, IsTrue, not, ◌==◌}
 use Rattle.std.specs.List.{list_all}
 use Rattle.cfa_base.specs.lemmas.EqualTexts.{texts_differ}
-use Rattle.cfa_rows.specs.Cuts.{Lacks, IsCut}
+use Rattle.cfa_rows.specs.Cuts.{IsCut}
+use Rattle.cfa_base.specs.Lacking.{Lacks}
 use Rattle.cfa_rows.specs.Rows.{◌then◌}
 use Rattle.cfa_rows.specs.lemmas.Cuts.{one_cut, no_cut, Lacks-from_test}
 use Rattle.cfa_tables.specs.Fields.{IsFourFields, HasFewerFields}

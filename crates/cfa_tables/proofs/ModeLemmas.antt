@@ -4,7 +4,7 @@ use Rattle.std.proofs.lemmas.Bool.{and_from, and_parts, leb-true}
 use Rattle.std.proofs.lemmas.Bool.Decides.{nat_tests}
 use Rattle.std.specs.Prelude.{nat_le}
 use Rattle.std.specs.List.{list_all}
-use Rattle.cfa_rows.specs.Cuts.{Lacks}
+use Rattle.cfa_base.specs.Lacking.{Lacks}
 use Rattle.cfa_rows.specs.lemmas.Cuts.{Lacks-from_test, Lacks-cons}
 use Rattle.cfa_tables.specs.Fields.{is_octal_digit}
 use Rattle.cfa_tables.specs.Tables.{mode_text, octal_digit, IsMode}

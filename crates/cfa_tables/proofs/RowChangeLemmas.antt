@@ -6,7 +6,8 @@ use Rattle.cfa_base.specs.Escapes.{escaped}
 use Rattle.cfa_base.specs.lemmas.EqualTexts.{texts_differ}
 use Rattle.cfa_outside.specs.declared.worlds.Perms.{Perms}
 use Rattle.cfa_outside.specs.declared.worlds.ServiceRow.{ServiceRow}
-use Rattle.cfa_rows.specs.Cuts.{Lacks, IsCut}
+use Rattle.cfa_base.specs.Lacking.{Lacks}
+use Rattle.cfa_rows.specs.Cuts.{IsCut}
 use Rattle.cfa_rows.specs.Rows.{◌then◌}
 use Rattle.cfa_rows.specs.lemmas.Cuts.{one_cut, no_cut, Lacks-from_test}
 use Rattle.cfa_tables.specs.declared.row_changes.RowChange.{RowChange}

@@ -10,7 +10,8 @@ use Rattle.cfa_base.specs.TextMaps.{text_cmp}
 use Rattle.cfa_base.specs.lemmas.Escapes.{escaped-avoids, fields_tell_texts}
 use Rattle.cfa_outside.specs.declared.worlds.Perms.{Perms}
 use Rattle.cfa_outside.specs.declared.worlds.ServiceRow.{ServiceRow}
-use Rattle.cfa_rows.specs.Cuts.{Lacks, IsCut}
+use Rattle.cfa_base.specs.Lacking.{Lacks}
+use Rattle.cfa_rows.specs.Cuts.{IsCut}
 use Rattle.cfa_rows.specs.Rows.{◌then◌}
 use Rattle.cfa_rows.specs.lemmas.Cuts.{one_cut, no_cut, Lacks-append, Lacks-cons}
 use Rattle.cfa_rows.specs.lemmas.Keys.{key-lacks}

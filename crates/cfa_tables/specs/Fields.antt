@@ -1,6 +1,6 @@
 -- Of the code alone: a line of four fields, with a space between them, and octal digits.
 use Rattle.std.specs.Prelude.{◌≡◌, ℕ, List, Bool, ◌&&◌, nat_le}
-use Rattle.cfa_rows.specs.Cuts.{Lacks}
+use Rattle.cfa_base.specs.Lacking.{Lacks}
 use Rattle.cfa_rows.specs.Rows.{◌then◌}
 
 -- the first three fields have no space

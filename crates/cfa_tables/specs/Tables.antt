@@ -11,7 +11,7 @@ use Rattle.cfa_base.specs.TextMaps.{text_cmp}
 use Rattle.cfa_outside.specs.Paths.{path_of}
 use Rattle.cfa_outside.specs.declared.worlds.Perms.{Perms}
 use Rattle.cfa_outside.specs.declared.worlds.ServiceRow.{ServiceRow}
-use Rattle.cfa_rows.specs.Cuts.{Lacks}
+use Rattle.cfa_base.specs.Lacking.{Lacks}
 use Rattle.cfa_rows.specs.Rows.{written, InOrder, HasBadLine, ◌then◌}
 
 -- Fields.

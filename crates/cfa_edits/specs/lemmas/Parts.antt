@@ -8,11 +8,8 @@ use Rattle.std.proofs.lemmas.Fmt.{decimal_by_steps}
 use Rattle.std.proofs.lemmas.List.Elements.{All-nil, All-cons, All-head, All-tail, All-append, All-push, All-weaker}
 use Rattle.std.proofs.lemmas.List.Splits.{slice_split_none, slice_split_at}
 use Rattle.cfa_base.specs.Escapes.{escaped, is_field_byte}
+use Rattle.cfa_base.specs.Lacking.{Lacks}
 use Rattle.cfa_base.specs.lemmas.Escapes.{fields_tell_texts, escaped-avoids}
-
--- the byte stands nowhere in the text
-abbrev pub Lacks : ℕ → List ℕ → Type 0
-Lacks c text = All (λ (byte : ℕ). byte ≢ c) text
 
 pub clash : (m n : ℕ) → nat_eq m n ≡ false → m ≡ n → ⊥
 clash m n differ e = grind (arith, nat_tests)

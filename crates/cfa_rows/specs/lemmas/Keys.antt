@@ -3,7 +3,7 @@ use Rattle.std.proofs.Common.{◌≡◌, ℕ, List, [], ◌∷◌, true, false, 
 use Rattle.std.proofs.lemmas.Bool.{and_parts, both_ways}
 use Rattle.std.specs.List.{list_all}
 use Rattle.cfa_base.specs.Keys.{is_key, is_hex_digit}
-use Rattle.cfa_rows.specs.Cuts.{Lacks}
+use Rattle.cfa_base.specs.Lacking.{Lacks}
 use Rattle.cfa_rows.specs.lemmas.Cuts.{Lacks-from_test, Lacks-cons}
 
 hex_digits-lack : (byte : ℕ) (text : List ℕ) → is_hex_digit byte ≡ false → list_all is_hex_digit text ≡ true → Lacks byte text

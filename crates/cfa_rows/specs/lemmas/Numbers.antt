@@ -12,7 +12,7 @@ use Rattle.std.specs.Str.{all_ascii_digits}
 use Rattle.std.specs.Str.Parse.{digits_value, ParsesUnsigned}
 use Rattle.cfa_base.specs.Decimals.{is_decimal}
 use Rattle.cfa_base.specs.lemmas.Truths.{or_true}
-use Rattle.cfa_rows.specs.Cuts.{Lacks}
+use Rattle.cfa_base.specs.Lacking.{Lacks}
 use Rattle.cfa_rows.specs.Rows.{Reads}
 
 pub numerals : IsNumeralModel (λ ds. all_ascii_digits ds ≡ true) (digits_value 10)

@@ -1,7 +1,7 @@
 -- Rows in order: one more row, and that bytes are rows in one way.
 use Rattle.std.proofs.Common.{◌≡◌, ℕ, suc, ◌-◌, List, [], ◌∷◌, ◌++◌, length, Option, Some, None, refl, sym, ap, ◌∙◌, arith, append_assoc}
 use Rattle.std.specs.Prelude.{slice_get}
-use Rattle.cfa_rows.specs.Cuts.{Lacks}
+use Rattle.cfa_base.specs.Lacking.{Lacks}
 use Rattle.cfa_rows.specs.lemmas.Cuts.{one_cut, no_cut}
 use Rattle.cfa_rows.specs.Rows.{written, last_after, last_of, InOrder, Reads}
 
