@@ -1,6 +1,6 @@
 -- The key text of an instance tells its acts: none of its parts holds a semicolon, and the words of acts tell their kinds.
 use Rattle.std.proofs.Common.{◌≡◌, ◌≢◌, ℕ, ◌+◌, ◌*◌, ◌/◌, ◌%◌, ◌<◌, Bool, true, false, List, [], ◌∷◌, ◌++◌, length, map, get_or, drop, codes, Option, Some, None, refl, sym, ap, ap₂, subst, ◌∙◌, append_assoc, append-nil, arith, All}
-use Rattle.std.specs.Prelude.{encode_utf8, ◌==◌}
+use Rattle.std.specs.Prelude.{◌==◌}
 use Rattle.std.specs.Fmt.{decimal, digit_glyph}
 use Rattle.std.specs.List.{join_with_byte, flat_map, list_all}
 use Rattle.std.proofs.lemmas.Bool.{ne_eqb, cond-false}
@@ -10,11 +10,8 @@ use Rattle.cfa_base.specs.declared.places.PromiseId.{PromiseId}
 use Rattle.cfa_base.specs.Escapes.{escaped, is_field_byte}
 use Rattle.cfa_base.specs.lemmas.Escapes.{escaped-cut, at_end, at_byte}
 use Rattle.cfa_edits.specs.Laws.{TextsTellScripts}
-use Rattle.cfa_edits.specs.Scripts.{IsEdit, AreEdits, spot_name, spot_pattern, block_text, edit_fields, edit_text, script_text}
+use Rattle.cfa_edits.specs.Scripts.{AreEdits, edit_text, script_text}
 use Rattle.cfa_edits.specs.declared.edits.Edit.{Edit as LineEdit}
-use Rattle.cfa_edits.specs.declared.edits.Edit.TheVariants as edits
-use Rattle.cfa_edits.specs.declared.edits.Spot.{Spot}
-use Rattle.cfa_edits.specs.declared.edits.Spot.TheVariants.{Start as at_start, End as at_the_end, Before, After}
 use Rattle.cfa_acts.specs.declared.acts.Act.{Act}
 use Rattle.cfa_acts.specs.declared.acts.Act.TheVariants.{Create, MakeDir, Delete, Content, Copy, Edit, Perms, Start, Stop, Enable, Disable, Restart, Bust}
 use Rattle.cfa_acts.specs.declared.acts.Reason.{Reason}
@@ -26,6 +23,7 @@ use Rattle.cfa_resolve.specs.KeyTexts.{fields_after, octal_digit, mode_text, mod
 use Rattle.cfa_laws.specs.Keys.{IsMode, IsGiven, AreGiven, IsPlainId}
 use Rattle.cfa_convergence.specs.Keys.{AreAlike, KeysTellWorks}
 use Rattle.cfa_base.specs.Lacking.{Lacks}
+use Rattle.cfa_edits.specs.lemmas.Fields.{all_two, all_four, texts_lack}
 use Rattle.cfa_edits.specs.lemmas.Parts.{clash, joined_tells, lacks_joined, IsSeparator, lacks_word, lacks_escaped, all_escaped, lacks_decimal, all_tell, comma}
 use Rattle.cfa_rows.specs.lemmas.Cuts.{one_cut}
 use Rattle.cfa_convergence.proofs.PartLemmas.{lacks_led, semicolon, space, asterisk}
@@ -193,12 +191,6 @@ lacks_fields c first fields ne word all = All-append (λ b. b ≢ c) first (flat
 all_one : (c : ℕ) (x : List ℕ) → Lacks c x → All (Lacks c) (x ∷ [])
 all_one c x h = All-cons (Lacks c) x [] h (All-nil (Lacks c))
 
-all_two : (c : ℕ) (x y : List ℕ) → Lacks c x → Lacks c y → All (Lacks c) (x ∷ y ∷ [])
-all_two c x y h i = All-cons (Lacks c) x (y ∷ []) h (all_one c y i)
-
-all_four : (c : ℕ) (w x y z : List ℕ) → Lacks c w → Lacks c x → Lacks c y → Lacks c z → All (Lacks c) (w ∷ x ∷ y ∷ z ∷ [])
-all_four c w x y z h i j k = All-cons (Lacks c) w (x ∷ y ∷ z ∷ []) h (All-cons (Lacks c) x (y ∷ z ∷ []) i (all_two c y z j k))
-
 module _ (c : ℕ) (f : IsForeign c) where
   word_lacks : (word : List ℕ) → list_all is_field_byte word ≡ true → Lacks c word
   word_lacks word all = lacks_word c word f.is_separator.none all
@@ -206,42 +198,9 @@ module _ (c : ℕ) (f : IsForeign c) where
   field_lacks : (text : List ℕ) → Lacks c (escaped text)
   field_lacks text = lacks_escaped c text f.is_separator
 
-  spot_lacks : (spot : Spot) → Lacks c (spot_name spot)
-  spot_lacks at_start = word_lacks (codes "start") refl
-  spot_lacks at_the_end = word_lacks (codes "end") refl
-  spot_lacks (Before pattern true) = word_lacks (codes "before-first") refl
-  spot_lacks (Before pattern false) = word_lacks (codes "before-last") refl
-  spot_lacks (After pattern true) = word_lacks (codes "after-first") refl
-  spot_lacks (After pattern false) = word_lacks (codes "after-last") refl
-
-  edit_lacks : (edit : LineEdit) → IsEdit edit → All (Lacks c) (edit_fields edit)
-  edit_lacks (edits.Delete pattern) is = all_two c (codes "d") (escaped pattern.text) (word_lacks (codes "d") refl) (field_lacks pattern.text)
-  edit_lacks (edits.Field pattern separator number value) is =
-      let small = is.2 in
-      All-cons (Lacks c) (codes "f") (escaped pattern.text ∷ escaped (encode_utf8 separator) ∷ decimal number ∷ escaped value ∷ []) (word_lacks (codes "f") refl)
-      (all_four c (escaped pattern.text) (escaped (encode_utf8 separator)) (decimal number) (escaped value)
-      (field_lacks pattern.text) (field_lacks (encode_utf8 separator)) (lacks_decimal c number f.is_separator (omega arith)) (field_lacks value))
-  edit_lacks (edits.Insert block spot) is =
-      all_four c (codes "i") (spot_name spot) (escaped (spot_pattern spot)) (block_text block)
-      (word_lacks (codes "i") refl) (spot_lacks spot) (field_lacks (spot_pattern spot))
-      (lacks_joined c 43 (map escaped block) f.no_plus (all_escaped c block f.is_separator))
-  edit_lacks (edits.Replace pattern value true) is =
-      all_four c (codes "r") (codes "all") (escaped pattern.text) (escaped value)
-      (word_lacks (codes "r") refl) (word_lacks (codes "all") refl) (field_lacks pattern.text) (field_lacks value)
-  edit_lacks (edits.Replace pattern value false) is =
-      all_four c (codes "r") (codes "first") (escaped pattern.text) (escaped value)
-      (word_lacks (codes "r") refl) (word_lacks (codes "first") refl) (field_lacks pattern.text) (field_lacks value)
-
-  texts_lack : (script : List LineEdit) → All IsEdit script → All (Lacks c) (map edit_text script)
-  texts_lack [] all = All-nil (Lacks c)
-  texts_lack (edit ∷ script) all =
-      All-cons (Lacks c) (edit_text edit) (map edit_text script)
-      (lacks_joined c 58 (edit_fields edit) f.no_colon (edit_lacks edit (All-head IsEdit edit script all)))
-      (texts_lack script (All-tail IsEdit edit script all))
-
   script_lacks : (script : List LineEdit) → AreEdits script → Lacks c (script_text script)
   unfolding script_text
-  script_lacks script are = lacks_joined c 44 (map edit_text script) f.no_comma (texts_lack script are.each)
+  script_lacks script are = lacks_joined c 44 (map edit_text script) f.no_comma (texts_lack c script f.is_separator f.no_plus f.no_colon are.each)
 
   flag_lacks : (b : Bool) → Lacks c (yes_or_no b)
   flag_lacks true = word_lacks (codes "yes") refl

@@ -1,57 +1,23 @@
 -- The text of a script tells its edits: no field has a separator, so the parts of a text are its fields.
-use Rattle.std.proofs.Common.{◌≡◌, ◌≢◌, ℕ, ◌+◌, ◌*◌, ◌<◌, ◌≤◌, true, false, List, [], ◌∷◌, ◌++◌, length, map, get_or, codes, refl, sym, ap, ap₂, ◌∙◌, arith, All}
+use Rattle.std.proofs.Common.{◌≡◌, ℕ, ◌+◌, ◌*◌, ◌<◌, ◌≤◌, true, false, List, [], ◌∷◌, ◌++◌, length, map, get_or, codes, refl, sym, ap, ap₂, ◌∙◌, arith, All}
 use Rattle.std.specs.Prelude.{encode_utf8}
 use Rattle.std.specs.Fmt.{decimal}
 use Rattle.std.specs.List.{join_with_byte}
 use Rattle.std.specs.Str.Parse.{digits_value}
 use Rattle.std.proofs.lemmas.Fmt.{decimal_is_IsNumeral}
-use Rattle.std.proofs.lemmas.List.Elements.{All-nil, All-cons, All-head, All-tail}
+use Rattle.std.proofs.lemmas.List.Elements.{All-head, All-tail}
 use Rattle.std.proofs.lemmas.Str.{encode_same}
-use Rattle.cfa_base.specs.Escapes.{escaped, is_field_byte}
+use Rattle.cfa_base.specs.Escapes.{escaped}
 use Rattle.cfa_base.specs.lemmas.Escapes.{fields_tell_texts}
 use Rattle.cfa_base.specs.Patterns.{PatternText, pattern_of}
 use Rattle.cfa_edits.specs.Laws.{TextsTellScripts}
-use Rattle.cfa_base.specs.Lacking.{Lacks}
-use Rattle.cfa_edits.specs.lemmas.Parts.{clash, joined_tells, lacks_joined, IsSeparator, lacks_word, lacks_escaped, all_escaped, lacks_decimal, all_tell, comma}
+use Rattle.cfa_edits.specs.lemmas.Fields.{fields_lack, texts_lack}
+use Rattle.cfa_edits.specs.lemmas.Parts.{clash, joined_tells, IsSeparator, all_escaped, all_tell, comma}
 use Rattle.cfa_edits.specs.Scripts.{IsSpot, IsEdit, spot_name, spot_pattern, block_text, edit_fields, edit_text, script_text}
 use Rattle.cfa_edits.specs.declared.edits.Edit.{Edit}
 use Rattle.cfa_edits.specs.declared.edits.Edit.TheVariants.{Delete, Field, Insert, Replace}
 use Rattle.cfa_edits.specs.declared.edits.Spot.{Spot}
 use Rattle.cfa_edits.specs.declared.edits.Spot.TheVariants.{Start, End, Before, After}
-
--- ---- fields of an edit
-lacks_spot : (c : ℕ) (spot : Spot) → is_field_byte c ≡ false → Lacks c (spot_name spot)
-lacks_spot c Start none = lacks_word c (codes "start") none refl
-lacks_spot c End none = lacks_word c (codes "end") none refl
-lacks_spot c (Before pattern true) none = lacks_word c (codes "before-first") none refl
-lacks_spot c (Before pattern false) none = lacks_word c (codes "before-last") none refl
-lacks_spot c (After pattern true) none = lacks_word c (codes "after-first") none refl
-lacks_spot c (After pattern false) none = lacks_word c (codes "after-last") none refl
-
-all_two : (c : ℕ) (x y : List ℕ) → Lacks c x → Lacks c y → All (Lacks c) (x ∷ y ∷ [])
-all_two c x y h i = All-cons (Lacks c) x (y ∷ []) h (All-cons (Lacks c) y [] i (All-nil (Lacks c)))
-
-all_four : (c : ℕ) (w x y z : List ℕ) → Lacks c w → Lacks c x → Lacks c y → Lacks c z → All (Lacks c) (w ∷ x ∷ y ∷ z ∷ [])
-all_four c w x y z h i j k = All-cons (Lacks c) w (x ∷ y ∷ z ∷ []) h (All-cons (Lacks c) x (y ∷ z ∷ []) i (all_two c y z j k))
-
--- no field of an edit has a separator, other than a plus sign
-fields_lack : (c : ℕ) (edit : Edit) → IsSeparator c → 43 ≢ c → IsEdit edit → All (Lacks c) (edit_fields edit)
-fields_lack c (Delete pattern) s ne is =
-    all_two c (codes "d") (escaped pattern.text) (lacks_word c (codes "d") s.none refl) (lacks_escaped c pattern.text s)
-fields_lack c (Field pattern separator number value) s ne is =
-    All-cons (Lacks c) (codes "f") (escaped pattern.text ∷ escaped (encode_utf8 separator) ∷ decimal number ∷ escaped value ∷ []) (lacks_word c (codes "f") s.none refl)
-    (all_four c (escaped pattern.text) (escaped (encode_utf8 separator)) (decimal number) (escaped value)
-    (lacks_escaped c pattern.text s) (lacks_escaped c (encode_utf8 separator) s) (let few : number ≤ 999 = is.2 in lacks_decimal c number s (omega arith)) (lacks_escaped c value s))
-fields_lack c (Insert block spot) s ne is =
-    all_four c (codes "i") (spot_name spot) (escaped (spot_pattern spot)) (block_text block)
-    (lacks_word c (codes "i") s.none refl) (lacks_spot c spot s.none) (lacks_escaped c (spot_pattern spot) s)
-    (lacks_joined c 43 (map escaped block) ne (all_escaped c block s))
-fields_lack c (Replace pattern value true) s ne is =
-    all_four c (codes "r") (codes "all") (escaped pattern.text) (escaped value)
-    (lacks_word c (codes "r") s.none refl) (lacks_word c (codes "all") s.none refl) (lacks_escaped c pattern.text s) (lacks_escaped c value s)
-fields_lack c (Replace pattern value false) s ne is =
-    all_four c (codes "r") (codes "first") (escaped pattern.text) (escaped value)
-    (lacks_word c (codes "r") s.none refl) (lacks_word c (codes "first") s.none refl) (lacks_escaped c pattern.text s) (lacks_escaped c value s)
 
 -- tells the names of spots, and the kinds of edits, apart
 abbrev sign : List ℕ → ℕ
@@ -173,14 +139,6 @@ edits_tell edit other is is' e =
     let joined : join_with_byte 58 (f.0 ∷ f.1) ≡ join_with_byte 58 (g.0 ∷ g.1) = ap (join_with_byte 58) (sym f.2) ∙ e ∙ ap (join_with_byte 58) g.2 in
     fields_tell edit other is is' (f.2 ∙ joined_tells 58 f.0 g.0 f.1 g.1 all all' joined ∙ sym g.2)
 
-edit_lacks : (edit : Edit) → IsEdit edit → Lacks 44 (edit_text edit)
-edit_lacks edit is = lacks_joined 44 58 (edit_fields edit) (λ e. omega arith) (fields_lack 44 edit comma (λ e. omega arith) is)
-
-edits_lack : (edits : List Edit) → All IsEdit edits → All (Lacks 44) (map edit_text edits)
-edits_lack [] all = All-nil (Lacks 44)
-edits_lack (edit ∷ edits) all =
-    All-cons (Lacks 44) (edit_text edit) (map edit_text edits) (edit_lacks edit (All-head IsEdit edit edits all)) (edits_lack edits (All-tail IsEdit edit edits all))
-
 all_edits_tell : (edits others : List Edit) → All IsEdit edits → All IsEdit others → map edit_text edits ≡ map edit_text others → edits ≡ others
 all_edits_tell [] [] all all' e = refl
 all_edits_tell [] (f ∷ fs) all all' e = absurd cc
@@ -209,4 +167,5 @@ scripts_tell [] (g ∷ gs) is is' e = absurd (not_empty g (map edit_text gs) e)
 scripts_tell (f ∷ fs) [] is is' e = absurd (not_empty f (map edit_text fs) (sym e))
 scripts_tell (f ∷ fs) (g ∷ gs) is is' e =
     all_edits_tell (f ∷ fs) (g ∷ gs) is.each is'.each
-    (joined_tells 44 (edit_text f) (edit_text g) (map edit_text fs) (map edit_text gs) (edits_lack (f ∷ fs) is.each) (edits_lack (g ∷ gs) is'.each) e)
+    (joined_tells 44 (edit_text f) (edit_text g) (map edit_text fs) (map edit_text gs)
+    (texts_lack 44 (f ∷ fs) comma (λ x. omega arith) (λ x. omega arith) is.each) (texts_lack 44 (g ∷ gs) comma (λ x. omega arith) (λ x. omega arith) is'.each) e)
