@@ -5,7 +5,6 @@ use Rattle.std.specs.Prelude.{◌&&◌}
 use Rattle.std.specs.List.{AllByRecursion as Each}
 use Rattle.std.specs.Str.{bytes_eq}
 use Rattle.std.proofs.lemmas.Bool.{false≢true, and_from}
-use Rattle.std.proofs.lemmas.List.Elements.{All-head, All-tail}
 use Rattle.cfa_base.specs.declared.places.PromiseId.{PromiseId}
 use Rattle.cfa_base.specs.lemmas.EqualTexts.{same_text, is_text}
 use Rattle.cfa_classes.specs.declared.levels.Status.{Status}
@@ -31,19 +30,16 @@ use Rattle.cfa_convergence.specs.Keys.{AreAlike, KeysTellWorks}
 use Rattle.cfa_convergence.proofs.LevelLemmas.{IsCall}
 use Rattle.cfa_convergence.proofs.NameLemmas.{names_of}
 use Rattle.cfa_base.specs.Lacking.{Lacks}
+use Rattle.cfa_rows.specs.lemmas.Cuts.{no_cut}
 use Rattle.cfa_convergence.proofs.SourceLemmas.{IsGiven, AreSourced, raise_sourced, begin_sourced}
 
 -- ---- paths of calls
 
-holds_none : (c : ℕ) (ys b : List ℕ) → Lacks c (ys ++ c ∷ b) → ⊥
-holds_none c [] b none = All-head (λ x. x ≢ c) c b none refl
-holds_none c (y ∷ ys) b none = holds_none c ys b (All-tail (λ x. x ≢ c) y (ys ++ c ∷ b) none)
-
 -- the parts before and behind the last such byte
 last_cut : (c : ℕ) (xs ys a b : List ℕ) → Lacks c a → Lacks c b → xs ++ c ∷ a ≡ ys ++ c ∷ b → (xs ≡ ys) × (a ≡ b)
 last_cut c [] [] a b p q e = (refl, cc)
-last_cut c [] (y ∷ ys) a b p q e = let tails : a ≡ ys ++ c ∷ b = cc in absurd (holds_none c ys b (subst (Lacks c) tails p))
-last_cut c (x ∷ xs) [] a b p q e = let tails : xs ++ c ∷ a ≡ b = cc in absurd (holds_none c xs a (subst (Lacks c) (sym tails) q))
+last_cut c [] (y ∷ ys) a b p q e = let tails : a ≡ ys ++ c ∷ b = cc in absurd (no_cut c a ys b p tails)
+last_cut c (x ∷ xs) [] a b p q e = let tails : xs ++ c ∷ a ≡ b = cc in absurd (no_cut c b xs a q (sym tails))
 last_cut c (x ∷ xs) (y ∷ ys) a b p q e =
     let heads : x ≡ y = cc in
     let tails : xs ++ c ∷ a ≡ ys ++ c ∷ b = cc in
