@@ -1,4 +1,3 @@
 pub mod FormLemmas
-pub mod NumberLemmas
 pub mod Rules
 pub mod WalkLemmas

@@ -1,4 +1,5 @@
 -- Lemmas on these definitions that the proofs of this crate and of those above cite. No contract names one.
 pub mod OneLine
 pub mod FieldNumbers
+pub mod Numbering
 pub mod Ordered
