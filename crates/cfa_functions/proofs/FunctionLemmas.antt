@@ -1,16 +1,17 @@
 -- What functions make of their arguments, step by step.
-use Rattle.std.proofs.Common.{◌≡◌, ◌<◌, ◌≤◌, ◌+◌, ◌^◌, ℕ, zero, suc, true, false, cond, ◌&&◌, ltb, ⊎_elim, List, [], ◌∷◌, ◌++◌, length, take, get_or, eqb, Some, None, Ok, Err, ap, sym, ◌∙◌, arith, rules, add-one}
+use Rattle.std.proofs.Common.{◌≡◌, ◌<◌, ◌≤◌, ◌+◌, ◌^◌, ℕ, zero, suc, true, false, cond, ◌&&◌, ltb, ⊎_elim, List, [], ◌∷◌, ◌++◌, length, take, get_or, eqb, Some, None, Ok, Err, ap, sym, ◌∙◌, arith, add-one}
 use Rattle.std.specs.List.{flat_map, slice_get}
 use Rattle.std.specs.Option.{option_and_then}
 use Rattle.std.specs.Str.{all_ascii_digits}
 use Rattle.std.specs.Str.Parse.{ParsesUnsigned, digits_value}
-use Rattle.std.proofs.lemmas.Str.Parse.{IsNumeralModel, numerals_by_value, parse_digits}
+use Rattle.std.proofs.lemmas.Str.Parse.{parse_digits}
 use Rattle.std.proofs.lemmas.Option.{slice_get_past}
 use Rattle.std.proofs.lemmas.Bool.{cases_lt, and_parts}
 use Rattle.std.proofs.lemmas.Bool.Decides.{nat_tests}
 use borrow.Author.Tests.{ltb-true}
 use Rattle.std.proofs.lemmas.List.{append_assoc, append-nil, take_more, flat_map_more}
 use Rattle.cfa_base.specs.Decimals.{is_decimal}
+use Rattle.cfa_kinds.specs.lemmas.Digits.{numerals}
 use Rattle.cfa_functions.specs.Functions.{item_at, joined}
 
 -- the first item stands without glue
@@ -38,9 +39,6 @@ pub joined_step : (glue : List ℕ) (items : List (List ℕ)) (i : ℕ) (item be
 joined_step glue items zero item before whole h is b w = ap (λ t. (t ++ before) ++ item) w ∙ ap (λ t. ([] ++ t) ++ item) b ∙ joined_first glue items item h is
 joined_step glue items (suc j) item before whole h is b w = ap (λ t. (t ++ before) ++ item) w ∙ ap (λ t. (joined glue (take (suc j) items) ++ t) ++ item) (b ∙ ap (λ t. cond t [] glue) (not_first j)) ∙ joined_more glue items (suc j) item (omega arith) h is
 
-digits_are : IsNumeralModel (λ ds. all_ascii_digits ds ≡ true) (digits_value 10)
-digits_are = numerals_by_value _ (search rules)
-
 -- a number is digits, at least one
 is_digits : (text : List ℕ) → is_decimal text ≡ true → (0 < length text) × (all_ascii_digits text ≡ true)
 is_digits text h =
@@ -56,7 +54,7 @@ item_of_number items text h = ap (λ b. option_and_then (λ place. slice_get ite
 pub item_found : (items : List (List ℕ)) (text bytes : List ℕ) (place : ℕ) → bytes ≡ text → true ≡ is_decimal bytes → ParsesUnsigned {E = ℕ} 64 10 text (Ok place) → slice_get items place ≡ item_at items text
 item_found items text bytes place same h p =
     let number : is_decimal text ≡ true = sym (h ∙ ap is_decimal same) in
-    let read = parse_digits digits_are {E = ℕ} 64 text (Ok place) p (is_digits text number).1 in
+    let read = parse_digits numerals {E = ℕ} 64 text (Ok place) p (is_digits text number).1 in
     ap (slice_get items) read.1 ∙ sym (item_of_number items text number)
 
 -- a number of 2 ^ 64 or more is no place
@@ -64,6 +62,6 @@ pub item_past : (E : Type 0) (items : List (List ℕ)) (text bytes : List ℕ) (
 item_past E items text bytes e same h short p =
     let number : is_decimal text ≡ true = sym (h ∙ ap is_decimal same) in
     let digits = is_digits text number in
-    let no = parse_digits digits_are {E = E} 64 text (Err e) p digits.1 in
+    let no = parse_digits numerals {E = E} 64 text (Err e) p digits.1 in
     let past : length items ≤ digits_value 10 text = ⊎_elim (λ below. absurd (no (digits.0, below))) (λ above. omega arith) (cases_lt (digits_value 10 text) (2 ^ 64)) in
     sym (item_of_number items text number ∙ slice_get_past items (digits_value 10 text) past)

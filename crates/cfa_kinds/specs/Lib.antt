@@ -1,3 +1,4 @@
 pub mod Forms
 pub mod Functions
 pub mod Kinds
+pub mod lemmas

@@ -1,18 +1,16 @@
 -- The instances that a promise resolves to have its path, its id and key texts, acts as promises give them, and in each list classes of
 -- one line; a call names the bundle of `usebundle`, and the minutes are few.
-use Rattle.std.proofs.Common.{◌≡◌, ◌≤◌, ◌<◌, ◌^◌, ℕ, Bool, true, false, List, [], ◌∷◌, length, codes, Option, Some, None, cond, refl, sym, subst, arith, All}
-use Rattle.std.specs.Prelude.{nat_le, not, filter, option_and_then}
+use Rattle.std.proofs.Common.{◌≡◌, ◌<◌, ◌^◌, ℕ, Bool, true, false, List, [], ◌∷◌, codes, Option, Some, None, cond, refl, sym, subst, arith, All}
+use Rattle.std.specs.Prelude.{not, filter, option_and_then}
 use Rattle.std.specs.List.{AllByRecursion as Each, cons_option}
-use Rattle.std.specs.Str.{all_ascii_digits}
 use Rattle.std.specs.Str.Parse.{digits_value}
-use Rattle.std.proofs.lemmas.Bool.{and_parts}
-use Rattle.std.proofs.lemmas.Bool.Decides.{nat_tests}
 use Rattle.cfa_tree.specs.Tree.{ValueTree, NamedTree, BlockTree, bundle, body, PolicyTree}
 use Rattle.cfa_kinds.specs.declared.kinds.BodyType.TheVariants as body_types
 use Rattle.cfa_kinds.specs.declared.kinds.Form.TheVariants.{Minutes}
 use Rattle.cfa_kinds.specs.declared.kinds.PromiseType.{PromiseType}
 use Rattle.cfa_kinds.specs.declared.kinds.PromiseType.TheVariants as promises
-use Rattle.cfa_kinds.specs.Forms.{has_form, has_no_leading_zero, minutes_written}
+use Rattle.cfa_kinds.specs.Forms.{has_form, minutes_written}
+use Rattle.cfa_kinds.specs.lemmas.Digits.{small_digits}
 use Rattle.cfa_vars.specs.Expansion.{Chosen}
 use Rattle.cfa_values.specs.Attributes.{value_of}
 use Rattle.cfa_values.specs.Values.{known_named}
@@ -52,17 +50,8 @@ abbrev MayBeSmall : Option ℕ → Type 0
 MayBeSmall None = Unit {0}
 MayBeSmall (Some minutes) = IsSmall minutes
 
-digits_small : (text : List ℕ) → has_form Minutes text ≡ true → digits_value 10 text ≤ 525600
-digits_small text form =
-    let short = and_parts (nat_le (length text) 10) _ form in
-    let digits = and_parts (all_ascii_digits text) _ short.1 in
-    let zero = and_parts (has_no_leading_zero text) _ digits.1 in
-    let least = and_parts (nat_le 0 (digits_value 10 text)) (nat_le (digits_value 10 text) 525600) zero.1 in
-    let most : nat_le (digits_value 10 text) 525600 ≡ true = least.1 in
-    grind (arith, nat_tests)
-
 written_by : (text : List ℕ) (b : Bool) → has_form Minutes text ≡ b → MayBeSmall (cond b (Some (digits_value 10 text)) None)
-written_by text true form = let small = digits_small text form in omega (arith, small)
+written_by text true form = let small = small_digits text form in omega (arith, small)
 written_by text false form = tt
 
 written_small : (text : List ℕ) → MayBeSmall (minutes_written text)

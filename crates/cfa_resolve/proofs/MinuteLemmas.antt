@@ -1,26 +1,15 @@
 -- Minutes are at most those of a year.
-use Rattle.std.proofs.Common.{◌≡◌, ◌≤◌, ℕ, Bool, true, false, List, length, Option, Some, None, if◌then◌else◌, refl, lit≤, arith}
-use Rattle.std.specs.Prelude.{nat_le, option_and_then, codes}
-use Rattle.std.specs.Str.{all_ascii_digits}
+use Rattle.std.proofs.Common.{◌≡◌, ◌≤◌, ℕ, Bool, true, false, List, Option, Some, None, if◌then◌else◌, refl, lit≤}
+use Rattle.std.specs.Prelude.{option_and_then, codes}
 use Rattle.std.specs.Str.Parse.{digits_value}
-use Rattle.std.proofs.lemmas.Bool.{and_parts}
-use Rattle.std.proofs.lemmas.Bool.Decides.{nat_tests}
 use Rattle.cfa_tree.specs.Tree.{ValueTree, NamedTree, BlockTree, bundle, body, PolicyTree}
 use Rattle.cfa_kinds.specs.declared.kinds.BodyType.TheVariants as bodies
 use Rattle.cfa_kinds.specs.declared.kinds.Form.TheVariants.{Minutes}
-use Rattle.cfa_kinds.specs.Forms.{has_form, has_no_leading_zero}
+use Rattle.cfa_kinds.specs.Forms.{has_form}
+use Rattle.cfa_kinds.specs.lemmas.Digits.{small_digits}
 use Rattle.cfa_values.specs.Attributes.{value_of}
 use Rattle.cfa_values.specs.Values.{known_named}
 use Rattle.cfa_served.specs.Served.{body_of, minutes_named, minutes_in, or_one, minutes_of}
-
-small_digits : (text : List ℕ) → has_form Minutes text ≡ true → digits_value 10 text ≤ 525600
-small_digits text form =
-    let short = and_parts (nat_le (length text) 10) _ form in
-    let digits = and_parts (all_ascii_digits text) _ short.1 in
-    let zero = and_parts (has_no_leading_zero text) _ digits.1 in
-    let least = and_parts (nat_le 0 (digits_value 10 text)) (nat_le (digits_value 10 text) 525600) zero.1 in
-    let most : nat_le (digits_value 10 text) 525600 ≡ true = least.1 in
-    grind (arith, nat_tests)
 
 written_so : (b : Bool) (text : List ℕ) → has_form Minutes text ≡ b → or_one (if b then Some (digits_value 10 text) else None) ≤ 525600
 written_so true text h = small_digits text h

@@ -1,22 +1,16 @@
 -- The number that the text of a field number writes.
-use Rattle.std.proofs.Common.{[], ◌∷◌, ◌≡◌, ◌<◌, ◌^◌, ℕ, true, List, ◌&&◌, length, Err, Option, arith}
+use Rattle.std.proofs.Common.{◌≡◌, ◌<◌, ◌^◌, ℕ, true, List, ◌&&◌, length, Err, Option, arith}
 use Rattle.std.specs.Prelude.{nat_le}
 use Rattle.std.specs.Str.{all_ascii_digits}
 use Rattle.std.specs.Str.Parse.{digits_value, ParsesUnsigned}
 use Rattle.std.proofs.lemmas.Bool.{and_parts}
-use Rattle.std.proofs.lemmas.Str.Parse.{IsNumeralModel, numerals_by_value, tells_all_ascii_digits, parse_digits}
+use Rattle.std.proofs.lemmas.Str.Parse.{parse_digits}
 use Rattle.cfa_kinds.specs.declared.kinds.Form.TheVariants.{Character, FieldNumber, FieldOperation}
 use Rattle.cfa_bodies.specs.declared.sayings.Said.{Said}
 use Rattle.cfa_scripts.specs.EditPromises.{is_right_field, is_one_line, is_right}
 use Rattle.cfa_kinds.specs.Forms.{has_form, has_no_leading_zero}
+use Rattle.cfa_kinds.specs.lemmas.Digits.{numerals, non_empty}
 use Rattle.cfa_scripts.specs.lemmas.FieldNumbers.{number_bounds}
-
-own : IsNumeralModel (λ ds. all_ascii_digits ds ≡ true) (digits_value 10)
-own = numerals_by_value (λ ds. all_ascii_digits ds ≡ true) tells_all_ascii_digits
-
-non_empty : (text : List ℕ) → has_no_leading_zero text ≡ true → 0 < length text
-non_empty [] e = cc
-non_empty (b ∷ rest) e = omega arith
 
 -- a field's number is one where the field is right
 pub number_of_field : (separator number value : List ℕ) (operation : Option Said) → is_right_field separator number value operation ≡ true → has_form FieldNumber number ≡ true
@@ -32,4 +26,4 @@ number_read text e parsed form =
     let zero = and_parts (has_no_leading_zero text) _ digits.1 in
     let bounds = number_bounds text form in
     let small : digits_value 10 text < 2 ^ 16 = omega (arith, bounds.1) in
-    parse_digits own 16 text (Err e) parsed digits.0 (non_empty text zero.0, small)
+    parse_digits numerals 16 text (Err e) parsed digits.0 (non_empty text zero.0, small)
