@@ -26,14 +26,14 @@ use Rattle.cfa_defines.specs.declared.combining.Combined.{Combined}
 use Rattle.cfa_defines.specs.declared.combining.Combined.TheVariants.{Lacks as lacks, TooMany as too_many, TooLong as too_long, Found as found}
 use Rattle.cfa_defines.specs.OwnTexts.{combined, own_reads}
 use Rattle.cfa_served.specs.Served.{body_of, minutes_named, minutes_of}
-use Rattle.cfa_served.specs.Served.{minutes_in as minutes_in_body, or_one as served_or_one}
+use Rattle.cfa_served.specs.Served.{minutes_in as minutes_in_body, or_one}
 use Rattle.cfa_scripts.specs.declared.scripting.Scripted.{Scripted}
 use Rattle.cfa_scripts.specs.declared.scripting.Scripted.TheVariants.{Script as a_script, Unresolved as no_script, TooMany as script_many, TooLong as script_long, BadPattern as bad_pattern, BadValue as bad_value}
 use Rattle.cfa_resolve.specs.declared.instances.Instance.{Instance}
 use Rattle.cfa_resolve.specs.declared.instances.Work.{Work}
 use Rattle.cfa_resolve.specs.declared.instances.Work.TheVariants.{Acts}
 use Rattle.cfa_resolve.specs.FileActs.{is_empty, classes_in, outcome_classes, service_act}
-use Rattle.cfa_resolve.specs.Instances.{Reached, instance_of, bust_instance, promiser_in, text_of, call_by, work_by, minutes_said, classed, timed, minutes_in, made_instance, or_one, handed_instance}
+use Rattle.cfa_resolve.specs.Instances.{Reached, instance_of, bust_instance, promiser_in, text_of, call_by, work_by, minutes_said, classed, timed, minutes_in, made_instance, handed_instance}
 use Rattle.cfa_resolve.specs.Resolution.{walked_for, scripted_in, made_by_script, made_by, made, instance_in, made_for, instances_for, resolved_as, resolution}
 use Rattle.cfa_laws.specs.Keys.{AreGiven, IsPlainId, IsResolved, InstancesAreKeyed, HasPlainCall, IsLine, KeysAreLines}
 use Rattle.cfa_laws.proofs.GivenLemmas.{none, one, files_given, service_given, script_is}
@@ -70,17 +70,13 @@ block_small None = tt
 block_small (Some (bundle type_name named params sections place)) = tt
 block_small (Some (body type_name named params attributes place)) = given_small (value_of (codes "ifelapsed") attributes)
 
-served_small : (minutes : Option ℕ) → MayBeSmall minutes → IsSmall (served_or_one minutes)
-served_small None small = omega arith
-served_small (Some minutes) small = small
-
-control_small : (policy : PolicyTree) → IsSmall (minutes_of policy)
-unfolding minutes_of
-control_small policy = let b = body_of policy body_types.Agent (codes "control") in served_small (minutes_in_body b) (block_small b)
-
 or_one_small : (minutes : Option ℕ) → MayBeSmall minutes → IsSmall (or_one minutes)
 or_one_small None small = omega arith
 or_one_small (Some minutes) small = small
+
+control_small : (policy : PolicyTree) → IsSmall (minutes_of policy)
+unfolding minutes_of
+control_small policy = let b = body_of policy body_types.Agent (codes "control") in or_one_small (minutes_in_body b) (block_small b)
 
 said_small : (r : Reached) (said : Option Said) → MayBeSmall (minutes_said r said)
 said_small r None = control_small r.policy

@@ -14,7 +14,7 @@ use Rattle.cfa_kinds.specs.declared.kinds.PromiseType.{PromiseType}
 use Rattle.cfa_kinds.specs.declared.kinds.PromiseType.TheVariants as promises
 use Rattle.cfa_kinds.specs.Forms.{minutes_written}
 use Rattle.cfa_values.specs.Attributes.{value_of}
-use Rattle.cfa_served.specs.Served.{minutes_of}
+use Rattle.cfa_served.specs.Served.{minutes_of, or_one}
 use Rattle.cfa_vars.specs.declared.expanding.Expanded.{Expanded}
 use Rattle.cfa_vars.specs.declared.expanding.Expanded.TheVariants.{Done, Unresolved, TooLong}
 use Rattle.cfa_vars.specs.Scopes.{InScope}
@@ -112,12 +112,7 @@ minutes_in r bodies = minutes_said r (said_in bodies (codes "action") (codes "if
 unfoldable pub made_instance : Reached → Chosen → Bodies → Option Scripted → Instance
 made_instance r choice bodies scripted = timed r choice bodies scripted (minutes_in r bodies)
 
--- 1 where they are wrong
-abbrev pub or_one : Option ℕ → ℕ
-or_one None = 1
-or_one (Some minutes) = minutes
-
--- the instance of what a promise of the edit bundle hands over
+-- the instance of what a promise of the edit bundle hands over, with 1 for minutes that are wrong
 unfoldable pub handed_instance : Reached → Bodies → Reason → Instance
 handed_instance r bodies reason =
     classed r bodies r.promise.promiser (Acts (Bust reason ∷ [])) (or_one (minutes_in r bodies))
