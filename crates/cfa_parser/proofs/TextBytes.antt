@@ -1,11 +1,11 @@
 -- What the spelling of a token means is UTF-8 where the spelling is.
-use Rattle.std.proofs.Common.{◌≡◌, ℕ, suc, ◌+◌, ◌-◌, ◌<◌, ◌≤◌, Bool, true, false, cond, if◌then◌else◌, ◌||◌, ◌&&◌, ◌==◌, IsTrue, List, [], ◌∷◌, ◌++◌, length, take, drop, get_or, refl, ap, ◌∙◌, sym, subst, append-nil, arith, ltb, length-append}
+use Rattle.std.proofs.Common.{◌≡◌, ℕ, ◌+◌, ◌-◌, ◌<◌, ◌≤◌, Bool, true, false, cond, if◌then◌else◌, ◌||◌, ◌&&◌, ◌==◌, IsTrue, List, [], ◌∷◌, ◌++◌, length, take, drop, get_or, refl, ap, ◌∙◌, sym, subst, append-nil, arith, ltb, length-append}
 use Rattle.std.specs.Str.{IsUtf8}
 use Rattle.std.proofs.lemmas.Bool.{ltb-true, ltb-false, le-ltb, false≢true, and_parts}
 use Rattle.std.proofs.lemmas.Str.{IsUtf8-nil, IsUtf8-append, IsUtf8-between, IsCharBoundary-after_ascii, IsCharBoundary-before_ascii, encode_ascii, length-encode, len_utf8_bounds}
 use Rattle.cfa_base.specs.declared.tokens.Kind.TheVariants.{Text}
 use Rattle.cfa_base.specs.Lexing.{is_quote, closes, is_quoted, is_reference, is_escapable, unescaped, content_of, name_of}
-use Rattle.cfa_base.specs.lemmas.Boundaries.{ends_ascii, spelled_ends}
+use Rattle.cfa_base.specs.lemmas.Boundaries.{ascii_last, ends_ascii, spelled_ends}
 use Rattle.cfa_base.specs.lemmas.Taking.{Brackets, parentheses, braces, reference_of}
 use borrow.Author.Tests.{ne_eqb}
 use lib.Utf8.{scalar, scalars, low_scalar, encode, encodes}
@@ -84,14 +84,6 @@ encodes_utf8 (c ∷ cs) h behind =
 
 unescaped_utf8 : (bytes : List ℕ) → IsUtf8 bytes → IsUtf8 (unescaped false bytes)
 unescaped_utf8 bytes utf8 = subst (λ z. IsUtf8 (unescaped false z)) utf8.1.1 (encodes_utf8 utf8.0 utf8.1.0 false)
-
-ascii_last : (text : List ℕ) → IsTrue (ends_ascii text) → (0 < length text) × (get_or text (length text - 1) 0 < 128)
-ascii_last [] ends = absurd (false≢true ends)
-ascii_last (b ∷ []) ends = (omega arith, ltb-true b 128 ends)
-ascii_last (b ∷ c ∷ bs) ends =
-    let later = ascii_last (c ∷ bs) ends in
-    let shift : length (b ∷ c ∷ bs) - 1 ≡ suc (length (c ∷ bs) - 1) = omega arith in
-    (omega arith, subst (λ (n : ℕ). get_or (b ∷ c ∷ bs) n 0 < 128) (sym shift) later.1)
 
 -- what stands between some ASCII bytes and a last one
 inner_utf8 : (text : List ℕ) (k : ℕ) → IsUtf8 text → k + 2 ≤ length text → get_or text k 0 < 128 → IsTrue (ends_ascii text) → IsUtf8 (take (length text - (k + 2)) (drop (k + 1) text))

@@ -95,7 +95,7 @@ spelled_ends Dot text spelled = symbol_ends text _ refl spelled
 spelled_ends And text spelled = symbol_ends text _ refl spelled
 spelled_ends Or text spelled = ⊎_elim (λ one. symbol_ends text (124 ∷ []) refl one) (λ two. symbol_ends text (124 ∷ 124 ∷ []) refl two) (or_cases (bytes_eq text (124 ∷ [])) (bytes_eq text (124 ∷ 124 ∷ [])) spelled)
 
-ascii_last : (text : List ℕ) → IsTrue (ends_ascii text) → (0 < length text) × (get_or text (length text - 1) 0 < 128)
+pub ascii_last : (text : List ℕ) → IsTrue (ends_ascii text) → (0 < length text) × (get_or text (length text - 1) 0 < 128)
 ascii_last [] ends = absurd (false≢true ends)
 ascii_last (b ∷ []) ends = (omega arith, ltb-true b 128 ends)
 ascii_last (b ∷ c ∷ bs) ends =
