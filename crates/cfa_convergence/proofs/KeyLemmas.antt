@@ -20,6 +20,7 @@ use Rattle.cfa_acts.specs.Reasons.{code_of}
 use Rattle.cfa_resolve.specs.declared.instances.Work.{Work}
 use Rattle.cfa_resolve.specs.declared.instances.Work.TheVariants.{Acts, Call, Report}
 use Rattle.cfa_resolve.specs.KeyTexts.{fields_after, octal_digit, mode_text, mode_field, names_field, yes_or_no, act_text, work_text, classes_text, key_text}
+use Rattle.cfa_resolve.specs.lemmas.Octal.{octal_is}
 use Rattle.cfa_laws.specs.Keys.{IsMode, IsGiven, AreGiven, IsPlainId}
 use Rattle.cfa_convergence.specs.Keys.{AreAlike, KeysTellWorks}
 use Rattle.cfa_base.specs.Lacking.{Lacks}
@@ -66,9 +67,6 @@ modes_tell (Some m) (Some n) is is' e =
     let c : digit_glyph false (m / 8 % 8) ≡ digit_glyph false (n / 8 % 8) = cc in
     let d : digit_glyph false (m % 8) ≡ digit_glyph false (n % 8) = cc in
     ap Some (digits_tell m n is is' (glyphs_tell (m / 512 % 8) (n / 512 % 8) a) (glyphs_tell (m / 64 % 8) (n / 64 % 8) b) (glyphs_tell (m / 8 % 8) (n / 8 % 8) c) (glyphs_tell (m % 8) (n % 8) d))
-
-octal_is : (n : ℕ) → octal_digit n ≡ 48 + n % 8
-octal_is n = grind (arith, nat_tests)
 
 octal_differs : (c n : ℕ) → IsSeparator c → octal_digit n ≢ c
 octal_differs c n s e = s.no_digit (n % 8) (omega arith) (sym (octal_is n) ∙ e)

@@ -4,7 +4,6 @@ use Rattle.std.proofs.Common.{◌≡◌, ◌≢◌, ◌≤◌, ℕ, ◌+◌, ◌
 use Rattle.std.specs.Prelude.{All, encode_utf8, ◌==◌}
 use Rattle.std.specs.Fmt.{decimal}
 use Rattle.std.specs.List.{join_with_byte, flat_map}
-use Rattle.std.proofs.lemmas.Bool.Decides.{nat_tests}
 use Rattle.std.proofs.lemmas.List.Elements.{All-head, All-tail}
 use Rattle.cfa_base.specs.declared.places.PromiseId.{PromiseId}
 use Rattle.cfa_base.specs.Escapes.{escaped}
@@ -23,6 +22,7 @@ use Rattle.cfa_acts.specs.Reasons.{code_of}
 use Rattle.cfa_resolve.specs.declared.instances.Work.{Work}
 use Rattle.cfa_resolve.specs.declared.instances.Work.TheVariants.{Acts, Call, Report}
 use Rattle.cfa_resolve.specs.KeyTexts.{fields_after, octal_digit, mode_text, mode_field, names_field, yes_or_no, act_text, datum_text, work_text, classes_text, key_text}
+use Rattle.cfa_resolve.specs.lemmas.Octal.{octal_is}
 use Rattle.cfa_laws.specs.Keys.{IsGiven, AreGiven, IsPlainId}
 use Rattle.cfa_laws.proofs.LineLemmas.{no_text, led_line, both_lines, either_line, no_lines, one_more, joined_line, led_lines, field_line, field_lines, decimal_line}
 use Rattle.cfa_scripts.specs.lemmas.OneLine.{one_line}
@@ -78,9 +78,6 @@ unfolding script_text
 script_line script are = joined_line 44 (map edit_text script) (λ e. omega arith) (edits_lines script are.each)
 
 -- ---- acts
-
-octal_is : (n : ℕ) → octal_digit n ≡ 48 + n % 8
-octal_is n = grind (arith, nat_tests)
 
 octal_other : (n : ℕ) → octal_digit n ≢ 10
 octal_other n = λ e. let same : 48 + n % 8 ≡ 10 = sym (octal_is n) ∙ e in omega arith
