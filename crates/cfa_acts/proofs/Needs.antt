@@ -215,7 +215,7 @@ deletable_removable dirs (look.File _) is = refl
 deletable_removable true (look.Dir is_empty) is = is
 deletable_removable false (look.Dir is_empty) is = absurd (false≢true is)
 
-perms_there : (here : Option Node) (present : Perms) → perms_in here ≡ Some present → is_some here ≡ true
+pub perms_there : (here : Option Node) (present : Perms) → perms_in here ≡ Some present → is_some here ≡ true
 perms_there (Some _) present is = refl
 perms_there None present is = cc
 

@@ -24,7 +24,7 @@ use Rattle.cfa_acts.specs.Acts.{has_bytes, is_copied, is_listed, is_mode, are_pe
 use Rattle.cfa_acts.specs.Disturbs.{modes_differ, lists_differ}
 use Rattle.cfa_acts.specs.Settling.{is_short, leaves as leaves_lines, is_settled}
 use Rattle.cfa_acts.specs.Laws.{NeededMakesPost}
-use Rattle.cfa_acts.proofs.Needs.{create_needs, make_dir_needs, delete_needs, content_needs, copy_needs, edit_needs, perms_needs, start_needs, stop_needs, enable_needs, disable_needs, bust_needs, RowNeeds}
+use Rattle.cfa_acts.proofs.Needs.{create_needs, make_dir_needs, delete_needs, content_needs, copy_needs, edit_needs, perms_needs, start_needs, stop_needs, enable_needs, disable_needs, bust_needs, RowNeeds, perms_there}
 use Rattle.cfa_acts.proofs.Effects.{leaves, put_there, directory_there, removed_there}
 
 -- what stands at a path, where a test of it passes
@@ -193,10 +193,6 @@ made_set path mode owners groups present world found =
     ∙ ap (has_perms mode owners groups) (set_perms_in (asked_perms mode owners groups present) found.node)
     ∙ asked_are mode owners groups present
 
-some_perms : (here : Option Node) (present : Perms) → perms_in here ≡ Some present → is_some here ≡ true
-some_perms (Some _) present is = refl
-some_perms None present is = cc
-
 pub made_post : NeededMakesPost
 unfolding post
 made_post (act.Create path) world change lasts e =
@@ -221,7 +217,7 @@ made_post (act.Edit path script) world change lasts e =
 made_post (act.Perms path mode owners groups) world change lasts e =
     let need = perms_needs path mode owners groups world change e in
     subst (λ (c : Change). has_perms mode owners groups (perms_in (map.get (after_change c world).nodes path)) ≡ true) need.set
-    (made_set path mode owners groups need.present world (at (λ here. is_some here) (map.get world.nodes path) refl (some_perms (map.get world.nodes path) need.present need.there)))
+    (made_set path mode owners groups need.present world (at (λ here. is_some here) (map.get world.nodes path) refl (perms_there (map.get world.nodes path) need.present need.there)))
 made_post (act.Start name) world change lasts e = made_row name (with_running true) (λ row. row.running) world change (λ row. refl) (start_needs name world change e)
 made_post (act.Stop name) world change lasts e = made_row name (with_running false) (λ row. not row.running) world change (λ row. refl) (stop_needs name world change e)
 made_post (act.Enable name) world change lasts e = made_row name (with_enabled true) (λ row. row.enabled) world change (λ row. refl) (enable_needs name world change e)

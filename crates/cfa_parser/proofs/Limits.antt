@@ -83,7 +83,7 @@ step_extends limit blocks (in_body h attrs (in_body_value y q v)) k x p =
     through (λ o. body_next blocks h (body_value_next attrs y q o k)) (value_step limit v k x p) (value_step unlimited v k x p) refl (value_extends limit v k x p)
 step_extends limit blocks state k x p = same (state_step limit blocks state k x p)
 
-run_none : (limit : Levels) (ts : List Token) → run limit None ts ≡ None
+pub run_none : (limit : Levels) (ts : List Token) → run limit None ts ≡ None
 run_none limit [] = refl
 run_none limit (t ∷ ts) = refl
 

@@ -7,11 +7,7 @@ use Rattle.cfa_tree.specs.Grammar.{Levels, unlimited, ReadsWithin, BeginsWithin,
 use Rattle.cfa_parser.specs.Machine.{State, between_blocks, Machine, start, machine, whole, step, run}
 use Rattle.cfa_parser.proofs.PolicyRuns.{reads_run}
 use Rattle.cfa_parser.proofs.PolicyRest.{before_block, rest_reads, alive}
-use Rattle.cfa_parser.proofs.Limits.{run_beyond}
-
-run_none : (limit : Levels) (ts : List Token) → run limit None ts ≡ None
-run_none limit [] = refl
-run_none limit (t ∷ ts) = refl
+use Rattle.cfa_parser.proofs.Limits.{run_none, run_beyond}
 
 pub run_append : (limit : Levels) (o : Option Machine) (ts us : List Token) → run limit o (ts ++ us) ≡ run limit (run limit o ts) us
 run_append limit None [] us = refl
