@@ -19,13 +19,9 @@ use Rattle.cfa_classes.specs.declared.levels.Status.{Status}
 use Rattle.cfa_classes.specs.declared.levels.Status.TheVariants.{No, Maybe, Yes}
 use Rattle.cfa_classes.specs.Status.{greater}
 use Rattle.cfa_classes.specs.Raised.{Raised, none_raised, status_in, raised}
-use Rattle.cfa_classes.specs.lemmas.Raised.{status_in-none_raised, status_in-raised_same, status_in-raised_other}
+use Rattle.cfa_classes.specs.lemmas.Raised.{unwrap_or-cond, status_in-none_raised, status_in-raised_same, status_in-raised_other}
 use Rattle.cfa_outcomes.specs.Environments.{EnvironmentMaps, with_class, Sources, Marks, marks_at, mark_in, marked, sourced, is_listed, all_yes}
 use Rattle.cfa_outcomes.proofs.HashedTexts.{get-hashed, hashed-put}
-
-unwrap_or-cond : {A : Type 0} (b : Bool) (x d : A) (o : Option A) → unwrap_or (cond b (Some x) o) d ≡ cond b x (unwrap_or o d)
-unwrap_or-cond true x d o = refl
-unwrap_or-cond false x d o = refl
 
 -- ---- marks
 

@@ -15,7 +15,7 @@ pub status_in-none_raised : (name : List ℕ) → status_in none_raised name ≡
 unfolding status_in
 status_in-none_raised name = ap (λ o. unwrap_or o No) (finite.get-empty text_cmp name)
 
-unwrap_or-cond : (b : Bool) (x d : Status) (o : Option Status) → unwrap_or (cond b (Some x) o) d ≡ cond b x (unwrap_or o d)
+pub unwrap_or-cond : {A : Type 0} (b : Bool) (x d : A) (o : Option A) → unwrap_or (cond b (Some x) o) d ≡ cond b x (unwrap_or o d)
 unwrap_or-cond true x d o = refl
 unwrap_or-cond false x d o = refl
 
