@@ -7,6 +7,7 @@ use Rattle.std.proofs.lemmas.List.{take_more, drop_more, take_at, drop_at, take_
 use Rattle.std.proofs.lemmas.Option.{slice_get_within, get_or_from_slice_get, slice_get_cases}
 use Rattle.cfa_base.specs.Patterns.{PatternText, matches_in}
 use Rattle.cfa_base.specs.lemmas.Lists.{option_or-assoc}
+use Rattle.cfa_lines.specs.lemmas.Removed.{remove_at}
 use Rattle.cfa_edits.specs.Edits.{Lines, unmatched, led_by, each_becomes, last_from}
 
 -- a line stands at the place
@@ -36,10 +37,6 @@ end lines place e =
     let past : length lines ≤ place =
     ⊎_elim (λ some. let is = some.2 in absurd cc) (λ none. none.0) (slice_get_cases lines place).1 in
     record { past = past; rest = drop_all place lines past; before = take_all place lines past }
-
-remove_at : (xs : Lines) (y : List ℕ) (ys : Lines) → remove (xs ++ y ∷ ys) (length xs) ≡ xs ++ ys
-remove_at [] y ys = refl
-remove_at (x ∷ xs) y ys = ap (λ zs. x ∷ zs) (remove_at xs y ys)
 
 length_before : (lines : Lines) (place : ℕ) (line : List ℕ) → Turn lines place line → length (take place lines) ≡ place
 length_before lines place line t = length-take-le place lines (omega (arith, t.within))

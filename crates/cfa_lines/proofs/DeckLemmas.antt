@@ -5,10 +5,7 @@ use Rattle.std.specs.List.{remove, flat_map}
 use Rattle.std.proofs.lemmas.List.{reverse-append, append_assoc, append-nil}
 use Rattle.std.proofs.lemmas.Grind.{common_steps, flat_map-append}
 use Rattle.cfa_lines.specs.Decks.{lines_of_parts, parts_of, lines_of, ended, text_of}
-
-pub remove_at : {X : Type 0} (xs : List X) (y : X) (ys : List X) → remove (xs ++ y ∷ ys) (length xs) ≡ xs ++ ys
-remove_at [] y ys = refl
-remove_at (x ∷ xs) y ys = ap (λ zs. x ∷ zs) (remove_at xs y ys)
+use Rattle.cfa_lines.specs.lemmas.Removed.{remove_at}
 
 -- the last of the lines behind the place is the one at it
 pub remove_top : {X : Type 0} (xs ys : List X) (y : X) (n : ℕ) → n ≡ length xs → remove (xs ++ reverse (ys ++ y ∷ [])) n ≡ xs ++ reverse ys
