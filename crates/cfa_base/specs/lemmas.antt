@@ -3,6 +3,7 @@ pub mod Boundaries
 pub mod EndPlaces
 pub mod EqualTexts
 pub mod Escapes
+pub mod Firsts
 pub mod Fronts
 pub mod Lists
 pub mod Order

@@ -4,7 +4,7 @@ use Rattle.std.specs.Prelude.{not, All, Some, IfSome, Result, Ok, Err}
 use Rattle.std.specs.Result.{IsErrAnd}
 use Rattle.std.proofs.Common.{rules}
 use Rattle.std.proofs.lemmas.Bool.{false≢true}
-use Rattle.std.proofs.lemmas.List.{map-append, take_more, take-append-drop}
+use Rattle.std.proofs.lemmas.List.{map-append, take-append-drop}
 use Rattle.std.proofs.lemmas.List.Elements.{All-get_or, filter-append}
 use denote.Enum.Bare.{sameb, same_true}
 use Rattle.cfa_kinds.specs.contracts.kinds.PromiseType.{the_type as the_types}
@@ -221,10 +221,6 @@ module _ (policy : PolicyTree) (depth : ℕ) (type : PromiseType) where
       (quiet_stops policy true (common_type_level depth xs type) (common_type_level depth ys type) (common_keeps depth ys type) st st' a a' stop first)
 
 -- ---- parts of lists
-
-pub one_taken : {X Y : Type 0} (f : X → Y) (xs : List X) (i : ℕ) (x : X) → i < length xs → x ≡ get_or xs i x → map f (take (i + 1) xs) ≡ map f (take i xs) ++ f x ∷ []
-one_taken f xs i x within is =
-    ap (map f) (take_more xs i x within) ∙ map-append f (take i xs) (get_or xs i x ∷ []) ∙ ap (λ y. map f (take i xs) ++ f y ∷ []) (sym is)
 
 pub in_parts : {X Y : Type 0} (f : X → Y) (xs : List X) (i : ℕ) → map f xs ≡ map f (take i xs) ++ map f (drop i xs)
 in_parts f xs i = ap (map f) (sym (take-append-drop i xs)) ∙ map-append f (take i xs) (drop i xs)

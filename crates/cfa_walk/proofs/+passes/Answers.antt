@@ -27,7 +27,8 @@ use Rattle.cfa_walk.specs.Numbered.{Numbered, agent_types, numbered_in, params_o
 use Rattle.cfa_walk.specs.Remembered.{GuardsRepeat, RowHolds}
 use Rattle.cfa_walk.specs.SeenNumbered.{seen_numbered}
 use Rattle.cfa_walk.specs.Steps.{IsAt, AreCounted, CallEnds, visit_level, instances_level, acting_level, type_level, types_level, pass_level, passes_level}
-use Rattle.cfa_walk.proofs.CommonLemmas.{one_taken, in_parts, of_item, on_stop, is_same_type, is_other_type, types_agree, types_differ, statuses_agree, statuses_differ}
+use Rattle.cfa_base.specs.lemmas.Firsts.{one_taken}
+use Rattle.cfa_walk.proofs.CommonLemmas.{in_parts, of_item, on_stop, is_same_type, is_other_type, types_agree, types_differ, statuses_agree, statuses_differ}
 use Rattle.cfa_walk.proofs.LaterLemmas.{are_same, are_then, later_same, later_then, row_later, state_ok, then_are, with_state}
 use Rattle.cfa_walk.proofs.RememberedLemmas.{before_next, guard_read, repeated_before, inside_map, row_at, row_ok, rows_set, seen_at}
 use Rattle.cfa_walk.proofs.LoopLemmas.{loop_begins, loop_goes_on, loop_stops}

@@ -3,7 +3,8 @@ use Rattle.std.specs.Prelude.{Ok, Err}
 use Rattle.cfa_walk.specs.Levels.{QuietDone}
 use Rattle.cfa_walk.specs.SeenNumbered.{seen_numbered}
 use Rattle.cfa_walk.specs.Steps.{common_type_level}
-use Rattle.cfa_walk.proofs.CommonLemmas.{type_nothing, type_then, type_stops, one_taken, in_parts, on_stop}
+use Rattle.cfa_base.specs.lemmas.Firsts.{one_taken}
+use Rattle.cfa_walk.proofs.CommonLemmas.{type_nothing, type_then, type_stops, in_parts, on_stop}
 use Rattle.cfa_walk.proofs.walking.reach_common_type.Goals as goal
 
 pub loop-promise-init : goal.loop-promise-init

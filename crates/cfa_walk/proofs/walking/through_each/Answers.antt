@@ -3,7 +3,8 @@ use Rattle.std.specs.Prelude.{Ok, Err}
 use Rattle.cfa_tree.specs.declared.blocks.Bundle.{Bundle}
 use Rattle.cfa_tree.specs.Tree.{BlockTree}
 use Rattle.cfa_walk.specs.Bundles.{QuietWalkDone, IsShared, commons_walk, seen_bundle}
-use Rattle.cfa_walk.proofs.CommonLemmas.{one_taken, in_parts, of_item, on_stop}
+use Rattle.cfa_base.specs.lemmas.Firsts.{one_taken}
+use Rattle.cfa_walk.proofs.CommonLemmas.{in_parts, of_item, on_stop}
 use Rattle.cfa_walk.proofs.QuietLemmas.{commons_nothing, commons_then, commons_stop}
 use Rattle.cfa_walk.proofs.walking.through_each.Goals as goal
 
