@@ -1,6 +1,7 @@
 -- What stops who tells, by what stopped a part of its work.
 use Rattle.std.proofs.Common.{◌≡◌, ℕ, ◌≤◌, List, Result, Ok, Err, IfErr, refl, sym, ap, subst, ◌∙◌, arith}
 use Rattle.cfa_base.specs.Causes.{Rose}
+use Rattle.cfa_base.specs.lemmas.Causes.{rose_later}
 use Rattle.cfa_base.specs.Shown.{Shown, Follows}
 use Rattle.cfa_outside.specs.declared.sites.Entry.{Entry}
 use Rattle.cfa_outside.specs.Sites.{Told, adds}
@@ -11,9 +12,6 @@ use Rattle.cfa_output.specs.declared.ends.Stop.TheVariants.{Outside, Memory, Vis
 use Rattle.cfa_walk.specs.Levels.{Faults, Later, Stops, IsTellersStop}
 use Rattle.cfa_agent.specs.Ending.{StopsPut, StopsTeller}
 use Rattle.cfa_agent.specs.Recording.{StopsBySite}
-
-rose_later : (a b c : ℕ) → a ≤ b → Rose b c → Rose a c
-rose_later a b c le rose = omega (arith, le, rose)
 
 -- by the site, behind some of the work
 pub site_stops : (first : Faults) (before after : Shown Told) (n : ℕ) (stop : Stop) → first.0 ≤ before.faults → n ≡ first.1 → StopsBySite before after stop → StopsTeller first (after.faults, n) stop

@@ -1,5 +1,6 @@
 -- Lemmas on these definitions that the proofs of the crates above cite. No contract names one.
 pub mod Boundaries
+pub mod Causes
 pub mod EndPlaces
 pub mod EqualTexts
 pub mod Escapes

@@ -3,6 +3,7 @@ use Rattle.std.proofs.Common.{◌≡◌, ℕ, ◌≤◌, Bool, List, [], ◌∷�
 use Rattle.std.specs.Prelude.{Result, Ok, Err}
 use Rattle.cfa_base.specs.Shown.{Shown}
 use Rattle.cfa_base.specs.Causes.{Rose}
+use Rattle.cfa_base.specs.lemmas.Causes.{rose_later}
 use Rattle.cfa_classes.specs.declared.levels.Status.{Status}
 use Rattle.cfa_output.specs.declared.ends.Object.TheVariants.{Inputs, Site, Sink}
 use Rattle.cfa_output.specs.declared.ends.Stop.{Stop}
@@ -91,9 +92,6 @@ later_then f g k fg gk = (at_most f.0 g.0 k.0 fg.0 gk.0, gk.1 ∙ fg.1)
   where
     at_most : (a b c : ℕ) → a ≤ b → b ≤ c → a ≤ c
     at_most a b c ab bc = omega arith
-
-rose_later : (a b c : ℕ) → a ≤ b → Rose b c → Rose a c
-rose_later a b c ab bc = omega arith
 
 rose_same : (a b c : ℕ) → b ≡ a → Rose b c → Rose a c
 rose_same a b c same rose = subst (λ n. Rose n c) same rose
