@@ -4,7 +4,7 @@ use Rattle.std.specs.Prelude.{ℕ, Bool, true, false, ◌||◌, ◌==◌, not, L
 use Rattle.std.specs.List.{list_any}
 use Rattle.std.specs.Str.{bytes_eq}
 use Rattle.cfa_vars.specs.References.{is_qualified, bundle_part, word_part, Piece, literal, reference, pieces, names_in, list_reference_of}
-use Rattle.cfa_values.specs.Definitions.{is_shared}
+use Rattle.cfa_values.specs.Definitions.{is_one_of, is_shared}
 
 -- the constants are `const.n`, `const.t` and `const.dollar`
 unfoldable pub is_constant : List ℕ → Bool
@@ -15,13 +15,10 @@ pub data Where : Type 0 where
   in_bundle : (own : List ℕ) → Where
   in_body : (params : List (List ℕ)) → Where
 
-abbrev pub has_param : List ℕ → List (List ℕ) → Bool
-has_param name params = list_any (λ other. bytes_eq name other) params
-
 -- whether a word may be referred to
 abbrev pub admits_word : Where → List ℕ → Bool
 admits_word (in_bundle own) word = true
-admits_word (in_body params) word = has_param word params
+admits_word (in_body params) word = is_one_of word params
 
 abbrev pub is_own : Where → List ℕ → Bool
 is_own (in_bundle own) bundle = bytes_eq bundle own
