@@ -13,7 +13,7 @@ use Rattle.cfa_resolve.specs.declared.instances.Instance.{Instance}
 use Rattle.cfa_tree.specs.Tree.{NamedTree}
 use Rattle.cfa_vars.specs.declared.scoping.Datum.{Datum}
 use Rattle.cfa_vars.specs.Named.{put}
-use Rattle.cfa_resolve.specs.Resolution.{is_listed}
+use Rattle.cfa_base.specs.Index.{is_listed}
 use Rattle.cfa_walk.specs.History.{History, Where, everywhere, within, Set, Raised, Reached, Listed, Told, scope_in, globally, locally, mark_in}
 use Rattle.cfa_walk.specs.Numbered.{Numbered}
 use Rattle.cfa_walk.specs.Passes.{Course, goes, too_large, then_on, told, classes_for, in_every_list, raised_to, raise_each, set_each, handed, raise_event, raise_all, bind}

@@ -18,7 +18,8 @@ use Rattle.cfa_resolve.specs.declared.instances.Instance.{Instance}
 use Rattle.cfa_resolve.specs.declared.instances.Work.{Work}
 use Rattle.cfa_resolve.specs.declared.instances.Work.TheVariants.{Acts, Call, Report}
 use Rattle.cfa_resolve.specs.Instances.{Reached as Resolving}
-use Rattle.cfa_resolve.specs.Resolution.{resolution, reached_at, is_acting, is_listed}
+use Rattle.cfa_base.specs.Index.{is_listed}
+use Rattle.cfa_resolve.specs.Resolution.{resolution, reached_at, is_acting}
 use Rattle.cfa_served.specs.Served.{bundle_of}
 use Rattle.cfa_tree.specs.Tree.{ExprTree, BlockTree, PolicyTree}
 use Rattle.cfa_vars.specs.declared.scoping.Datum.{Datum}

@@ -8,7 +8,7 @@ use Rattle.cfa_classes.specs.declared.levels.Status.TheVariants.{No, Maybe, Yes}
 use Rattle.cfa_classes.specs.Status.{greater}
 use Rattle.cfa_outcomes.specs.declared.outcomes.Outcome.{Outcome}
 use Rattle.cfa_resolve.specs.declared.instances.Instance.{Instance}
-use Rattle.cfa_resolve.specs.Resolution.{is_listed}
+use Rattle.cfa_base.specs.Index.{is_listed}
 use Rattle.cfa_walk.specs.History.{History, everywhere, Raised, scope_in, globally, locally, mark_in}
 use Rattle.cfa_walk.specs.Passes.{raise_each, raised_to, in_every_list}
 use Rattle.cfa_laws.specs.Statuses.{Within, no_maybe, yes_maybe, yes_yes}

@@ -12,7 +12,7 @@ use Rattle.cfa_classes.specs.Status.{lesser, greater}
 use Rattle.cfa_vars.specs.declared.scoping.Datum.{Datum}
 use Rattle.cfa_defines.specs.FirstMaybe.{first_maybe_of_guard}
 use Rattle.cfa_defines.specs.ClassPromises.{Raise}
-use Rattle.cfa_resolve.specs.Resolution.{is_listed}
+use Rattle.cfa_base.specs.Index.{is_listed}
 use Rattle.cfa_walk.specs.History.{History, Where, everywhere, within, Begun, Raised, globally, locally, global_source, local_source, source_in}
 use Rattle.cfa_walk.specs.Passes.{handed, raise_event, raise_all}
 use Rattle.cfa_walk.specs.Views.{Setting, from_start, global_status, status_in, guard_status, source_of}

@@ -20,7 +20,8 @@ use Rattle.cfa_classes.specs.declared.levels.Status.TheVariants.{No, Maybe, Yes}
 use Rattle.cfa_classes.specs.Status.{greater}
 use Rattle.cfa_classes.specs.Raised.{Raised, none_raised, status_in, raised}
 use Rattle.cfa_classes.specs.lemmas.Raised.{unwrap_or-cond, status_in-none_raised, status_in-raised_same, status_in-raised_other}
-use Rattle.cfa_outcomes.specs.Environments.{EnvironmentMaps, with_class, Sources, Marks, marks_at, mark_in, marked, sourced, is_listed, all_yes}
+use Rattle.cfa_base.specs.Index.{is_listed}
+use Rattle.cfa_outcomes.specs.Environments.{EnvironmentMaps, with_class, Sources, Marks, marks_at, mark_in, marked, sourced, all_yes}
 use Rattle.cfa_outcomes.proofs.HashedTexts.{get-hashed, hashed-put}
 
 -- ---- marks

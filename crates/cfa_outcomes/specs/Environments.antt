@@ -1,9 +1,7 @@
 -- An environment keeps the statuses of classes, the sources of classes, and the marks of instances. A status and a mark
 -- never fall: what is raised gets the greater of what it was and what it is raised to, and what never was is No. The
 -- source of a class is that of the first raise that had one. An instance is named by its path and its text.
-use Rattle.std.specs.Prelude.{ℕ, Bool, List, Option, Some, None, if◌then◌else◌, map, unwrap_or}
-use Rattle.std.specs.List.{list_any}
-use Rattle.std.specs.Str.{bytes_eq}
+use Rattle.std.specs.Prelude.{ℕ, List, Option, Some, None, if◌then◌else◌, map, unwrap_or}
 use Rattle.std.specs.FinMap as finite
 use Rattle.cfa_base.specs.TextMaps.{TextMap}
 use Rattle.cfa_base.specs.declared.places.PromiseId.{PromiseId}
@@ -60,9 +58,6 @@ abbrev pub with_mark : EnvironmentMaps → (path text : List ℕ) → Status →
 with_mark environment path text to = record environment { marks = marked environment.marks path text to }
 
 -- The first environment, where some classes are Yes.
-
-abbrev pub is_listed : List (List ℕ) → List ℕ → Bool
-is_listed classes class = list_any (λ other. bytes_eq other class) classes
 
 unfoldable pub all_yes : List (List ℕ) → Raised
 all_yes classes = finite.from_entries (map (λ class. (class, Yes)) classes)

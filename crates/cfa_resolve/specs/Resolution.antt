@@ -4,8 +4,8 @@
 -- has combinations, and one where it has none or too many or its own texts are unresolved, and besides those of the promises of
 -- its edit bundle. This is walked once for each combination, also where a body is unresolved or the path is wrong.
 use Rattle.std.specs.Prelude.{IsTrue, option_map, ℕ, ◌+◌, Bool, true, false, List, [], ◌∷◌, ◌++◌, codes, length, Contains, Option, Some, None, if◌then◌else◌}
-use Rattle.std.specs.List.{filter_map, flat_map, list_any}
-use Rattle.std.specs.Str.{bytes_eq}
+use Rattle.std.specs.List.{filter_map, flat_map}
+use Rattle.cfa_base.specs.Index.{is_listed}
 use Rattle.cfa_base.specs.declared.places.PromiseId.{PromiseId}
 use Rattle.cfa_tree.specs.Tree.{ValueTree, PromiseTree, PolicyTree}
 use Rattle.cfa_classes.specs.declared.levels.Status.{Status}
@@ -112,9 +112,6 @@ abbrev pub instances_for : Reached → List Chosen → List Instance
 instances_for r choices = filter_map (λ choice. instance_in (made_for r choice)) choices
 
 -- the name is among these
-abbrev pub is_listed : List (List ℕ) → List ℕ → Bool
-is_listed names name = list_any (λ other. bytes_eq other name) names
-
 -- names, and one more behind them unless it is among them
 abbrev pub with_name : List (List ℕ) → Option (List ℕ) → List (List ℕ)
 with_name names None = names

@@ -7,7 +7,8 @@ ghost use Rattle.cfa_acts.specs.Acts.{IsOwn};
 ghost use Rattle.cfa_scripts.specs.Refusals.{too_big_in as script_too_big_in};
 ghost use Rattle.cfa_resolve.specs.declared.combinations.Made.TheVariants.{Instance as an_instance};
 ghost use Rattle.cfa_resolve.specs.Instances.{bust_instance};
-ghost use Rattle.cfa_resolve.specs.Resolution.{caller_of, edit_call, walked_for, visits_in, unsettled_in, made_by_script, unless_unresolved, made, made_for, instance_in, name_in, is_listed, with_name, instances_for, names_after, inner_visits, inner_unsettled, IsBuiltByCall, IsBuiltAmong};
+ghost use Rattle.cfa_base.specs.Index.{is_listed};
+ghost use Rattle.cfa_resolve.specs.Resolution.{caller_of, edit_call, walked_for, visits_in, unsettled_in, made_by_script, unless_unresolved, made, made_for, instance_in, name_in, with_name, instances_for, names_after, inner_visits, inner_unsettled, IsBuiltByCall, IsBuiltAmong};
 ghost use Rattle.cfa_resolve.specs.SeenReached.{seen_reached};
 ghost use Rattle.cfa_resolve.specs.Viewed.{too_big_in};
 

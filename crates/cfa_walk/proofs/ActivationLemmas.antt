@@ -21,7 +21,7 @@ use Rattle.cfa_vars.specs.declared.scoping.Datum.{Datum}
 use Rattle.cfa_vars.specs.declared.scoping.Scope.{Scope}
 use Rattle.cfa_vars.specs.Named.{put, thing_at}
 use Rattle.cfa_vars.specs.Scopes.{Table, InScope}
-use Rattle.cfa_resolve.specs.Resolution.{is_listed}
+use Rattle.cfa_base.specs.Index.{is_listed}
 use Rattle.cfa_walk.specs.declared.activations.Activation.{Activation}
 use Rattle.cfa_walk.specs.declared.states.State.{State}
 use Rattle.cfa_walk.specs.History.{History, Event, Begun, Set, Raised, within, scope_in, locally, local_source, source_in, visits_in}

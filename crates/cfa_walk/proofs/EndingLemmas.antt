@@ -12,7 +12,7 @@ use Rattle.cfa_resolve.specs.declared.instances.Instance.{Instance}
 use Rattle.cfa_tree.specs.declared.blocks.Named.{Named}
 use Rattle.cfa_tree.specs.Plain.{plain_named}
 use Rattle.cfa_vars.specs.declared.scoping.Datum.{Datum}
-use Rattle.cfa_resolve.specs.Resolution.{is_listed}
+use Rattle.cfa_base.specs.Index.{is_listed}
 use Rattle.cfa_walk.specs.declared.states.State.{State}
 use Rattle.cfa_walk.specs.declared.activations.Activation.{Activation}
 use Rattle.cfa_walk.specs.History.{History, everywhere, Set, Raised}

@@ -3,11 +3,10 @@ use Rattle.std.proofs.Common.{◌≡◌, ℕ, ◌+◌, Bool, ◌||◌, cond, Lis
 use Rattle.std.specs.List.{list_any, position_from}
 use Rattle.std.specs.Str.{bytes_eq}
 use Rattle.std.proofs.lemmas.Iterator.Adapters.{position_from-zero}
-use Rattle.cfa_base.specs.Index.{place_of, same_pair, pair_place_of}
+use Rattle.cfa_base.specs.Index.{place_of, same_pair, pair_place_of, is_listed}
 use Rattle.cfa_base.specs.lemmas.EqualTexts.{texts_turned}
 use Rattle.cfa_resolve.specs.declared.instances.Instance.{Instance}
 use Rattle.cfa_values.specs.Lookups.{has_position}
-use Rattle.cfa_resolve.specs.Resolution.{is_listed}
 use Rattle.cfa_walk.specs.History.{is_named}
 use Rattle.cfa_walk.specs.Names.{name_of}
 use Rattle.cfa_walk.specs.lemmas.Names.{same_instance}

@@ -14,7 +14,7 @@ use Rattle.cfa_tree.specs.Plain.{plain_block}
 use Rattle.cfa_tree.specs.Tree.{BlockTree, PolicyTree}
 use Rattle.cfa_served.specs.Control.{sequence_of}
 use Rattle.cfa_served.specs.Served.{common_bundles_of}
-use Rattle.cfa_resolve.specs.Resolution.{is_listed}
+use Rattle.cfa_base.specs.Index.{is_listed}
 use Rattle.cfa_walk.specs.Kept.{first}
 use Rattle.cfa_walk.specs.Numbered.{name_of}
 use Rattle.cfa_walk.specs.Views.{joined_once, shared_names}

@@ -11,7 +11,7 @@ use Rattle.cfa_outcomes.specs.declared.outcomes.Outcome.TheVariants.{Kept}
 use Rattle.cfa_outcomes.specs.Environments.{status_of, source_of, mark_of}
 use Rattle.cfa_tree.specs.Tree.{PolicyTree}
 use Rattle.cfa_vars.specs.Scopes.{Table}
-use Rattle.cfa_resolve.specs.Resolution.{is_listed}
+use Rattle.cfa_base.specs.Index.{is_listed}
 use Rattle.cfa_walk.specs.declared.states.State.{State}
 use Rattle.cfa_walk.specs.declared.activations.Activation.{Activation}
 use Rattle.cfa_walk.specs.declared.waits.Wait.{Wait}

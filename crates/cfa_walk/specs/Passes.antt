@@ -24,7 +24,8 @@ use Rattle.cfa_resolve.specs.declared.instances.Instance.{Instance}
 use Rattle.cfa_resolve.specs.declared.instances.Resolved.{Resolved}
 use Rattle.cfa_resolve.specs.declared.instances.Work.{Work}
 use Rattle.cfa_resolve.specs.declared.instances.Work.TheVariants.{Acts, Call, Report}
-use Rattle.cfa_resolve.specs.Resolution.{resolution, is_listed}
+use Rattle.cfa_base.specs.Index.{is_listed}
+use Rattle.cfa_resolve.specs.Resolution.{resolution}
 use Rattle.cfa_outcomes.specs.declared.outcomes.Outcome.{Outcome}
 use Rattle.cfa_outcomes.specs.declared.outcomes.Outcome.TheVariants.{Kept, Repaired, Failed}
 use Rattle.cfa_walk.specs.declared.states.TheConstants.{MOST_VISITS}

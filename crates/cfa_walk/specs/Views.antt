@@ -12,7 +12,8 @@ use Rattle.cfa_served.specs.Served.{common_bundles_of}
 use Rattle.cfa_vars.specs.Scopes.{Table, InScope}
 use Rattle.cfa_kinds.specs.declared.kinds.PromiseType.{PromiseType}
 use Rattle.cfa_resolve.specs.Instances.{Reached}
-use Rattle.cfa_resolve.specs.Resolution.{is_listed, reached_at}
+use Rattle.cfa_base.specs.Index.{is_listed}
+use Rattle.cfa_resolve.specs.Resolution.{reached_at}
 pub use Rattle.cfa_walk.specs.History.{Home}
 use Rattle.cfa_walk.specs.History.{History, scope_in, globally, locally, source_in}
 use Rattle.cfa_walk.specs.Numbered.{Numbered, name_of}

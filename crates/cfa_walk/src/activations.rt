@@ -6,7 +6,7 @@ ghost use Rattle.cfa_vars.specs.declared.scoping.Datum.{Datum};
 ghost use Rattle.cfa_vars.specs.Named.{put};
 ghost use Rattle.cfa_vars.specs.Scopes.{Table, in_scope};
 ghost use Rattle.cfa_resolve.specs.declared.instances.Instance.{Instance};
-ghost use Rattle.cfa_resolve.specs.Resolution.{is_listed};
+ghost use Rattle.cfa_base.specs.Index.{is_listed};
 ghost use Rattle.cfa_walk.specs.declared.states.State.{State};
 ghost use Rattle.cfa_walk.specs.History.{History, Begun, Set, Raised, Told, within, source_in};
 ghost use Rattle.cfa_walk.specs.Kept.{Keeps, KeepsLocally, Stands, IsSame, IsOf, IsFresh, IsUntouched, home_of, scope_at};

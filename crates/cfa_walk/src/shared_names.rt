@@ -2,7 +2,7 @@
 ghost use Rattle.std.specs.Prelude.{◌≡◌, [], ◌∷◌, ◌++◌, IfOk, OnOk, map, if◌then◌else◌};
 ghost use Rattle.cfa_schema.specs.Seen.{tree_of};
 ghost use Rattle.cfa_served.specs.Served.{common_bundles_of};
-ghost use Rattle.cfa_resolve.specs.Resolution.{is_listed};
+ghost use Rattle.cfa_base.specs.Index.{is_listed};
 ghost use Rattle.cfa_walk.specs.Numbered.{name_of};
 ghost use Rattle.cfa_walk.specs.Views.{joined_once, shared_names};
 

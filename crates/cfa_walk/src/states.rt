@@ -5,7 +5,7 @@ ghost use Rattle.std.specs.List.{filter_map};
 ghost use Rattle.std.specs.Str.{bytes_eq};
 ghost use Rattle.cfa_schema.specs.Seen.{tree_of};
 ghost use Rattle.cfa_vars.specs.Scopes.{Table};
-ghost use Rattle.cfa_resolve.specs.Resolution.{is_listed};
+ghost use Rattle.cfa_base.specs.Index.{is_listed};
 ghost use Rattle.cfa_walk.specs.History.{History, Raised, Listed, everywhere};
 ghost use Rattle.cfa_outcomes.specs.Environments.{mark_of, source_of};
 ghost use Rattle.cfa_walk.specs.Kept.{Keeps, first, wait_at};

@@ -1,5 +1,5 @@
 use Rattle.std.proofs.Common.{◌≡◌, drop}
-use Rattle.cfa_resolve.specs.Resolution.{is_listed}
+use Rattle.cfa_base.specs.Index.{is_listed}
 use Rattle.cfa_resolve.proofs.combinations.is_listed.Given as goal
 
 abbrev pub invariant-loop-other : goal.invariant-loop-other
