@@ -1,5 +1,5 @@
 -- Acts that count as the same are equal.
-use Rattle.std.proofs.Common.{◌≡◌, ℕ, List, [], ◌∷◌, Bool, true, false, ◌&&◌, Option, Some, None, refl, ap}
+use Rattle.std.proofs.Common.{◌≡◌, ℕ, List, [], ◌∷◌, Bool, true, false, ◌&&◌, Option, Some, None, refl, ap, ap₂}
 use Rattle.std.proofs.lemmas.Bool.{false≢true, and_parts, eqb-true}
 use Rattle.std.proofs.lemmas.Slice.Eq.{bytes_eq-Decides, slice_eq-Decides}
 use Rattle.std.specs.Cmp.Lexicographic.{pointwise}
@@ -32,19 +32,11 @@ delete_is path other a b is =
     let same = flag_is a b parts.1 in
     cc
 
-content_is : (path other bytes content : Text) → (bytes_eq path other && bytes_eq bytes content) ≡ true → Content path bytes ≡ Content other content
-content_is path other bytes content is =
-    let parts = and_parts (bytes_eq path other) (bytes_eq bytes content) is in
-    let at = is_text path other parts.0 in
-    let same = is_text bytes content parts.1 in
-    cc
-
-copy_is : (source path from other : Text) → (bytes_eq source from && bytes_eq path other) ≡ true → Copy source path ≡ Copy from other
-copy_is source path from other is =
-    let parts = and_parts (bytes_eq source from) (bytes_eq path other) is in
-    let at = is_text source from parts.0 in
-    let same = is_text path other parts.1 in
-    cc
+-- acts that are made of two texts
+texts_are : (make : Text → Text → Act) (first second one other : Text) → (bytes_eq first one && bytes_eq second other) ≡ true → make first second ≡ make one other
+texts_are make first second one other is =
+    let parts = and_parts (bytes_eq first one) (bytes_eq second other) is in
+    ap₂ make (is_text first one parts.0) (is_text second other parts.1)
 
 perms_are : (path other : Text) (mode m : Option ℕ) (owners os groups gs : List Text)
     → (bytes_eq path other && (is_same_mode mode m && (pointwise bytes_eq owners os && pointwise bytes_eq groups gs))) ≡ true
@@ -67,9 +59,9 @@ same_is (MakeDir path) (MakeDir other) is = ap MakeDir (is_text path other is)
 same_is (MakeDir path) _ is = absurd (false≢true is)
 same_is (Delete path with_directories) (Delete other with_too) is = delete_is path other with_directories with_too is
 same_is (Delete path with_directories) _ is = absurd (false≢true is)
-same_is (Content path bytes) (Content other content) is = content_is path other bytes content is
+same_is (Content path bytes) (Content other content) is = texts_are Content path bytes other content is
 same_is (Content path bytes) _ is = absurd (false≢true is)
-same_is (Copy source path) (Copy from other) is = copy_is source path from other is
+same_is (Copy source path) (Copy from other) is = texts_are Copy source path from other is
 same_is (Copy source path) _ is = absurd (false≢true is)
 same_is (Edit path _) _ is = absurd (false≢true is)
 same_is (Perms path mode owners groups) (Perms other m os gs) is = perms_are path other mode m owners os groups gs is
