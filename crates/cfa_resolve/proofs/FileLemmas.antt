@@ -4,6 +4,7 @@ use Rattle.std.specs.Str.{bytes_eq}
 use Rattle.std.proofs.lemmas.Bool.{false_from_ne_true}
 use Rattle.std.proofs.lemmas.List.{take-append-drop}
 use Rattle.cfa_base.specs.lemmas.EqualTexts.{is_text}
+use Rattle.cfa_base.specs.declared.limits.TheConstants.{MOST_TEXT_BYTES}
 use Rattle.cfa_tree.specs.Tree.{ValueTree}
 use Rattle.cfa_vars.specs.Scopes.{InScope}
 use Rattle.cfa_vars.specs.Expansion.{Chosen}
@@ -32,7 +33,7 @@ whole_short (text_unresolved name) h = lit≤ tt
 whole_short text_too_long h = lit≤ tt
 
 -- a text that a value gives is within the limit
-pub given_short : (scopes : InScope) (choice : Chosen) (v : ValueTree) → length (whole_or_empty (text_given scopes choice v)) ≤ 65536
+pub given_short : (scopes : InScope) (choice : Chosen) (v : ValueTree) → length (whole_or_empty (text_given scopes choice v)) ≤ MOST_TEXT_BYTES
 given_short scopes choice v = whole_short (text_given scopes choice v) (text_is_within scopes choice v)
 
 -- ---- acts, one after the other

@@ -1,4 +1,5 @@
 use Rattle.std.proofs.Common.{◌∙◌, ap, sym, map, nat_lt}
+use Rattle.cfa_base.specs.declared.limits.TheConstants.{MOST_COMBINATIONS}
 use Rattle.cfa_tree.specs.Plain.{plain_value}
 use Rattle.cfa_tree.specs.Tree.{value_trees}
 use Rattle.cfa_vars.specs.Scopes.{in_scope}
@@ -10,5 +11,5 @@ pub returns-in-List : goal.returns-in-List
 returns-in-List c =
     let scopes = in_scope c.args.scopes.now in
     c.have_many.ensures
-    ∙ ap (λ vs. nat_lt 4096 (counted scopes (value_trees (map plain_value vs)))) c.as_slice.ensures.value
+    ∙ ap (λ vs. nat_lt MOST_COMBINATIONS (counted scopes (value_trees (map plain_value vs)))) c.as_slice.ensures.value
     ∙ sym (many_in_list scopes c.args.value.now c.in-List.items c.in-List.field-1 c.in-List.is)

@@ -1,4 +1,5 @@
 use Rattle.std.proofs.Common.{ap, sym, subst, List, ℕ, length, ◌≤◌, ◌∙◌}
+use Rattle.cfa_base.specs.declared.limits.TheConstants.{MOST_TEXT_BYTES}
 use Rattle.cfa_tree.specs.Plain.{plain_value}
 use Rattle.cfa_vars.specs.Scopes.{in_scope}
 use Rattle.cfa_bodies.specs.Bodies.{whole_or_empty}
@@ -7,6 +8,6 @@ use Rattle.cfa_resolve.proofs.values.own_text.Goals as goal
 
 pub returns-in_ok-text_of_value-in-Some-clause-short : goal.returns-in_ok-text_of_value-in-Some-clause-short
 returns-in_ok-text_of_value-in-Some-clause-short c =
-    subst (λ (t : List ℕ). length t ≤ 65536)
+    subst (λ (t : List ℕ). length t ≤ MOST_TEXT_BYTES)
     (sym (c.whole_or_empty.ensures ∙ ap whole_or_empty c.in_ok-text_of_value-in-Some.ensures))
     (given_short (in_scope c.args.scopes.now) c.args.choice.now (plain_value c.in-Some.value.now))
