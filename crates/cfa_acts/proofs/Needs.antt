@@ -16,6 +16,7 @@ use Rattle.cfa_outside.specs.declared.sites.Change.{Change}
 use Rattle.cfa_outside.specs.declared.sites.Change.TheVariants.{PutFile, PutDir, Remove, SetPerms, PutService}
 use Rattle.cfa_outside.specs.Worlds.{is_file, is_directory, is_blocked, has_below, shows, look_at, bytes_in, perms_in, takes_file, takes_directory, is_removable}
 use Rattle.cfa_outside.specs.Sites.{look_of, fits}
+use Rattle.cfa_outside.specs.lemmas.Looks.{no_directory}
 use Rattle.cfa_lines.specs.Decks.{lines_of, text_of}
 use Rattle.cfa_edits.specs.declared.edits.Edit.{Edit}
 use Rattle.cfa_edits.specs.declared.edits.EditErr.{EditErr}
@@ -54,11 +55,6 @@ no_file_there (Some (File _ _)) blocked below is clear = absurd (false≢true (s
 no_file_there (Some (Dir _)) blocked below is clear = absurd (false≢true is)
 no_file_there None blocked below is clear = refl
 
-no_directory_there : (here : Option Node) (blocked below : Bool) → takes_file (shows here blocked below) ≡ true → is_directory here ≡ false
-no_directory_there (Some (File _ _)) blocked below is = refl
-no_directory_there (Some (Dir _)) blocked below is = absurd (false≢true is)
-no_directory_there None blocked below is = refl
-
 pub create_needs : (path : List ℕ) (world : World) (change : Change) → decision (act.Create path) world ≡ Needs change → (PutFile path [] ≡ change) × ((map.get world.nodes path ≡ None) × (takes_file (look_of world path) ≡ true))
 unfolding look_at post needed
 create_needs path world change e =
@@ -85,7 +81,7 @@ unfolding look_at needed
 content_needs path bytes world change e =
     let un = unmet (act.Content path bytes) world change e in
     let parts = if_needs (takes_file (look_of world path)) (PutFile path bytes) change Obstructed un.1 in
-    (parts.1, (no_directory_there (map.get world.nodes path) (is_blocked world.nodes path) (has_below world.nodes path) parts.0, parts.0))
+    (parts.1, (no_directory (map.get world.nodes path) (is_blocked world.nodes path) (has_below world.nodes path) parts.0, parts.0))
 
 pub record CopyNeeds (path : List ℕ) (source target : Option Node) (taken : Bool) (change : Change) : Type 0 where
   pub bytes : List ℕ
@@ -110,7 +106,7 @@ copy_needs source path world change e =
 
 pub takes_no_directory : (path : List ℕ) (world : World) → takes_file (look_of world path) ≡ true → is_directory (map.get world.nodes path) ≡ false
 unfolding look_at
-takes_no_directory path world is = no_directory_there (map.get world.nodes path) (is_blocked world.nodes path) (has_below world.nodes path) is
+takes_no_directory path world is = no_directory (map.get world.nodes path) (is_blocked world.nodes path) (has_below world.nodes path) is
 
 pub record EditNeeds (path : List ℕ) (script : List Edit) (here : Option Node) (change : Change) : Type 0 where
   pub bytes : List ℕ

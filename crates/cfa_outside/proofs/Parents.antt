@@ -17,6 +17,7 @@ use Rattle.cfa_outside.specs.declared.sites.Entry.{Entry}
 use Rattle.cfa_outside.specs.declared.sites.Entry.TheVariants.{Did, Refused}
 use Rattle.cfa_outside.specs.Worlds.{NodeMap, above, above_from, is_file, is_directory, is_blocked, has_below, new_directory, with_dir, with_dirs, put_file, file_with, shows, takes_file, look_at, is_in_directories, is_free, takes_directory, is_removable, is_below, put_directory, with_perms, set_perms_of, set_perms, HasParents}
 use Rattle.cfa_outside.specs.Sites.{fits, after_change, after, AllFit}
+use Rattle.cfa_outside.specs.lemmas.Looks.{no_directory}
 use Rattle.cfa_outside.proofs.Above.{above_here, above_done, above_whole}
 use Rattle.cfa_base.specs.TextMaps.{text_cmp}
 use Rattle.cfa_base.specs.lemmas.TextMaps.{tied, ties, any_passes}
@@ -205,11 +206,6 @@ told (d ∷ ds) m q here =
     (told ds (with_dir d m) q here)
 
 -- what a look says where a file may be put
-no_directory : (o : Option Node) (blocked below : Bool) → takes_file (shows o blocked below) ≡ true → is_directory o ≡ false
-no_directory (Some (node.File bytes perms)) blocked below fit = refl
-no_directory (Some (node.Dir perms)) blocked below fit = absurd (false≢true fit)
-no_directory None blocked below fit = refl
-
 stands_or_clear : (o : Option Node) (blocked below : Bool) → takes_file (shows o blocked below) ≡ true → (is_some o ≡ true) ⊎ (blocked ≡ false)
 stands_or_clear (Some n) blocked below fit = inl refl
 stands_or_clear None true below fit = absurd (false≢true fit)

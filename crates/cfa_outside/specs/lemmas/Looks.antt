@@ -1,12 +1,12 @@
 -- What a look tells of what stands there, as the other calls of a site ask it.
 use Rattle.std.proofs.Common.{◌≡◌, ℕ, ◌≤◌, Bool, true, false, List, length, Option, Some, None, refl, arith}
-use Rattle.std.proofs.lemmas.Bool.{le-leb}
+use Rattle.std.proofs.lemmas.Bool.{le-leb, false≢true}
 use Rattle.std.specs.FinMap as map
 use Rattle.cfa_base.specs.declared.limits.TheConstants.{MOST_FILE_BYTES}
 use Rattle.cfa_outside.specs.declared.worlds.Node.{Node}
 use Rattle.cfa_outside.specs.declared.worlds.Node.TheVariants as node
 use Rattle.cfa_outside.specs.declared.sites.Look.TheVariants.{File, Dir}
-use Rattle.cfa_outside.specs.Worlds.{NodeMap, is_blocked, has_below, shows, look_at, is_readable}
+use Rattle.cfa_outside.specs.Worlds.{NodeMap, is_directory, is_blocked, has_below, shows, look_at, is_readable, takes_file}
 
 file_shown : (here : Option Node) (blocked below : Bool) (size : ℕ) → shows here blocked below ≡ File size → size ≤ MOST_FILE_BYTES → is_readable here ≡ true
 file_shown (Some (node.File bytes _)) blocked below size is short =
@@ -42,3 +42,9 @@ unfolding look_at
 stands_by_directory nodes path is_empty is =
     let found = directory_stands (map.get nodes path) (is_blocked nodes path) (has_below nodes path) is_empty is in
     rw found.1 refl
+
+-- no directory stands where a look says that a file may be put
+pub no_directory : (here : Option Node) (blocked below : Bool) → takes_file (shows here blocked below) ≡ true → is_directory here ≡ false
+no_directory (Some (node.File _ _)) blocked below is = refl
+no_directory (Some (node.Dir _)) blocked below is = absurd (false≢true is)
+no_directory None blocked below is = refl
