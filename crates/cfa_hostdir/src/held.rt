@@ -6,8 +6,8 @@ use crate::kept_rows::HostTables;
 use crate::layout::{Layout, Table};
 use crate::looking::{Spot, has_nodes, walk};
 use crate::putting::{Lasting, Leaf, put};
-use cfa_base::{Bytes, MOST_FILE_BYTES, Name, NoMemory};
-use cfa_outside::{Look, Path, Perms};
+use cfa_base::{Bytes, MOST_FILE_BYTES};
+use cfa_outside::{Look, Path, Perms, root_perms};
 use std::alloc::Global;
 use std::fs::OpenFile;
 use std::io::Write;
@@ -70,14 +70,6 @@ pub struct Held<F> {
     most_changes: u64,
     // False once a change of the tree is seen that may not last.
     sound: bool,
-}
-
-fn new_perms(alloc: Global, mode: u16) -> Result<Perms, NoMemory> {
-    Ok(Perms {
-        mode,
-        owner: Name::from_text(alloc, "root")?,
-        group: Name::from_text(alloc, "root")?,
-    })
 }
 
 impl<F: Write + OpenFile> Held<F> {
@@ -165,7 +157,7 @@ impl<F: Write + OpenFile> Held<F> {
         };
         match self.tables.perms.get(text) {
             Some(row) => Ok(row.1.copy(alloc)?),
-            None => Ok(new_perms(alloc, mode)?),
+            None => Ok(root_perms(alloc, mode)?),
         }
     }
 

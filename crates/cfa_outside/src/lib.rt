@@ -20,7 +20,7 @@ pub use errors::{NodeErr, OutsideErr};
 pub use memory_inputs::MemoryInputs;
 pub use memory_sink::MemorySink;
 pub use memory_site::MemorySite;
-pub use nodes::Nodes;
+pub use nodes::{Nodes, root_perms};
 pub use paths::{Path, PathErr};
 pub use regex_patterns::RegexPatterns;
 pub use sinks::Sink;

@@ -201,7 +201,8 @@ fn lies_in_directories(rows: &TextMap<Node>, path: &str) -> bool
     true
 }
 
-fn root_perms(alloc: Global, mode: u16) -> Result<Perms, NoMemory>
+/// The permissions of what is new: a mode, with the owner and the group `root`.
+pub fn root_perms(alloc: Global, mode: u16) -> Result<Perms, NoMemory>
     ensures { IfOk result (λ p. p ≡ root_perms mode) }
 {
     Ok(Perms {

@@ -1,7 +1,7 @@
 // Hosts by the lines of a table, each of which begins with a plus sign.
 use super::run_logs::with_keys;
 use cfa_base::{Bytes, Name, unescape};
-use cfa_outside::{MemorySite, Node, Path, Perms, ServiceRow, World};
+use cfa_outside::{MemorySite, Node, Path, ServiceRow, World, root_perms};
 use std::alloc::Global;
 use std::process::Abort;
 use std::test::Fail;
@@ -12,14 +12,6 @@ pub fn parts<'a>(text: &'a str, between: &str) -> (&'a str, &'a str) {
         Some(sides) => sides,
         None => (text, ""),
     }
-}
-
-fn root_perms(alloc: Global, mode: u16) -> Result<Perms, Fail> {
-    Ok(Perms {
-        mode,
-        owner: Name::from_text(alloc, "root")?,
-        group: Name::from_text(alloc, "root")?,
-    })
 }
 
 fn path_of(alloc: Global, text: &str) -> Result<Path, Fail> {
