@@ -1,7 +1,7 @@
 -- The key text of an instance is one line: what stands in it is fields, numbers, fixed words and canonified names, besides the bundle
 -- of the promise and the name of a bundle that is called.
-use Rattle.std.proofs.Common.{◌≡◌, ◌≢◌, ◌≤◌, ℕ, ◌+◌, ◌/◌, ◌%◌, ◌<◌, ◌^◌, Bool, true, false, List, [], ◌∷◌, ◌++◌, length, map, codes, Option, Some, None, refl, sym, ◌∙◌, arith}
-use Rattle.std.specs.Prelude.{All, encode_utf8, ◌==◌}
+use Rattle.std.proofs.Common.{◌≡◌, ◌≢◌, ℕ, ◌+◌, ◌/◌, ◌%◌, ◌<◌, ◌^◌, Bool, true, false, List, [], ◌∷◌, ◌++◌, length, map, codes, Option, Some, None, refl, sym, ◌∙◌, arith}
+use Rattle.std.specs.Prelude.{All, ◌==◌}
 use Rattle.std.specs.Fmt.{decimal}
 use Rattle.std.specs.List.{join_with_byte, flat_map}
 use Rattle.std.proofs.lemmas.List.Elements.{All-head, All-tail}
@@ -9,11 +9,10 @@ use Rattle.cfa_base.specs.declared.places.PromiseId.{PromiseId}
 use Rattle.cfa_base.specs.Escapes.{escaped}
 use Rattle.cfa_vars.specs.declared.scoping.Datum.{Datum}
 use Rattle.cfa_vars.specs.declared.scoping.Datum.TheVariants.{Text as text_of, List as list_of}
-use Rattle.cfa_edits.specs.Scripts.{IsOneLine, IsEdit, AreEdits, spot_name, spot_pattern, block_text, edit_fields, edit_text, script_text}
+use Rattle.cfa_edits.specs.Scripts.{IsOneLine, AreEdits, edit_text, script_text}
+use Rattle.cfa_edits.specs.lemmas.Fields.{texts_lack}
+use Rattle.cfa_edits.specs.lemmas.Parts.{lacks_joined, IsSeparator}
 use Rattle.cfa_edits.specs.declared.edits.Edit.{Edit as LineEdit}
-use Rattle.cfa_edits.specs.declared.edits.Edit.TheVariants as edits
-use Rattle.cfa_edits.specs.declared.edits.Spot.{Spot}
-use Rattle.cfa_edits.specs.declared.edits.Spot.TheVariants.{Start as at_start, End as at_the_end, Before, After}
 use Rattle.cfa_acts.specs.declared.acts.Act.{Act}
 use Rattle.cfa_acts.specs.declared.acts.Act.TheVariants.{Create, MakeDir, Delete, Content, Copy, Edit, Perms, Start, Stop, Enable, Disable, Restart, Bust}
 use Rattle.cfa_acts.specs.declared.acts.Reason.{Reason}
@@ -38,44 +37,12 @@ four_lines w x y z h i j k = one_more w (x ∷ y ∷ z ∷ []) h (one_more x (y 
 
 -- ---- scripts
 
-spot_line : (spot : Spot) → IsOneLine (spot_name spot)
-spot_line at_start = one_line (codes "start") refl
-spot_line at_the_end = one_line (codes "end") refl
-spot_line (Before pattern true) = one_line (codes "before-first") refl
-spot_line (Before pattern false) = one_line (codes "before-last") refl
-spot_line (After pattern true) = one_line (codes "after-first") refl
-spot_line (After pattern false) = one_line (codes "after-last") refl
-
-block_line : (block : List (List ℕ)) → IsOneLine (block_text block)
-block_line block = joined_line 43 (map escaped block) (λ e. omega arith) (field_lines block)
-
-edit_lines : (edit : LineEdit) → IsEdit edit → All IsOneLine (edit_fields edit)
-edit_lines (edits.Delete pattern) is = two_lines (codes "d") (escaped pattern.text) (one_line (codes "d") refl) (field_line pattern.text)
-edit_lines (edits.Field pattern separator number value) is =
-    let small : number ≤ 999 = is.2 in
-    one_more (codes "f") (escaped pattern.text ∷ escaped (encode_utf8 separator) ∷ decimal number ∷ escaped value ∷ []) (one_line (codes "f") refl)
-    (four_lines (escaped pattern.text) (escaped (encode_utf8 separator)) (decimal number) (escaped value)
-    (field_line pattern.text) (field_line (encode_utf8 separator)) (decimal_line number (omega (arith, small))) (field_line value))
-edit_lines (edits.Insert block spot) is =
-    four_lines (codes "i") (spot_name spot) (escaped (spot_pattern spot)) (block_text block)
-    (one_line (codes "i") refl) (spot_line spot) (field_line (spot_pattern spot)) (block_line block)
-edit_lines (edits.Replace pattern value true) is =
-    four_lines (codes "r") (codes "all") (escaped pattern.text) (escaped value)
-    (one_line (codes "r") refl) (one_line (codes "all") refl) (field_line pattern.text) (field_line value)
-edit_lines (edits.Replace pattern value false) is =
-    four_lines (codes "r") (codes "first") (escaped pattern.text) (escaped value)
-    (one_line (codes "r") refl) (one_line (codes "first") refl) (field_line pattern.text) (field_line value)
-
-edits_lines : (script : List LineEdit) → All IsEdit script → All IsOneLine (map edit_text script)
-edits_lines [] all = no_lines
-edits_lines (edit ∷ script) all =
-    one_more (edit_text edit) (map edit_text script)
-    (joined_line 58 (edit_fields edit) (λ e. omega arith) (edit_lines edit (All-head IsEdit edit script all)))
-    (edits_lines script (All-tail IsEdit edit script all))
+newline : IsSeparator 10
+newline = record { low = omega arith; none = refl; no_digit = λ d lt. λ e. omega arith }
 
 script_line : (script : List LineEdit) → AreEdits script → IsOneLine (script_text script)
 unfolding script_text
-script_line script are = joined_line 44 (map edit_text script) (λ e. omega arith) (edits_lines script are.each)
+script_line script are = lacks_joined 10 44 (map edit_text script) (λ e. omega arith) (texts_lack 10 script newline (λ e. omega arith) (λ e. omega arith) are.each)
 
 -- ---- acts
 
