@@ -1,4 +1,3 @@
 -- Lemmas that the proofs of this crate and of those above cite. No contract names one.
 pub mod Options
 pub mod Hosts
-pub mod Results

@@ -1,5 +1,5 @@
 -- A file, by what its lexing and parsing answer.
-use Rattle.std.proofs.Common.{◌≡◌, ℕ, ◌<◌, List, length, Result, Ok, Err, Option, Some, None, refl, sym, ap, subst, ◌∙◌, ◌↔◌, arith, IsErrOf, IsErrAnd, IfSome}
+use Rattle.std.proofs.Common.{◌≡◌, ℕ, ◌<◌, List, length, Result, Ok, Err, Option, Some, None, refl, sym, ap, subst, ◌∙◌, ◌↔◌, arith, IsErrOf, IfSome}
 use Rattle.std.proofs.lemmas.Option.{IfSome_then}
 use Rattle.cfa_base.specs.declared.places.Place.{Place}
 use Rattle.cfa_base.specs.Shown.{Shown, IsLeft}
@@ -117,8 +117,3 @@ file_read file name source seen before after (Err (Stopped Memory)) same found r
 }
 file_read file name source seen before after (Err (Stopped Visits)) same found read = absurd read.stopped
 file_read file name source seen before after (Err (Stopped (Pattern text))) same found read = absurd read.stopped
-
--- what holds of a failure holds of a result that hands it on
-pub on_err : {T : Type 0} (P : Result T Failure → Type 0) (result : Result T Failure) (failure : Failure) → IsErrAnd result (λ e. e ≡ failure) → P (Err failure) → P result
-on_err P (Ok _) failure same h = absurd same
-on_err P (Err e) failure same h = subst (λ (f : Failure). P (Err f)) (sym same) h

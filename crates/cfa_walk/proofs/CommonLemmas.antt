@@ -1,7 +1,6 @@
 -- Promises of common bundles, and common bundles one after the other.
 use Rattle.std.proofs.Common.{◌≡◌, ◌∙◌, ℕ, ◌+◌, ◌<◌, length, take, drop, get_or, map, Bool, true, false, cond, List, [], ◌∷◌, ◌++◌, IsTrue, Option, refl, ap, sym, subst}
-use Rattle.std.specs.Prelude.{not, All, Some, IfSome, Result, Ok, Err}
-use Rattle.std.specs.Result.{IsErrAnd}
+use Rattle.std.specs.Prelude.{not, All, Some, IfSome, Result, Err}
 use Rattle.std.proofs.Common.{rules}
 use Rattle.std.proofs.lemmas.Bool.{false≢true}
 use Rattle.std.proofs.lemmas.List.{map-append, take-append-drop}
@@ -224,11 +223,6 @@ module _ (policy : PolicyTree) (depth : ℕ) (type : PromiseType) where
 
 pub in_parts : {X Y : Type 0} (f : X → Y) (xs : List X) (i : ℕ) → map f xs ≡ map f (take i xs) ++ map f (drop i xs)
 in_parts f xs i = ap (map f) (sym (take-append-drop i xs)) ∙ map-append f (take i xs) (drop i xs)
-
--- what the exit of a `?` answers
-pub on_stop : {Y : Type 0} (P : Result Y Stop → Type 0) (result : Result Y Stop) (stop : Stop) → IsErrAnd result (λ e. e ≡ stop) → P (Err stop) → P result
-on_stop P (Ok answer) stop same stopped = absurd same
-on_stop P (Err e) stop same stopped = subst (λ (x : Stop). P (Err x)) (sym same) stopped
 
 pub of_some : {X : Type 0} (P : X → Type 0) (found : Option X) (x : X) → found ≡ Some x → IfSome found P → P x
 of_some {X} P found x is holds = subst (λ (f : Option X). IfSome f P) is holds

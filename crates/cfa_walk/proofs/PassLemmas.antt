@@ -3,6 +3,7 @@ use Rattle.std.proofs.Common.{◌≡◌, ℕ, Bool, true, false, List, [], ◌�
 use Rattle.std.specs.Prelude.{Result, Ok, Err, OnOk}
 use Rattle.std.specs.Result.{IsErrAnd}
 use Rattle.std.proofs.lemmas.List.Elements.{filter-append}
+use Rattle.cfa_base.specs.lemmas.Results.{on_err}
 use Rattle.cfa_base.specs.Shown.{Shown}
 use Rattle.cfa_classes.specs.declared.levels.Status.{Status}
 use Rattle.cfa_classes.specs.declared.levels.Status.TheVariants.{No, Maybe, Yes}
@@ -25,7 +26,7 @@ use Rattle.cfa_walk.specs.Tellers.{Teller}
 use Rattle.cfa_walk.specs.Views.{Setting, Home, guard_status}
 use Rattle.cfa_walk.proofs.BuiltLemmas.{calls_kept, visit_kept, promises_kept, types_kept}
 use Rattle.cfa_walk.proofs.LevelLemmas.{LevelKeeps, then_goes, then_same, each_one, ends_then, ends_stops, ends_is, ends_nothing, later_same, quiet_level}
-use Rattle.cfa_walk.proofs.CommonLemmas.{each_append, on_stop}
+use Rattle.cfa_walk.proofs.CommonLemmas.{each_append}
 
 -- ---- three passes
 
@@ -298,7 +299,7 @@ module _ {W X : Type 0} (teller : X → Teller) (agrees : W → X → Type 0) (b
 -- ---- the path of an activation
 
 pub no_answer : {Y : Type 0} (P : Type 0) (result : Result Y Stop) (stop : Stop) → IsErrAnd result (λ e. e ≡ stop) → OnOk result P
-no_answer {Y} P result stop is = on_stop (λ (r : Result Y Stop). OnOk r P) result stop is tt
+no_answer {Y} P result stop is = on_err (λ (r : Result Y Stop). OnOk r P) result stop is tt
 
 -- ---- types that have instances
 

@@ -1,6 +1,7 @@
 use Rattle.std.proofs.Common.{◌≡◌, ◌∙◌, ℕ, All, suc, ◌+◌, ◌-◌, ◌<◌, List, length, Option, Some, None, get_or, [], ◌∷◌, ◌++◌, map, take, drop, refl, sym, ap, subst, Bool, false, rules, arith}
 use Rattle.std.specs.Prelude.{Ok, Err}
 use Rattle.std.proofs.lemmas.List.{get_or_default, length-map, take_all, take_more, take-append-drop}
+use Rattle.cfa_base.specs.lemmas.Results.{on_err}
 use Rattle.cfa_classes.specs.declared.levels.Status.TheVariants.{No}
 use Rattle.cfa_kinds.specs.declared.kinds.PromiseType.{PromiseType}
 use Rattle.cfa_kinds.specs.declared.kinds.PromiseType.TheVariants.{Vars}
@@ -28,7 +29,7 @@ use Rattle.cfa_walk.specs.Remembered.{GuardsRepeat, RowHolds}
 use Rattle.cfa_walk.specs.SeenNumbered.{seen_numbered}
 use Rattle.cfa_walk.specs.Steps.{IsAt, AreCounted, CallEnds, visit_level, instances_level, acting_level, type_level, types_level, pass_level, passes_level}
 use Rattle.cfa_base.specs.lemmas.Firsts.{one_taken}
-use Rattle.cfa_walk.proofs.CommonLemmas.{in_parts, of_item, on_stop, is_same_type, is_other_type, types_agree, types_differ, statuses_agree, statuses_differ}
+use Rattle.cfa_walk.proofs.CommonLemmas.{in_parts, of_item, is_same_type, is_other_type, types_agree, types_differ, statuses_agree, statuses_differ}
 use Rattle.cfa_walk.proofs.LaterLemmas.{are_same, are_then, later_same, later_then, row_later, state_ok, then_are, with_state}
 use Rattle.cfa_walk.proofs.RememberedLemmas.{before_next, guard_read, repeated_before, inside_map, row_at, row_ok, rows_set, seen_at}
 use Rattle.cfa_walk.proofs.LoopLemmas.{loop_begins, loop_goes_on, loop_stops}
@@ -42,7 +43,7 @@ pub passing::go_through-returns-in_err-found-clause-ends : goal.passing::go_thro
 passing::go_through-returns-in_err-found-clause-ends g t c =
     let policy = tree_of c.args.scene.now.checked.now in
     let ps = map seen_numbered c.args.promises.now in
-    on_stop (λ result. Ends g.T.Teller.teller g.T.Teller.agrees g.T.Teller.behind g.T.Teller.faults policy (passes_level c.args.scene.now.depth ps) (c.args.teller.now, (c.args.site.now, c.args.out.now)) (c.args.teller.now, (c.args.site.now, c.args.out.now)) c.args.state.now c.args.state.now c.args.activation.now c.args.activation.now (g.P.Patterns.shown c.args.pats.now) (g.P.Patterns.shown c.args.pats.now) result)
+    on_err (λ result. Ends g.T.Teller.teller g.T.Teller.agrees g.T.Teller.behind g.T.Teller.faults policy (passes_level c.args.scene.now.depth ps) (c.args.teller.now, (c.args.site.now, c.args.out.now)) (c.args.teller.now, (c.args.site.now, c.args.out.now)) c.args.state.now c.args.state.now c.args.activation.now c.args.activation.now (g.P.Patterns.shown c.args.pats.now) (g.P.Patterns.shown c.args.pats.now) result)
     c.from_residual.result Memory c.from_residual.ensures.1 (tt, (refl, refl))
 
 pub passing::go_through-returns-in_err-found-clause-later : goal.passing::go_through-returns-in_err-found-clause-later
@@ -53,7 +54,7 @@ pub passing::go_through-returns-in_err-pass-clause-ends : goal.passing::go_throu
 passing::go_through-returns-in_err-pass-clause-ends g t c =
     let policy = tree_of c.args.scene.now.checked.now in
     let ps = map seen_numbered c.args.promises.now in
-    on_stop (λ result. Ends g.T.Teller.teller g.T.Teller.agrees g.T.Teller.behind g.T.Teller.faults policy (passes_level c.args.scene.now.depth ps) (c.args.teller.now, (c.args.site.now, c.args.out.now)) (c.pass.new.teller, (c.pass.new.site, c.pass.new.out)) c.args.state.now c.pass.new.state c.args.activation.now c.pass.new.activation (g.P.Patterns.shown c.args.pats.now) (g.P.Patterns.shown c.pass.new.pats) result)
+    on_err (λ result. Ends g.T.Teller.teller g.T.Teller.agrees g.T.Teller.behind g.T.Teller.faults policy (passes_level c.args.scene.now.depth ps) (c.args.teller.now, (c.args.site.now, c.args.out.now)) (c.pass.new.teller, (c.pass.new.site, c.pass.new.out)) c.args.state.now c.pass.new.state c.args.activation.now c.pass.new.activation (g.P.Patterns.shown c.args.pats.now) (g.P.Patterns.shown c.pass.new.pats) result)
     c.from_residual-in_err-pass.result c.in_err-pass.field-0.0 c.from_residual-in_err-pass.ensures.1
     (first_stops g.T.Teller.teller g.T.Teller.agrees g.T.Teller.behind g.T.Teller.faults policy c.args.scene.now.depth ps (c.args.teller.now, (c.args.site.now, c.args.out.now)) (c.pass.new.teller, (c.pass.new.site, c.pass.new.out)) c.args.state.now c.pass.new.state c.args.activation.now c.pass.new.activation (g.P.Patterns.shown c.args.pats.now) (g.P.Patterns.shown c.pass.new.pats) c.in_err-pass.field-0.0 c.in_err-pass.ensures.ends)
 
@@ -65,7 +66,7 @@ pub passing::go_through-returns-in_err-pass-2-clause-ends : goal.passing::go_thr
 passing::go_through-returns-in_err-pass-2-clause-ends g t c =
     let policy = tree_of c.args.scene.now.checked.now in
     let ps = map seen_numbered c.args.promises.now in
-    on_stop (λ result. Ends g.T.Teller.teller g.T.Teller.agrees g.T.Teller.behind g.T.Teller.faults policy (passes_level c.args.scene.now.depth ps) (c.args.teller.now, (c.args.site.now, c.args.out.now)) (c.pass-2.new.teller, (c.pass-2.new.site, c.pass-2.new.out)) c.args.state.now c.pass-2.new.state c.args.activation.now c.pass-2.new.activation (g.P.Patterns.shown c.args.pats.now) (g.P.Patterns.shown c.pass-2.new.pats) result)
+    on_err (λ result. Ends g.T.Teller.teller g.T.Teller.agrees g.T.Teller.behind g.T.Teller.faults policy (passes_level c.args.scene.now.depth ps) (c.args.teller.now, (c.args.site.now, c.args.out.now)) (c.pass-2.new.teller, (c.pass-2.new.site, c.pass-2.new.out)) c.args.state.now c.pass-2.new.state c.args.activation.now c.pass-2.new.activation (g.P.Patterns.shown c.args.pats.now) (g.P.Patterns.shown c.pass-2.new.pats) result)
     c.from_residual-in_err-pass-2.result c.in_err-pass-2.field-0.0 c.from_residual-in_err-pass-2.ensures.1
     (second_stops g.T.Teller.teller g.T.Teller.agrees g.T.Teller.behind g.T.Teller.faults policy c.args.scene.now.depth ps (c.args.teller.now, (c.args.site.now, c.args.out.now)) (c.pass.new.teller, (c.pass.new.site, c.pass.new.out)) (c.pass-2.new.teller, (c.pass-2.new.site, c.pass-2.new.out)) c.args.state.now c.pass.new.state c.pass-2.new.state c.args.activation.now c.pass.new.activation c.pass-2.new.activation (g.P.Patterns.shown c.args.pats.now) (g.P.Patterns.shown c.pass.new.pats) (g.P.Patterns.shown c.pass-2.new.pats) c.in_err-pass-2.field-0.0 c.in_ok-pass.ensures.ends c.in_err-pass-2.ensures.ends)
 
@@ -117,7 +118,7 @@ passing::pass-returns-in_err-reach_type-clause-ends g t c =
     let type = get_or types i Vars in
     let one : take (i + 1) types ≡ take i types ++ type ∷ [] = take_more types i Vars c.loop-kind-test.true in
     let stop = c.in_err-reach_type.field-0.0 in
-    on_stop (λ result. Ends g.T.Teller.teller g.T.Teller.agrees g.T.Teller.behind g.T.Teller.faults policy (pass_level c.args.scene.now.depth ps) (c.args.teller.now, (c.args.site.now, c.args.out.now)) (c.reach_type.new.teller, (c.reach_type.new.site, c.reach_type.new.out)) c.args.state.now c.reach_type.new.state c.args.activation.now c.reach_type.new.activation (g.P.Patterns.shown c.args.pats.now) (g.P.Patterns.shown c.reach_type.new.pats) result)
+    on_err (λ result. Ends g.T.Teller.teller g.T.Teller.agrees g.T.Teller.behind g.T.Teller.faults policy (pass_level c.args.scene.now.depth ps) (c.args.teller.now, (c.args.site.now, c.args.out.now)) (c.reach_type.new.teller, (c.reach_type.new.site, c.reach_type.new.out)) c.args.state.now c.reach_type.new.state c.args.activation.now c.reach_type.new.activation (g.P.Patterns.shown c.args.pats.now) (g.P.Patterns.shown c.reach_type.new.pats) result)
     c.from_residual.result c.in_err-reach_type.field-0.0 c.from_residual.ensures.1
     (loop_stops g.T.Teller.teller g.T.Teller.agrees g.T.Teller.behind g.T.Teller.faults policy (λ (x : PromiseType). type_level c.args.scene.now.depth ps x) (type_keeps c.args.scene.now.depth ps) agent_types (take (i + 1) types) (drop (i + 1) types) (c.args.teller.now, (c.args.site.now, c.args.out.now)) (c.reach_type.new.teller, (c.reach_type.new.site, c.reach_type.new.out)) c.args.state.now c.reach_type.new.state c.args.activation.now c.reach_type.new.activation (g.P.Patterns.shown c.args.pats.now) (g.P.Patterns.shown c.reach_type.new.pats) stop
     (sym (take-append-drop (i + 1) types))
@@ -190,7 +191,7 @@ passing::reach_type-returns-in_err-reach-clause-ends g t c =
     let p = c.index-promises-place.result in
     let one = one_taken seen_numbered found i p c.loop-place-test.true c.index-promises-place.is in
     let stop = c.in_err-reach.field-0.0 in
-    on_stop (λ result. Ends g.T.Teller.teller g.T.Teller.agrees g.T.Teller.behind g.T.Teller.faults policy (type_level c.args.scene.now.depth (map seen_numbered found) c.args.promise_type) (c.args.teller.now, (c.args.site.now, c.args.out.now)) (c.reach.new.teller, (c.reach.new.site, c.reach.new.out)) c.args.state.now c.reach.new.state c.args.activation.now c.reach.new.activation (g.P.Patterns.shown c.args.pats.now) (g.P.Patterns.shown c.reach.new.pats) result)
+    on_err (λ result. Ends g.T.Teller.teller g.T.Teller.agrees g.T.Teller.behind g.T.Teller.faults policy (type_level c.args.scene.now.depth (map seen_numbered found) c.args.promise_type) (c.args.teller.now, (c.args.site.now, c.args.out.now)) (c.reach.new.teller, (c.reach.new.site, c.reach.new.out)) c.args.state.now c.reach.new.state c.args.activation.now c.reach.new.activation (g.P.Patterns.shown c.args.pats.now) (g.P.Patterns.shown c.reach.new.pats) result)
     c.from_residual.result c.in_err-reach.field-0.0 c.from_residual.ensures.1
     (type_stops g.T.Teller.teller g.T.Teller.agrees g.T.Teller.behind g.T.Teller.faults policy c.args.scene.now.depth c.args.promise_type (map seen_numbered found) (map seen_numbered (take (i + 1) found)) (map seen_numbered (drop (i + 1) found)) (c.args.teller.now, (c.args.site.now, c.args.out.now)) (c.reach.new.teller, (c.reach.new.site, c.reach.new.out)) c.args.state.now c.reach.new.state c.args.activation.now c.reach.new.activation (g.P.Patterns.shown c.args.pats.now) (g.P.Patterns.shown c.reach.new.pats) stop
     (in_parts seen_numbered found (i + 1))
@@ -244,7 +245,7 @@ visiting::visit_each-returns-in_err-visit-clause-ends g t c =
     let instance = c.instance-item.result in
     let one : take (i + 1) all ≡ take i all ++ instance ∷ [] = take_more all i instance c.loop-instance-test.true ∙ ap (λ (x : Instance). take i all ++ x ∷ []) (sym c.instance-item.is) in
     let stop = c.in_err-visit.field-0.0 in
-    on_stop (λ result. Ends g.T.Teller.teller g.T.Teller.agrees g.T.Teller.behind g.T.Teller.faults policy (instances_level c.args.scene.now.depth c.args.guard all) (c.args.teller.now, (c.args.site.now, c.args.out.now)) (c.visit.new.teller, (c.visit.new.site, c.visit.new.out)) c.args.state.now c.visit.new.state c.args.activation.now c.visit.new.activation (g.P.Patterns.shown c.args.pats.now) (g.P.Patterns.shown c.visit.new.pats) result)
+    on_err (λ result. Ends g.T.Teller.teller g.T.Teller.agrees g.T.Teller.behind g.T.Teller.faults policy (instances_level c.args.scene.now.depth c.args.guard all) (c.args.teller.now, (c.args.site.now, c.args.out.now)) (c.visit.new.teller, (c.visit.new.site, c.visit.new.out)) c.args.state.now c.visit.new.state c.args.activation.now c.visit.new.activation (g.P.Patterns.shown c.args.pats.now) (g.P.Patterns.shown c.visit.new.pats) result)
     c.from_residual.result c.in_err-visit.field-0.0 c.from_residual.ensures.1
     (loop_stops g.T.Teller.teller g.T.Teller.agrees g.T.Teller.behind g.T.Teller.faults policy (λ (x : Instance). visit_level c.args.scene.now.depth c.args.guard x) (visit_keeps c.args.scene.now.depth c.args.guard) all (take (i + 1) all) (drop (i + 1) all) (c.args.teller.now, (c.args.site.now, c.args.out.now)) (c.visit.new.teller, (c.visit.new.site, c.visit.new.out)) c.args.state.now c.visit.new.state c.args.activation.now c.visit.new.activation (g.P.Patterns.shown c.args.pats.now) (g.P.Patterns.shown c.visit.new.pats) stop
     (sym (take-append-drop (i + 1) all))
@@ -269,7 +270,7 @@ pub passing::reach_instances-returns-in_err-found-clause-ends : goal.passing::re
 passing::reach_instances-returns-in_err-found-clause-ends g t c =
     let policy = tree_of c.args.scene.now.checked.now in
     let p = seen_numbered c.args.promise.now in
-    on_stop (λ result. Ends g.T.Teller.teller g.T.Teller.agrees g.T.Teller.behind g.T.Teller.faults policy (acting_level c.args.scene.now.depth p c.args.guard) (c.args.teller.now, (c.args.site.now, c.args.out.now)) (c.args.teller.now, (c.args.site.now, c.args.out.now)) c.args.state.now c.count_instances.new.state c.args.activation.now c.count_instances.new.activation (g.P.Patterns.shown c.args.pats.now) (g.P.Patterns.shown c.count_instances.new.pats) result)
+    on_err (λ result. Ends g.T.Teller.teller g.T.Teller.agrees g.T.Teller.behind g.T.Teller.faults policy (acting_level c.args.scene.now.depth p c.args.guard) (c.args.teller.now, (c.args.site.now, c.args.out.now)) (c.args.teller.now, (c.args.site.now, c.args.out.now)) c.args.state.now c.count_instances.new.state c.args.activation.now c.count_instances.new.activation (g.P.Patterns.shown c.args.pats.now) (g.P.Patterns.shown c.count_instances.new.pats) result)
     c.from_residual.result c.in_err-found.field-0.0 c.from_residual.ensures.1
     (count_stops g.T.Teller.teller g.T.Teller.agrees g.T.Teller.behind g.T.Teller.faults policy c.args.scene.now.depth p c.args.guard (c.args.teller.now, (c.args.site.now, c.args.out.now)) c.args.state.now c.count_instances.new.state c.args.activation.now c.count_instances.new.activation (g.P.Patterns.shown c.args.pats.now) (g.P.Patterns.shown c.count_instances.new.pats) c.in_err-found.field-0.0
     c.in_err-found.ensures.counted c.in_err-found.ensures.patterns)
@@ -286,7 +287,7 @@ pub passing::reach_instances-returns-in_err-visit_each-clause-ends : goal.passin
 passing::reach_instances-returns-in_err-visit_each-clause-ends g t c =
     let policy = tree_of c.args.scene.now.checked.now in
     let p = seen_numbered c.args.promise.now in
-    on_stop (λ result. Ends g.T.Teller.teller g.T.Teller.agrees g.T.Teller.behind g.T.Teller.faults policy (acting_level c.args.scene.now.depth p c.args.guard) (c.args.teller.now, (c.args.site.now, c.args.out.now)) (c.visit_each.new.teller, (c.visit_each.new.site, c.visit_each.new.out)) c.args.state.now c.visit_each.new.state c.args.activation.now c.visit_each.new.activation (g.P.Patterns.shown c.args.pats.now) (g.P.Patterns.shown c.visit_each.new.pats) result)
+    on_err (λ result. Ends g.T.Teller.teller g.T.Teller.agrees g.T.Teller.behind g.T.Teller.faults policy (acting_level c.args.scene.now.depth p c.args.guard) (c.args.teller.now, (c.args.site.now, c.args.out.now)) (c.visit_each.new.teller, (c.visit_each.new.site, c.visit_each.new.out)) c.args.state.now c.visit_each.new.state c.args.activation.now c.visit_each.new.activation (g.P.Patterns.shown c.args.pats.now) (g.P.Patterns.shown c.visit_each.new.pats) result)
     c.from_residual-in_err-visit_each.result c.in_err-visit_each.field-0.0 c.from_residual-in_err-visit_each.ensures.1
     (acting_ends g.T.Teller.teller g.T.Teller.agrees g.T.Teller.behind g.T.Teller.faults policy c.args.scene.now.depth p c.args.guard (c.args.teller.now, (c.args.site.now, c.args.out.now)) c.args.state.now c.count_instances.new.state c.args.activation.now c.count_instances.new.activation (g.met.T.Teller.steady (c.args.teller.now, (c.args.site.now, c.args.out.now))) (c.visit_each.new.teller, (c.visit_each.new.site, c.visit_each.new.out)) c.visit_each.new.state c.visit_each.new.activation
     c.in_ok-found.found.resolved.instances (g.P.Patterns.shown c.args.pats.now) (g.P.Patterns.shown c.count_instances.new.pats) (g.P.Patterns.shown c.visit_each.new.pats) (Err c.in_err-visit_each.field-0.0) c.in_ok-found.ensures.counted c.in_ok-found.ensures.patterns
@@ -402,7 +403,7 @@ visiting::visit-returns-then-eq-clause-later g t c =
 pub visiting::visit-returns-in_err-list-clause-ends : goal.visiting::visit-returns-in_err-list-clause-ends
 visiting::visit-returns-in_err-list-clause-ends g t c =
     let policy = tree_of c.args.scene.now.checked.now in
-    on_stop (λ result. Ends g.T.Teller.teller g.T.Teller.agrees g.T.Teller.behind g.T.Teller.faults policy (visit_level c.args.scene.now.depth c.args.guard c.args.instance.now) (c.args.teller.now, (c.args.site.now, c.args.out.now)) (c.args.teller.now, (c.args.site.now, c.args.out.now)) c.args.state.now c.list.new.self c.args.activation.now c.args.activation.now (g.P.Patterns.shown c.args.pats.now) (g.P.Patterns.shown c.args.pats.now) result)
+    on_err (λ result. Ends g.T.Teller.teller g.T.Teller.agrees g.T.Teller.behind g.T.Teller.faults policy (visit_level c.args.scene.now.depth c.args.guard c.args.instance.now) (c.args.teller.now, (c.args.site.now, c.args.out.now)) (c.args.teller.now, (c.args.site.now, c.args.out.now)) c.args.state.now c.list.new.self c.args.activation.now c.args.activation.now (g.P.Patterns.shown c.args.pats.now) (g.P.Patterns.shown c.args.pats.now) result)
     c.from_residual.result Memory c.from_residual.ensures.1
     ((tt, (refl, refl)))
 
@@ -413,7 +414,7 @@ visiting::visit-returns-in_err-list-clause-later g t c =
 pub visiting::visit-returns-in_err-visit-clause-ends : goal.visiting::visit-returns-in_err-visit-clause-ends
 visiting::visit-returns-in_err-visit-clause-ends g t c =
     let policy = tree_of c.args.scene.now.checked.now in
-    on_stop (λ result. Ends g.T.Teller.teller g.T.Teller.agrees g.T.Teller.behind g.T.Teller.faults policy (visit_level c.args.scene.now.depth c.args.guard c.args.instance.now) (c.args.teller.now, (c.args.site.now, c.args.out.now)) (c.visit.new.self, (c.visit.new.site, c.visit.new.out)) c.args.state.now c.list.new.self c.args.activation.now c.args.activation.now (g.P.Patterns.shown c.args.pats.now) (g.P.Patterns.shown c.args.pats.now) result)
+    on_err (λ result. Ends g.T.Teller.teller g.T.Teller.agrees g.T.Teller.behind g.T.Teller.faults policy (visit_level c.args.scene.now.depth c.args.guard c.args.instance.now) (c.args.teller.now, (c.args.site.now, c.args.out.now)) (c.visit.new.self, (c.visit.new.site, c.visit.new.out)) c.args.state.now c.list.new.self c.args.activation.now c.args.activation.now (g.P.Patterns.shown c.args.pats.now) (g.P.Patterns.shown c.args.pats.now) result)
     c.from_residual-in_err-visit.result c.in_err-visit.field-0.0 c.from_residual-in_err-visit.ensures.1
     (teller_stops g.T.Teller.teller g.T.Teller.agrees g.T.Teller.behind g.T.Teller.faults policy c.args.scene.now.depth c.args.guard c.args.instance.now c.args.state.now c.args.activation.now c.done-mark.result c.visit_status-status.result c.done-mark.ensures c.visit_status-status.ensures (c.args.teller.now, (c.args.site.now, c.args.out.now)) (c.visit.new.self, (c.visit.new.site, c.visit.new.out)) c.list.new.self c.args.activation.now (g.P.Patterns.shown c.args.pats.now) (g.P.Patterns.shown c.args.pats.now) c.in_err-visit.field-0.0 c.in_err-visit.ensures.stopped c.in_err-visit.ensures.own refl)
 
@@ -433,7 +434,7 @@ visiting::visit-returns-then-branch-clause-later g t c =
 pub visiting::visit-returns-in_err-called-clause-ends : goal.visiting::visit-returns-in_err-called-clause-ends
 visiting::visit-returns-in_err-called-clause-ends g t c =
     let policy = tree_of c.args.scene.now.checked.now in
-    on_stop (λ result. Ends g.T.Teller.teller g.T.Teller.agrees g.T.Teller.behind g.T.Teller.faults policy (visit_level c.args.scene.now.depth c.args.guard c.args.instance.now) (c.args.teller.now, (c.args.site.now, c.args.out.now)) (c.call.new.teller, (c.call.new.site, c.call.new.out)) c.args.state.now c.call.new.state c.args.activation.now c.args.activation.now (g.P.Patterns.shown c.args.pats.now) (g.P.Patterns.shown c.call.new.pats) result)
+    on_err (λ result. Ends g.T.Teller.teller g.T.Teller.agrees g.T.Teller.behind g.T.Teller.faults policy (visit_level c.args.scene.now.depth c.args.guard c.args.instance.now) (c.args.teller.now, (c.args.site.now, c.args.out.now)) (c.call.new.teller, (c.call.new.site, c.call.new.out)) c.args.state.now c.call.new.state c.args.activation.now c.args.activation.now (g.P.Patterns.shown c.args.pats.now) (g.P.Patterns.shown c.call.new.pats) result)
     c.from_residual-in_err-called.result c.in_err-called.field-0.0 c.from_residual-in_err-called.ensures.1
     (call_stops g.T.Teller.teller g.T.Teller.agrees g.T.Teller.behind g.T.Teller.faults policy c.args.scene.now.depth c.args.guard c.args.instance.now c.args.state.now c.args.activation.now c.done-mark.result c.visit_status-status.result c.done-mark.ensures c.visit_status-status.ensures (c.args.teller.now, (c.args.site.now, c.args.out.now)) (statuses_differ c.visit_status-status.result No c.if-eq.ensures) c.requires.at c.list.new.self (λ s h waits. c.in_ok-list.ensures.keeps s h (c.as_ref-waits.ensures.value ∙ waits)) (c.visit.new.self, (c.visit.new.site, c.visit.new.out)) (subst (λ (b : Bool). HasVisited g.T.Teller.teller g.T.Teller.agrees g.T.Teller.behind (c.args.teller.now, (c.args.site.now, c.args.out.now)) (c.visit.new.self, (c.visit.new.site, c.visit.new.out)) c.args.instance.now c.visit_status-status.result b) c.if-branch.false c.in_ok-visit.ensures.visited) c.in_ok-visit.ensures.later (c.call.new.teller, (c.call.new.site, c.call.new.out)) c.call.new.state (g.P.Patterns.shown c.args.pats.now) (g.P.Patterns.shown c.call.new.pats) c.in_err-called.field-0.0 c.in_err-called.ensures.called)
 
@@ -444,7 +445,7 @@ visiting::visit-returns-in_err-called-clause-later g t c =
 pub visiting::visit-returns-in_err-ending-clause-ends : goal.visiting::visit-returns-in_err-ending-clause-ends
 visiting::visit-returns-in_err-ending-clause-ends g t c =
     let policy = tree_of c.args.scene.now.checked.now in
-    on_stop (λ result. Ends g.T.Teller.teller g.T.Teller.agrees g.T.Teller.behind g.T.Teller.faults policy (visit_level c.args.scene.now.depth c.args.guard c.args.instance.now) (c.args.teller.now, (c.args.site.now, c.args.out.now)) (c.tell.new.self, (c.tell.new.site, c.tell.new.out)) c.args.state.now c.call.new.state c.args.activation.now c.args.activation.now (g.P.Patterns.shown c.args.pats.now) (g.P.Patterns.shown c.call.new.pats) result)
+    on_err (λ result. Ends g.T.Teller.teller g.T.Teller.agrees g.T.Teller.behind g.T.Teller.faults policy (visit_level c.args.scene.now.depth c.args.guard c.args.instance.now) (c.args.teller.now, (c.args.site.now, c.args.out.now)) (c.tell.new.self, (c.tell.new.site, c.tell.new.out)) c.args.state.now c.call.new.state c.args.activation.now c.args.activation.now (g.P.Patterns.shown c.args.pats.now) (g.P.Patterns.shown c.call.new.pats) result)
     c.from_residual-in_err-ending.result c.in_err-ending.field-0.0 c.from_residual-in_err-ending.ensures.1
     (tell_stops g.T.Teller.teller g.T.Teller.agrees g.T.Teller.behind g.T.Teller.faults policy c.args.scene.now.depth c.args.guard c.args.instance.now c.args.state.now c.args.activation.now c.done-mark.result c.visit_status-status.result c.done-mark.ensures c.visit_status-status.ensures (c.args.teller.now, (c.args.site.now, c.args.out.now)) (statuses_differ c.visit_status-status.result No c.if-eq.ensures) c.requires.at c.list.new.self (λ s h waits. c.in_ok-list.ensures.keeps s h (c.as_ref-waits.ensures.value ∙ waits)) (c.visit.new.self, (c.visit.new.site, c.visit.new.out)) (subst (λ (b : Bool). HasVisited g.T.Teller.teller g.T.Teller.agrees g.T.Teller.behind (c.args.teller.now, (c.args.site.now, c.args.out.now)) (c.visit.new.self, (c.visit.new.site, c.visit.new.out)) c.args.instance.now c.visit_status-status.result b) c.if-branch.false c.in_ok-visit.ensures.visited) c.in_ok-visit.ensures.later (c.call.new.teller, (c.call.new.site, c.call.new.out)) c.call.new.state (g.P.Patterns.shown c.args.pats.now) (g.P.Patterns.shown c.call.new.pats) c.in_ok-called.called c.in_ok-called.ensures.called (c.tell.new.self, (c.tell.new.site, c.tell.new.out)) c.args.activation.now c.in_err-ending.field-0.0 c.in_err-ending.ensures.stopped c.in_err-ending.ensures.own)
 
@@ -455,7 +456,7 @@ visiting::visit-returns-in_err-ending-clause-later g t c =
 pub visiting::visit-returns-in_err-raise_ending-clause-ends : goal.visiting::visit-returns-in_err-raise_ending-clause-ends
 visiting::visit-returns-in_err-raise_ending-clause-ends g t c =
     let policy = tree_of c.args.scene.now.checked.now in
-    on_stop (λ result. Ends g.T.Teller.teller g.T.Teller.agrees g.T.Teller.behind g.T.Teller.faults policy (visit_level c.args.scene.now.depth c.args.guard c.args.instance.now) (c.args.teller.now, (c.args.site.now, c.args.out.now)) (c.tell.new.self, (c.tell.new.site, c.tell.new.out)) c.args.state.now c.raise_ending.new.state c.args.activation.now c.note.new.self (g.P.Patterns.shown c.args.pats.now) (g.P.Patterns.shown c.call.new.pats) result)
+    on_err (λ result. Ends g.T.Teller.teller g.T.Teller.agrees g.T.Teller.behind g.T.Teller.faults policy (visit_level c.args.scene.now.depth c.args.guard c.args.instance.now) (c.args.teller.now, (c.args.site.now, c.args.out.now)) (c.tell.new.self, (c.tell.new.site, c.tell.new.out)) c.args.state.now c.raise_ending.new.state c.args.activation.now c.note.new.self (g.P.Patterns.shown c.args.pats.now) (g.P.Patterns.shown c.call.new.pats) result)
     c.from_residual-in_err-raise_ending.result Memory c.from_residual-in_err-raise_ending.ensures.1
     (raise_stops g.T.Teller.teller g.T.Teller.agrees g.T.Teller.behind g.T.Teller.faults policy c.args.scene.now.depth c.args.guard c.args.instance.now c.args.state.now c.args.activation.now c.done-mark.result c.visit_status-status.result c.done-mark.ensures c.visit_status-status.ensures (c.args.teller.now, (c.args.site.now, c.args.out.now)) (statuses_differ c.visit_status-status.result No c.if-eq.ensures) c.requires.at c.list.new.self (λ s h waits. c.in_ok-list.ensures.keeps s h (c.as_ref-waits.ensures.value ∙ waits)) (c.visit.new.self, (c.visit.new.site, c.visit.new.out)) (subst (λ (b : Bool). HasVisited g.T.Teller.teller g.T.Teller.agrees g.T.Teller.behind (c.args.teller.now, (c.args.site.now, c.args.out.now)) (c.visit.new.self, (c.visit.new.site, c.visit.new.out)) c.args.instance.now c.visit_status-status.result b) c.if-branch.false c.in_ok-visit.ensures.visited) c.in_ok-visit.ensures.later (c.call.new.teller, (c.call.new.site, c.call.new.out)) c.call.new.state (g.P.Patterns.shown c.args.pats.now) (g.P.Patterns.shown c.call.new.pats) c.in_ok-called.called c.in_ok-called.ensures.called (c.tell.new.self, (c.tell.new.site, c.tell.new.out)) c.in_ok-ending.ending c.in_ok-ending.ensures.told c.in_ok-ending.ensures.later c.raise_ending.new.state c.note.new.self)
 
@@ -522,7 +523,7 @@ visiting::activate-returns-then-scene-eq0-clause-later g t c =
 pub visiting::activate-returns-in_err-path-clause-called : goal.visiting::activate-returns-in_err-path-clause-called
 visiting::activate-returns-in_err-path-clause-called g t c =
     let policy = tree_of c.args.scene.now.checked.now in
-    on_stop (λ result. CallEnds g.T.Teller.teller g.T.Teller.agrees g.T.Teller.behind g.T.Teller.faults policy c.args.scene.now.depth c.args.instance.now c.args.status (c.args.teller.now, (c.args.site.now, c.args.out.now)) (c.args.teller.now, (c.args.site.now, c.args.out.now)) c.args.state.now c.args.state.now (g.P.Patterns.shown c.args.pats.now) (g.P.Patterns.shown c.args.pats.now) result) c.from_residual.result Memory c.from_residual.ensures.1
+    on_err (λ result. CallEnds g.T.Teller.teller g.T.Teller.agrees g.T.Teller.behind g.T.Teller.faults policy c.args.scene.now.depth c.args.instance.now c.args.status (c.args.teller.now, (c.args.site.now, c.args.out.now)) (c.args.teller.now, (c.args.site.now, c.args.out.now)) c.args.state.now c.args.state.now (g.P.Patterns.shown c.args.pats.now) (g.P.Patterns.shown c.args.pats.now) result) c.from_residual.result Memory c.from_residual.ensures.1
     (call_memory g.T.Teller.teller g.T.Teller.agrees g.T.Teller.behind g.T.Teller.faults policy c.args.instance.now c.args.status (c.args.teller.now, (c.args.site.now, c.args.out.now)) c.args.state.now (g.P.Patterns.shown c.args.pats.now) c.args.scene.now.depth c.args.state.now)
 
 pub visiting::activate-returns-in_err-path-clause-later : goal.visiting::activate-returns-in_err-path-clause-later
@@ -532,7 +533,7 @@ visiting::activate-returns-in_err-path-clause-later g t c =
 pub visiting::activate-returns-in_err-activation-clause-called : goal.visiting::activate-returns-in_err-activation-clause-called
 visiting::activate-returns-in_err-activation-clause-called g t c =
     let policy = tree_of c.args.scene.now.checked.now in
-    on_stop (λ result. CallEnds g.T.Teller.teller g.T.Teller.agrees g.T.Teller.behind g.T.Teller.faults policy c.args.scene.now.depth c.args.instance.now c.args.status (c.args.teller.now, (c.args.site.now, c.args.out.now)) (c.args.teller.now, (c.args.site.now, c.args.out.now)) c.args.state.now c.args.state.now (g.P.Patterns.shown c.args.pats.now) (g.P.Patterns.shown c.args.pats.now) result) c.from_residual-in_err-activation.result Memory c.from_residual-in_err-activation.ensures.1
+    on_err (λ result. CallEnds g.T.Teller.teller g.T.Teller.agrees g.T.Teller.behind g.T.Teller.faults policy c.args.scene.now.depth c.args.instance.now c.args.status (c.args.teller.now, (c.args.site.now, c.args.out.now)) (c.args.teller.now, (c.args.site.now, c.args.out.now)) c.args.state.now c.args.state.now (g.P.Patterns.shown c.args.pats.now) (g.P.Patterns.shown c.args.pats.now) result) c.from_residual-in_err-activation.result Memory c.from_residual-in_err-activation.ensures.1
     (call_memory g.T.Teller.teller g.T.Teller.agrees g.T.Teller.behind g.T.Teller.faults policy c.args.instance.now c.args.status (c.args.teller.now, (c.args.site.now, c.args.out.now)) c.args.state.now (g.P.Patterns.shown c.args.pats.now) c.args.scene.now.depth c.args.state.now)
 
 pub visiting::activate-returns-in_err-activation-clause-later : goal.visiting::activate-returns-in_err-activation-clause-later
@@ -542,7 +543,7 @@ visiting::activate-returns-in_err-activation-clause-later g t c =
 pub visiting::activate-returns-in_err-bind-clause-called : goal.visiting::activate-returns-in_err-bind-clause-called
 visiting::activate-returns-in_err-bind-clause-called g t c =
     let policy = tree_of c.args.scene.now.checked.now in
-    on_stop (λ result. CallEnds g.T.Teller.teller g.T.Teller.agrees g.T.Teller.behind g.T.Teller.faults policy c.args.scene.now.depth c.args.instance.now c.args.status (c.args.teller.now, (c.args.site.now, c.args.out.now)) (c.args.teller.now, (c.args.site.now, c.args.out.now)) c.args.state.now c.bind.new.state (g.P.Patterns.shown c.args.pats.now) (g.P.Patterns.shown c.args.pats.now) result) c.from_residual-in_err-bind.result Memory c.from_residual-in_err-bind.ensures.1
+    on_err (λ result. CallEnds g.T.Teller.teller g.T.Teller.agrees g.T.Teller.behind g.T.Teller.faults policy c.args.scene.now.depth c.args.instance.now c.args.status (c.args.teller.now, (c.args.site.now, c.args.out.now)) (c.args.teller.now, (c.args.site.now, c.args.out.now)) c.args.state.now c.bind.new.state (g.P.Patterns.shown c.args.pats.now) (g.P.Patterns.shown c.args.pats.now) result) c.from_residual-in_err-bind.result Memory c.from_residual-in_err-bind.ensures.1
     (call_memory g.T.Teller.teller g.T.Teller.agrees g.T.Teller.behind g.T.Teller.faults policy c.args.instance.now c.args.status (c.args.teller.now, (c.args.site.now, c.args.out.now)) c.args.state.now (g.P.Patterns.shown c.args.pats.now) c.args.scene.now.depth c.bind.new.state)
 
 pub visiting::activate-returns-in_err-bind-clause-later : goal.visiting::activate-returns-in_err-bind-clause-later
@@ -552,7 +553,7 @@ visiting::activate-returns-in_err-bind-clause-later g t c =
 pub visiting::activate-returns-in_err-promises-clause-called : goal.visiting::activate-returns-in_err-promises-clause-called
 visiting::activate-returns-in_err-promises-clause-called g t c =
     let policy = tree_of c.args.scene.now.checked.now in
-    on_stop (λ result. CallEnds g.T.Teller.teller g.T.Teller.agrees g.T.Teller.behind g.T.Teller.faults policy c.args.scene.now.depth c.args.instance.now c.args.status (c.args.teller.now, (c.args.site.now, c.args.out.now)) (c.args.teller.now, (c.args.site.now, c.args.out.now)) c.args.state.now c.bind.new.state (g.P.Patterns.shown c.args.pats.now) (g.P.Patterns.shown c.args.pats.now) result) c.from_residual-in_err-promises.result Memory c.from_residual-in_err-promises.ensures.1
+    on_err (λ result. CallEnds g.T.Teller.teller g.T.Teller.agrees g.T.Teller.behind g.T.Teller.faults policy c.args.scene.now.depth c.args.instance.now c.args.status (c.args.teller.now, (c.args.site.now, c.args.out.now)) (c.args.teller.now, (c.args.site.now, c.args.out.now)) c.args.state.now c.bind.new.state (g.P.Patterns.shown c.args.pats.now) (g.P.Patterns.shown c.args.pats.now) result) c.from_residual-in_err-promises.result Memory c.from_residual-in_err-promises.ensures.1
     (call_memory g.T.Teller.teller g.T.Teller.agrees g.T.Teller.behind g.T.Teller.faults policy c.args.instance.now c.args.status (c.args.teller.now, (c.args.site.now, c.args.out.now)) c.args.state.now (g.P.Patterns.shown c.args.pats.now) c.args.scene.now.depth c.bind.new.state)
 
 pub visiting::activate-returns-in_err-promises-clause-later : goal.visiting::activate-returns-in_err-promises-clause-later
@@ -577,7 +578,7 @@ visiting::activate-returns-in_err-go_through-clause-called g t c =
     let params_are : params ≡ params_of block = ap (map plain_named) c.as_slice.ensures in
     let binds : (s : Setting) (h : History) → Stands s c.args.state.now a h → Stands s c.bind.new.state c.bind.new.activation (bind a.path params c.args.given.now h) =
     subst (λ (x : List Datum). (s : Setting) (h : History) → Stands s c.args.state.now a h → Stands s c.bind.new.state c.bind.new.activation (bind a.path params x h)) c.as_slice-in-Some.ensures c.in_ok-bind.ensures.stands in
-    on_stop (λ result. CallEnds g.T.Teller.teller g.T.Teller.agrees g.T.Teller.behind g.T.Teller.faults policy c.args.scene.now.depth c.args.instance.now c.args.status (c.args.teller.now, (c.args.site.now, c.args.out.now)) (c.go_through.new.teller, (c.go_through.new.site, c.go_through.new.out)) c.args.state.now c.go_through.new.state (g.P.Patterns.shown c.args.pats.now) (g.P.Patterns.shown c.go_through.new.pats) result) c.from_residual-in_err-go_through.result c.in_err-go_through.field-0.0 c.from_residual-in_err-go_through.ensures.1
+    on_err (λ result. CallEnds g.T.Teller.teller g.T.Teller.agrees g.T.Teller.behind g.T.Teller.faults policy c.args.scene.now.depth c.args.instance.now c.args.status (c.args.teller.now, (c.args.site.now, c.args.out.now)) (c.go_through.new.teller, (c.go_through.new.site, c.go_through.new.out)) c.args.state.now c.go_through.new.state (g.P.Patterns.shown c.args.pats.now) (g.P.Patterns.shown c.go_through.new.pats) result) c.from_residual-in_err-go_through.result c.in_err-go_through.field-0.0 c.from_residual-in_err-go_through.ensures.1
     (bundle_stops g.T.Teller.teller g.T.Teller.agrees g.T.Teller.behind g.T.Teller.faults policy c.args.instance.now c.args.status (c.args.teller.now, (c.args.site.now, c.args.out.now)) c.args.state.now (g.P.Patterns.shown c.args.pats.now) c.args.name.now c.args.given.now c.requires.is_call c.requires.names (g.met.T.Teller.steady (c.args.teller.now, (c.args.site.now, c.args.out.now))) c.args.scene.now.depth n deep a of begins block params ps found (found_name policy name block found) params_are numbered c.bind.new.state c.bind.new.activation c.in_ok-bind.ensures.same binds (c.go_through.new.teller, (c.go_through.new.site, c.go_through.new.out)) c.go_through.new.state c.go_through.new.activation (g.P.Patterns.shown c.go_through.new.pats) c.in_err-go_through.field-0.0 c.in_err-go_through.ensures.ends)
 
 pub visiting::activate-returns-in_err-go_through-clause-later : goal.visiting::activate-returns-in_err-go_through-clause-later

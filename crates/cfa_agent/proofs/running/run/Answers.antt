@@ -1,7 +1,7 @@
 use Rattle.std.proofs.Common.{sym}
+use Rattle.cfa_base.specs.lemmas.Results.{on_err}
 use Rattle.cfa_walk.specs.Settings.{setting_of}
 use Rattle.cfa_agent.specs.Ran.{RunBuilds, text_too_big}
-use Rattle.cfa_agent.specs.lemmas.Results.{on_err}
 use Rattle.cfa_agent.proofs.RunTold.{run_ran, run_large, run_built, total_builds}
 use Rattle.cfa_agent.proofs.running.run.Goals as goal
 

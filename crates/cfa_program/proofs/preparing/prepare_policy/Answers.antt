@@ -1,6 +1,6 @@
+use Rattle.cfa_base.specs.lemmas.Results.{on_err}
 use Rattle.cfa_output.specs.declared.ends.Stop.TheVariants.{Memory}
 use Rattle.cfa_output.specs.declared.ends.Failure.TheVariants.{Stopped}
-use Rattle.cfa_agent.specs.lemmas.Results.{on_err}
 use Rattle.cfa_program.specs.Stages.{PolicyPrepared}
 use Rattle.cfa_program.proofs.RunLemmas as runs
 use Rattle.cfa_program.proofs.preparing.prepare_policy.Goals as goal

@@ -1,5 +1,5 @@
 use Rattle.std.proofs.Common.{refl}
-use Rattle.cfa_agent.specs.lemmas.Results.{on_err}
+use Rattle.cfa_base.specs.lemmas.Results.{on_err}
 use Rattle.cfa_program.specs.Stages.{RunPrepared}
 use Rattle.cfa_program.proofs.RunLemmas as runs
 use Rattle.cfa_program.proofs.preparing.prepare_run.Goals as goal

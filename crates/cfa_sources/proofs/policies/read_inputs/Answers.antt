@@ -1,8 +1,8 @@
 use Rattle.std.proofs.Common.{◌∙◌, List, ◌∷◌, ◌++◌, [], ap, refl, map, arith}
+use Rattle.cfa_base.specs.lemmas.Results.{on_err}
 use Rattle.cfa_tree.specs.declared.blocks.Policy.{Policy}
 use Rattle.cfa_tree.specs.Plain.{plain_policy}
 use Rattle.cfa_sources.specs.Steps.{InputsRead}
-use Rattle.cfa_sources.proofs.TextLemmas.{on_err}
 use Rattle.cfa_sources.proofs.InputLemmas.{parts_first, parts_more, inputs_read, input_failed}
 use Rattle.cfa_sources.proofs.policies.read_inputs.Goals as goal
 

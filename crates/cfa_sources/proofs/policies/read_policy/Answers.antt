@@ -1,7 +1,7 @@
 use Rattle.std.proofs.Common.{◌∙◌}
+use Rattle.cfa_base.specs.lemmas.Results.{on_err}
 use Rattle.cfa_tree.specs.Plain.{plain_policy}
 use Rattle.cfa_sources.specs.Readings.{PolicyRead}
-use Rattle.cfa_sources.proofs.TextLemmas.{on_err}
 use Rattle.cfa_sources.proofs.CheckLemmas.{is_sourced, few_inputs, main_failed, later_failed, policy_checked}
 use Rattle.cfa_sources.proofs.policies.read_policy.Goals as goal
 

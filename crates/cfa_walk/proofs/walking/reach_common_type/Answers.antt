@@ -1,10 +1,11 @@
 use Rattle.std.proofs.Common.{◌∙◌, refl, [], ◌∷◌, map, take, drop, true, ◌+◌}
 use Rattle.std.specs.Prelude.{Ok, Err}
+use Rattle.cfa_base.specs.lemmas.Results.{on_err}
 use Rattle.cfa_walk.specs.Levels.{QuietDone}
 use Rattle.cfa_walk.specs.SeenNumbered.{seen_numbered}
 use Rattle.cfa_walk.specs.Steps.{common_type_level}
 use Rattle.cfa_base.specs.lemmas.Firsts.{one_taken}
-use Rattle.cfa_walk.proofs.CommonLemmas.{type_nothing, type_then, type_stops, in_parts, on_stop}
+use Rattle.cfa_walk.proofs.CommonLemmas.{type_nothing, type_then, type_stops, in_parts}
 use Rattle.cfa_walk.proofs.walking.reach_common_type.Goals as goal
 
 pub loop-promise-init : goal.loop-promise-init
@@ -37,7 +38,7 @@ returns-in_err-reach_common-clause-done g c = λ policy depth.
     let st' = c.reach_common.new.state in
     let a = c.args.activation.now in
     let a' = c.reach_common.new.activation in
-    on_stop (λ result. QuietDone policy true (common_type_level depth (map seen_numbered ps) type) st st' a a' result) c.from_residual.result stop c.from_residual.ensures.1
+    on_err (λ result. QuietDone policy true (common_type_level depth (map seen_numbered ps) type) st st' a a' result) c.from_residual.result stop c.from_residual.ensures.1
     (type_stops policy depth type (map seen_numbered ps) (map seen_numbered (take (i + 1) ps)) (map seen_numbered (drop (i + 1) ps)) st st' a a' stop
     (in_parts seen_numbered ps (i + 1))
     (type_then policy depth type (map seen_numbered (take (i + 1) ps)) (map seen_numbered (take i ps)) (seen_numbered p ∷ [])

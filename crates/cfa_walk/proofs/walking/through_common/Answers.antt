@@ -1,12 +1,13 @@
 use Rattle.std.proofs.Common.{◌∙◌, ap, length, map}
 use Rattle.std.specs.Prelude.{Err}
+use Rattle.cfa_base.specs.lemmas.Results.{on_err}
 use Rattle.cfa_walk.specs.Bundles.{QuietWalkDone, common_walk, seen_bundle}
 use Rattle.cfa_classes.specs.declared.levels.Status.TheVariants.{Yes}
 use Rattle.cfa_walk.specs.History.{History}
 use Rattle.cfa_walk.specs.Kept.{Keeps, Stands, IsOf, IsUntouched}
 use Rattle.cfa_walk.specs.Views.{Setting}
 use Rattle.cfa_walk.specs.SeenNumbered.{seen_numbered}
-use Rattle.cfa_walk.proofs.CommonLemmas.{of_some, on_stop}
+use Rattle.cfa_walk.proofs.CommonLemmas.{of_some}
 use Rattle.cfa_walk.proofs.QuietLemmas.{common_gone, types_then, types_stop}
 use Rattle.cfa_walk.proofs.walking.through_common.Goals as goal
 
@@ -21,7 +22,7 @@ returns-in_err-reach_common_type-in-Some-clause-done g c = λ policy shared.
     let a' = c.reach_common_type.new.activation in
     let stop = c.in_err-reach_common_type-in-Some.field-0.0 in
     let back = c.from_residual-in_err-reach_common_type-in-Some in
-    on_stop (λ result. QuietWalkDone policy (common_walk block) st st' result) back.result stop back.ensures.1
+    on_err (λ result. QuietWalkDone policy (common_walk block) st st' result) back.result stop back.ensures.1
     (common_gone policy block ps st st' a a' (Err stop) (of_some (IsOf name name Yes) c.in_ok-of_common.field-0 a c.in-Some.is c.in_ok-of_common.ensures.is_of)
     (of_some (λ m. (s : Setting) (h : History) → Keeps s st h → IsUntouched h name → Stands s st m h) c.in_ok-of_common.field-0 a c.in-Some.is c.in_ok-of_common.ensures.stands)
     (ap (map seen_numbered) c.as_slice-promises.ensures.value ∙ c.in_ok-numbered-in-Some.ensures.promises)

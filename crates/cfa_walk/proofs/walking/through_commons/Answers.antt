@@ -1,12 +1,12 @@
 use Rattle.std.proofs.Common.{◌≡◌, ◌∙◌, List, Bor, All, map, ap}
 use Rattle.std.specs.Prelude.{Err}
+use Rattle.cfa_base.specs.lemmas.Results.{on_err}
 use Rattle.cfa_tree.specs.declared.blocks.Bundle.{Bundle}
 use Rattle.cfa_tree.specs.Tree.{BlockTree}
 use Rattle.cfa_schema.specs.Seen.{tree_of}
 use Rattle.cfa_served.specs.Served.{common_bundles_of}
 use Rattle.cfa_walk.specs.Bundles.{Walk, QuietWalkDone, IsShared, commons_walk, passes_walk, seen_bundle}
 use Rattle.cfa_walk.specs.Passes.{then_on}
-use Rattle.cfa_walk.proofs.CommonLemmas.{on_stop}
 use Rattle.cfa_walk.proofs.QuietLemmas.{commons_keep, twice_keeps, walk_then, walk_stops, commons_thrice}
 use Rattle.cfa_walk.proofs.ServedLemmas.{commons_shared}
 use Rattle.cfa_walk.proofs.walking.through_commons.Goals as goal
@@ -27,7 +27,7 @@ returns-in_err-through_each-clause-done g c =
     let st1 = c.through_each.new.state in
     let stop = c.in_err-through_each.field-0.0 in
     let back = c.from_residual-in_err-through_each in
-    on_stop (λ result. QuietWalkDone policy passes_walk st st1 result) back.result stop back.ensures.1
+    on_err (λ result. QuietWalkDone policy passes_walk st st1 result) back.result stop back.ensures.1
     (commons_thrice policy blocks st st1 (Err stop) is
     (walk_stops policy (commons_walk blocks) (twice blocks) (twice_keeps blocks) st st1 stop (c.in_err-through_each.ensures.done policy (commons_shared policy bs is))))
 
@@ -43,7 +43,7 @@ returns-in_err-through_each-2-clause-done g c =
     let st2 = c.through_each-2.new.state in
     let stop = c.in_err-through_each-2.field-0.0 in
     let back = c.from_residual-in_err-through_each-2 in
-    on_stop (λ result. QuietWalkDone policy passes_walk st st2 result) back.result stop back.ensures.1
+    on_err (λ result. QuietWalkDone policy passes_walk st st2 result) back.result stop back.ensures.1
     (commons_thrice policy blocks st st2 (Err stop) is
     (walk_then policy (commons_walk blocks) (twice blocks) st st1 st2 (Err stop) (c.in_ok-through_each.ensures.done policy shared)
     (walk_stops policy (commons_walk blocks) (commons_walk blocks) (commons_keep blocks) st1 st2 stop (c.in_err-through_each-2.ensures.done policy shared))))

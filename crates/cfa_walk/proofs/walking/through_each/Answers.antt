@@ -1,10 +1,11 @@
 use Rattle.std.proofs.Common.{◌∙◌, refl, Bor, map, take, drop, ◌+◌}
 use Rattle.std.specs.Prelude.{Ok, Err}
+use Rattle.cfa_base.specs.lemmas.Results.{on_err}
 use Rattle.cfa_tree.specs.declared.blocks.Bundle.{Bundle}
 use Rattle.cfa_tree.specs.Tree.{BlockTree}
 use Rattle.cfa_walk.specs.Bundles.{QuietWalkDone, IsShared, commons_walk, seen_bundle}
 use Rattle.cfa_base.specs.lemmas.Firsts.{one_taken}
-use Rattle.cfa_walk.proofs.CommonLemmas.{in_parts, of_item, on_stop}
+use Rattle.cfa_walk.proofs.CommonLemmas.{in_parts, of_item}
 use Rattle.cfa_walk.proofs.QuietLemmas.{commons_nothing, commons_then, commons_stop}
 use Rattle.cfa_walk.proofs.walking.through_each.Goals as goal
 
@@ -35,7 +36,7 @@ returns-in_err-through_common-clause-done g c = λ policy shared.
     let st = c.args.state.now in
     let st' = c.through_common.new.state in
     let stop = c.in_err-through_common.field-0.0 in
-    on_stop (λ result. QuietWalkDone policy (commons_walk (map seen bs)) st st' result) c.from_residual.result stop c.from_residual.ensures.1
+    on_err (λ result. QuietWalkDone policy (commons_walk (map seen bs)) st st' result) c.from_residual.result stop c.from_residual.ensures.1
     (commons_stop policy (map seen bs) (map seen (take (i + 1) bs)) (map seen (drop (i + 1) bs)) st st' stop (in_parts seen bs (i + 1))
     (commons_then policy (map seen (take (i + 1) bs)) (map seen (take i bs)) (seen b) st c.loop-bundle.state st' (Err stop)
     (one_taken seen bs i b c.loop-bundle-test.true c.bundle-item.is) (c.loop-bundle.invariant.done policy shared)

@@ -1,9 +1,9 @@
 use Rattle.std.proofs.Common.{◌≡◌, ◌∙◌, List, ℕ, [], ◌∷◌, ◌++◌, take, drop, ◌+◌, subst, sym, ap}
 use Rattle.std.specs.Prelude.{Ok, Err}
 use Rattle.std.proofs.lemmas.List.{take_all, take_more, take-append-drop}
+use Rattle.cfa_base.specs.lemmas.Results.{on_err}
 use Rattle.cfa_schema.specs.Seen.{tree_of}
 use Rattle.cfa_walk.specs.Bundles.{WalkEnds, sequence_walk}
-use Rattle.cfa_walk.proofs.CommonLemmas.{on_stop}
 use Rattle.cfa_walk.proofs.WalkLemmas.{names_then, names_stop}
 use Rattle.cfa_walk.proofs.walking.through_sequence.Goals as goal
 
@@ -27,7 +27,7 @@ returns-in_err-through_named g c =
     let name = c.name-item.result in
     let stop = c.in_err-through_named.field-0.0 in
     let one : take (i + 1) names ≡ take i names ++ name ∷ [] = take_more names i name c.loop-name-test.true ∙ ap (λ (n : List ℕ). take i names ++ n ∷ []) (sym c.name-item.is) in
-    on_stop (λ result. WalkEnds g.T.Teller.teller g.T.Teller.agrees g.T.Teller.behind g.T.Teller.faults policy (sequence_walk names)
+    on_err (λ result. WalkEnds g.T.Teller.teller g.T.Teller.agrees g.T.Teller.behind g.T.Teller.faults policy (sequence_walk names)
     (c.args.teller.now, (c.args.site.now, c.args.out.now)) (c.through_named.new.teller, (c.through_named.new.site, c.through_named.new.out))
     c.args.state.now c.through_named.new.state (g.P.Patterns.shown c.args.pats.now) (g.P.Patterns.shown c.through_named.new.pats) result) c.from_residual.result stop c.from_residual.ensures.1
     (names_stop g.T.Teller.teller g.T.Teller.agrees g.T.Teller.behind g.T.Teller.faults policy names (take (i + 1) names) (drop (i + 1) names)
