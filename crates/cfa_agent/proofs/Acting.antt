@@ -4,6 +4,7 @@ use Rattle.std.specs.Prelude.{if◌then◌else◌}
 use Rattle.std.proofs.lemmas.Bool.{lt-ltb}
 use Rattle.std.proofs.lemmas.List.{at_drop_more, at_drop_all}
 use Rattle.std.proofs.Math.Seq.{take-append_seam}
+use Rattle.cfa_base.specs.lemmas.Options.{some_weaker, each_some}
 use Rattle.cfa_base.specs.Shown.{Shown}
 use Rattle.cfa_outside.specs.declared.worlds.World.{World}
 use Rattle.cfa_outside.specs.declared.sites.Call.{Call}
@@ -27,7 +28,6 @@ use Rattle.cfa_agent.specs.Actuations.{done_by, is_change, is_some_change, chang
 use Rattle.cfa_agent.specs.Recording.{opening, opening_at}
 use Rattle.cfa_agent.specs.Actuating.{Takes, refused_entries, DoesActs, mark_by, acted}
 use Rattle.cfa_agent.specs.lemmas.Hosts.{after_both, adds_none, same_after}
-use Rattle.cfa_agent.specs.lemmas.Options.{some_weaker, each_some}
 use Rattle.cfa_agent.proofs.Logs.{adds_both}
 use Rattle.cfa_agent.proofs.Hosts.{same_opened, actuated_same}
 

@@ -1,6 +1,7 @@
 -- What was told of how instances with acts end.
 use Rattle.std.proofs.Common.{◌≡◌, ℕ, suc, ◌+◌, ◌<◌, ◌≤◌, ◌^◌, ◌||◌, List, [], ◌∷◌, ◌++◌, Option, Some, option_map, IfSome, refl, sym, ap, subst, ◌∙◌, arith}
 use Rattle.std.specs.List.{flat_map}
+use Rattle.cfa_base.specs.lemmas.Options.{some_at}
 use Rattle.cfa_base.specs.Shown.{Shown, Follows}
 use Rattle.cfa_outside.specs.declared.sites.Entry.{Entry}
 use Rattle.cfa_outside.specs.declared.worlds.World.{World}
@@ -22,7 +23,6 @@ use Rattle.cfa_agent.specs.Ending.{outcome_ended, line_ended, tallied, acted_on,
 use Rattle.cfa_agent.specs.Locking.{lock_entries}
 use Rattle.cfa_agent.specs.Runs.{Start, actuations_in, log_in, world_in, work_entries, work_lines, lines_done, outcome_by_work, one_with_acts, has_record}
 use Rattle.cfa_agent.specs.Standing.{Given, IsBehind, Agrees, teller_of, first_told}
-use Rattle.cfa_agent.specs.lemmas.Options.{some_at}
 use Rattle.cfa_agent.proofs.Agreeing.{KeepsMarks, acts_keep, same_before, met_next, on_first}
 use Rattle.cfa_agent.proofs.Behind.{EndsWith, behind_more, one_more_ended}
 use Rattle.cfa_agent.proofs.Logs.{adds_both}

@@ -1,6 +1,7 @@
 -- What an actuation writes up to its last change and behind it is all that it writes.
 use Rattle.std.proofs.Common.{◌≡◌, ◌≤◌, ℕ, ◌||◌, List, [], ◌∷◌, ◌++◌, length, take, Some, None, Option, IfSome, option_map, refl, sym, ap, subst, ◌∙◌, append_assoc}
 use Rattle.std.specs.Prelude.{if◌then◌else◌}
+use Rattle.cfa_base.specs.lemmas.Options.{some_weaker}
 use Rattle.cfa_base.specs.Causes.{Rose}
 use Rattle.cfa_base.specs.Shown.{Shown, Follows}
 use Rattle.cfa_outside.specs.declared.sites.Call.{Call}
@@ -22,7 +23,6 @@ use Rattle.cfa_agent.specs.Actuations.{done_by, is_change, is_some_change, chang
 use Rattle.cfa_agent.specs.Recording.{opening, closing, closing_by, closing_failed}
 use Rattle.cfa_agent.specs.Actuating.{FaultsBy, DoesActs, done_met, mark_by, acted}
 use Rattle.cfa_agent.proofs.Acting.{some_made}
-use Rattle.cfa_agent.specs.lemmas.Options.{some_weaker}
 use Rattle.cfa_agent.proofs.Logs.{adds_both}
 
 -- what is written before, between and behind

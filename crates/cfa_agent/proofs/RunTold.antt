@@ -1,5 +1,6 @@
 -- What a whole run came to.
 use Rattle.std.proofs.Common.{◌≡◌, ℕ, Bool, List, [], Some, Ok, Err, sym, ap, subst, ◌∙◌}
+use Rattle.cfa_base.specs.lemmas.Options.{each_some, one_some}
 use Rattle.cfa_base.specs.Causes.{Rose}
 use Rattle.cfa_base.specs.Shown.{Shown, Follows}
 use Rattle.cfa_outside.specs.Sites.{Told, adds}
@@ -22,7 +23,6 @@ use Rattle.cfa_agent.specs.Runs.{Counts, real, run_of, log_of, lines_of, tally_o
 use Rattle.cfa_agent.specs.Standing.{Given, Standing, IsBehind, Agrees, teller_of, IsFirst, since, text_in}
 use Rattle.cfa_agent.specs.WholeLogs.{IsWholeLog}
 use Rattle.cfa_agent.specs.lemmas.Hosts.{adds_none}
-use Rattle.cfa_agent.specs.lemmas.Options.{each_some, one_some}
 use Rattle.cfa_agent.proofs.MarkLemmas.{whole_none}
 
 abbrev given_by : (moment : ℕ) → (locks : Bool) → (before after : Told) → (out : Shown (List ℕ)) → Given

@@ -1,6 +1,7 @@
 -- What was told of visits and of how instances end.
 use Rattle.std.proofs.Common.{◌≡◌, ℕ, suc, ◌+◌, ◌≤◌, Bool, true, false, List, [], ◌∷◌, ◌++◌, Some, option_map, IfSome, Result, Ok, Err, IfOk, refl, sym, ap, subst, ◌∙◌, arith, append-nil, zero-add}
 use Rattle.std.specs.List.{flat_map}
+use Rattle.cfa_base.specs.lemmas.Options.{some_at}
 use Rattle.cfa_base.specs.Shown.{Shown, Follows, Untouched}
 use Rattle.cfa_classes.specs.declared.levels.Status.{Status}
 use Rattle.cfa_outside.specs.declared.sites.Entry.{Entry}
@@ -24,7 +25,6 @@ use Rattle.cfa_agent.specs.Ending.{tallied, heard, Hears}
 use Rattle.cfa_agent.specs.Locking.{is_skipped, lock_entries}
 use Rattle.cfa_agent.specs.Runs.{Start, counted, actuations_in, log_in, world_in, work_entries, work_lines, outcome_by_work, one_with_acts}
 use Rattle.cfa_agent.specs.Standing.{Given, Standing, IsBehind, Agrees, teller_of, first_told}
-use Rattle.cfa_agent.specs.lemmas.Options.{some_at}
 use Rattle.cfa_agent.proofs.Agreeing.{lock_keeps, same_before}
 use Rattle.cfa_agent.proofs.Behind.{EndsWith, behind_more, one_more_ended, one_more_skipped}
 use Rattle.cfa_agent.proofs.Records.{record_of_lock}

@@ -1,3 +1,2 @@
 -- Lemmas that the proofs of this crate and of those above cite. No contract names one.
-pub mod Options
 pub mod Hosts

@@ -1,6 +1,7 @@
 -- What is read of a journal, and that it has one answer.
 use Rattle.std.proofs.Common.{◌≡◌, ◌<◌, ◌≤◌, ◌↔◌, ◌⊎◌, inl, inr, ℕ, List, Some, Option, Result, Ok, Err, IfSome, refl, sym, ap, subst, ◌∙◌, length, arith}
 use Rattle.std.proofs.lemmas.Bool.{cases_order}
+use Rattle.cfa_base.specs.lemmas.Options.{some_weaker, one_some}
 use Rattle.cfa_outside.specs.Inputs.{Library}
 use Rattle.cfa_output.specs.declared.ends.Stop.{Stop}
 use Rattle.cfa_output.specs.declared.ends.Stop.TheVariants.{Memory}
@@ -14,7 +15,6 @@ use Rattle.cfa_journal.specs.Audits.{runs_of}
 use Rattle.cfa_sources.specs.Sources.{Texts}
 use Rattle.cfa_program.specs.Audits.{audit_text, bytes_of, AuditsAs, RefusesJournal, too_long, bad_record}
 use Rattle.cfa_program.specs.Stages.{JournalTells}
-use Rattle.cfa_agent.specs.lemmas.Options.{some_weaker, one_some}
 
 -- ---- what was read
 

@@ -1,5 +1,6 @@
 -- What a whole call leaves.
 use Rattle.std.proofs.Common.{◌≡◌, ◌≢◌, ◌<◌, ◌≤◌, ◌⊎◌, inl, inr, ℕ, Bool, true, List, Some, None, Option, Result, Ok, Err, IfSome, refl, sym, ap, subst, ◌∙◌, arith, append-nil}
+use Rattle.cfa_base.specs.lemmas.Options.{some_weaker, each_some, some_at, one_some}
 use Rattle.cfa_base.specs.declared.limits.TheConstants.{LAST_MOMENT}
 use Rattle.cfa_base.specs.Shown.{Shown, followed, Follows, Untouched}
 use Rattle.cfa_words.specs.declared.words.Request.{Request}
@@ -32,7 +33,6 @@ use Rattle.cfa_program.specs.Done.{IsDone, IsPut, Stands, Puts, HasFault, refuse
 use Rattle.cfa_program.specs.Ends.{IsEnd, IsStop, IsNotDone, IsRun, IsAnalysed, IsObeying, AsksRun, AsksNoRun, AsksAnalysis, AsksToObey, AsksRefused, RefusesCall, of_words, of_moment, of_request, PutsRefusal, IsUnread, ReadsInTurn, PutsLast, StopsReading, StopsAtSite, AnalysisBuilt, RunBuilt, RefusesBefore, RefusesInRun, RefusesText, before_work, in_run, StopsAtPattern, stops_before, stops_in_run, StopsAtVisits, by_analysis, by_run}
 use Rattle.cfa_program.specs.Stages.{RunPerformed, RunsPolicy, Obeys, setting_in, task_of, IsAsked, OnlyRefused, Prepared, OneSetting, MayRun, PolicyRan, not_made, made, Performed, PutsEnd, PutsStop, status_of_stop, Called, not_prepared, ended, stopped_at_work}
 use Rattle.cfa_agent.specs.lemmas.Hosts.{adds_none}
-use Rattle.cfa_agent.specs.lemmas.Options.{some_weaker, each_some, some_at, one_some}
 use Rattle.cfa_program.proofs.Told.{untouched_both, both_weaker, both, along, fault_along, fault_before}
 use Rattle.cfa_program.proofs.WorkLemmas.{no_conflict, judged_by, judges_told, judged_done, judged_put, does_made, does_judged, made_accepted, cut_off_by, obeys_strict, text_done, text_put, IsNoSink, IsOfSite, work_stop, never_shown, untouched_at_stop, runs_by_site, patterns_by_stop, patterns_at_end, untouched_without_run, failed_runs, obeys_conflict}
 

@@ -1,5 +1,6 @@
 -- What a call does is one thing alone.
 use Rattle.std.proofs.Common.{◌≡◌, ◌<◌, ◌≤◌, ℕ, Bool, true, false, List, Some, None, Option, refl, sym, ap, subst, ◌∙◌, arith}
+use Rattle.cfa_base.specs.lemmas.Options.{one_some}
 use Rattle.cfa_base.specs.declared.limits.TheConstants.{LAST_MOMENT}
 use Rattle.cfa_words.specs.declared.words.Options.{Options}
 use Rattle.cfa_words.specs.declared.words.Request.{Request}
@@ -16,7 +17,6 @@ use Rattle.cfa_conflict.specs.Analyses.{analysis_of}
 use Rattle.cfa_agent.specs.Actuations.{Mark}
 use Rattle.cfa_agent.specs.Ran.{start_of}
 use Rattle.cfa_agent.specs.Runs.{Start}
-use Rattle.cfa_agent.specs.lemmas.Options.{one_some}
 use Rattle.cfa_program.specs.Calls.{TakesPolicy, TakesRun, Task, runs, judges, shows, RefusesRequest, TakesRequest, TakenIsNotRefused, DoesOneThing, words_refused, moment_refused, request_refused, work_done, StrictRunDoes, Judges, DoesTask}
 use Rattle.cfa_program.specs.Done.{Done, refused_with}
 use Rattle.cfa_program.specs.Stages.{OneSetting}

@@ -1,6 +1,7 @@
 -- What is known when a call has been read.
 use Rattle.std.proofs.Common.{◌≡◌, ◌<◌, ◌≤◌, ℕ, List, Some, None, Option, Result, Ok, Err, refl, sym, subst, ◌∙◌, arith}
 use Rattle.std.proofs.lemmas.Option.{none-some}
+use Rattle.cfa_base.specs.lemmas.Options.{some_weaker}
 use Rattle.cfa_base.specs.declared.limits.TheConstants.{LAST_MOMENT}
 use Rattle.cfa_base.specs.Shown.{Shown}
 use Rattle.cfa_words.specs.declared.words.Request.{Request}
@@ -15,7 +16,6 @@ use Rattle.cfa_sources.specs.Readings.{FailsNext}
 use Rattle.cfa_program.specs.declared.work.Work.{Work}
 use Rattle.cfa_program.specs.Ends.{RefusesCall, of_words, of_moment, of_request, IsNextOf, AsksNext}
 use Rattle.cfa_program.specs.Stages.{IsRefusalWith, RequestPrepared, Prepared}
-use Rattle.cfa_agent.specs.lemmas.Options.{some_weaker}
 
 pub none_or_some : {o : Option Request} {request : Request} → o ≡ None → o ≡ Some request → ⊥
 none_or_some {o} {request} none some = none-some request (sym none ∙ some)

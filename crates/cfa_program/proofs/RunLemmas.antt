@@ -1,5 +1,6 @@
 -- What is known when a policy was read to be judged or run.
 use Rattle.std.proofs.Common.{◌≡◌, ℕ, List, ◌++◌, Option, Ok, Err, IfSome, ap, arith}
+use Rattle.cfa_base.specs.lemmas.Options.{some_weaker}
 use Rattle.cfa_base.specs.Shown.{Shown, Untouched, IsLeft}
 use Rattle.cfa_words.specs.declared.words.Options.{Options}
 use Rattle.cfa_outside.specs.Inputs.{Library}
@@ -15,7 +16,6 @@ use Rattle.cfa_program.specs.declared.work.PolicyInContext.{PolicyInContext}
 use Rattle.cfa_program.specs.declared.work.PolicyRun.{PolicyRun}
 use Rattle.cfa_program.specs.Calls.{TakesPolicy, TakesRun}
 use Rattle.cfa_program.specs.Stages.{setting_in, PolicyPrepared, RunPrepared}
-use Rattle.cfa_agent.specs.lemmas.Options.{some_weaker}
 
 -- ---- a valid policy
 

@@ -1,5 +1,6 @@
 -- What the last line of a run tells of the world that it left, and what a call does that nothing hinders.
 use Rattle.std.proofs.Common.{◌≡◌, ◌⊎◌, inl, inr, ℕ, Bool, List, Some, None, Option, Ok, IfSome, refl, subst, arith}
+use Rattle.cfa_base.specs.lemmas.Options.{some_weaker, each_some, some_at, one_some}
 use Rattle.cfa_base.specs.Shown.{Shown, Follows}
 use Rattle.cfa_words.specs.declared.words.Request.{Request}
 use Rattle.cfa_words.specs.declared.words.Request.TheVariants as request
@@ -28,7 +29,6 @@ use Rattle.cfa_program.proofs.CallLemmas as calls
 use Rattle.cfa_program.proofs.CallLemmas.{no_end, stop_is}
 use Rattle.cfa_program.proofs.EndLemmas.{put_behind, settled_by_line, moment_ends_otherwise, conflict_ends_otherwise}
 use Rattle.cfa_program.proofs.PrepareLemmas.{none_or_some}
-use Rattle.cfa_agent.specs.lemmas.Options.{some_weaker, each_some, some_at, one_some}
 use Rattle.cfa_program.proofs.Told.{both, both_weaker, each_both}
 
 -- what is run is neither judged nor shown

@@ -1,11 +1,11 @@
 -- What holds of what an object of the outside tells.
 use Rattle.std.proofs.Common.{◌≡◌, ℕ, List, Some, None, Option, sym, ap, subst, ◌∙◌, IfSome}
+use Rattle.cfa_base.specs.lemmas.Options.{some_weaker, each_some}
 use Rattle.cfa_base.specs.Causes.{Rose}
 use Rattle.cfa_base.specs.Shown.{Shown, followed, Follows, Untouched}
 use Rattle.cfa_outside.specs.Sinks.{adds_bytes}
 use Rattle.cfa_outside.specs.Sites.{Told}
 use Rattle.cfa_agent.specs.Ran.{IfBothTold}
-use Rattle.cfa_agent.specs.lemmas.Options.{some_weaker, each_some}
 use Rattle.cfa_program.specs.Done.{HasFault}
 
 -- ---- before and after

@@ -1,16 +1,14 @@
 -- A file is read to one tree or refused with one line, and so are several files.
-use Rattle.std.proofs.Common.{◌≡◌, ℕ, ◌+◌, List, [], ◌∷◌, ◌++◌, length, Some, refl, sym, subst, ◌∙◌, arith}
+use Rattle.std.proofs.Common.{◌≡◌, ℕ, ◌+◌, List, [], ◌∷◌, ◌++◌, length, Some, refl, subst, arith}
+use Rattle.cfa_base.specs.lemmas.Options.{one_some}
 use Rattle.cfa_tree.specs.Tree.{PolicyTree}
 use Rattle.cfa_sources.specs.Sources as sources
 use Rattle.cfa_sources.specs.Sources.{Texts, source_of, ReadsSource, RefusesSource, ReadsFile, RefusesFile, ReadsFiles}
 use Rattle.cfa_sources.specs.Laws.{SourceTreeIsOne, SourceLineIsOne, SourceNeverBoth, FileTreeIsOne, FileLineIsOne, FileNeverBoth}
 
-some_injective : (a b : List ℕ) → Some a ≡ Some b → a ≡ b
-some_injective a b e = cc
-
 -- a name has one source
 one_source : (texts : Texts) (name source other : List ℕ) → source_of texts name ≡ Some source → source_of texts name ≡ Some other → source ≡ other
-one_source texts name source other e f = some_injective source other (sym e ∙ f)
+one_source texts name source other e f = one_some e f
 
 pub file_tree : SourceTreeIsOne → FileTreeIsOne
 file_tree law = λ texts file name tree other r q.

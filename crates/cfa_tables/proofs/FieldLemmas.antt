@@ -68,9 +68,6 @@ enabled_tells false false e = refl
 pub some_or_none : (o : Option (List ℕ)) (text : List ℕ) → o ≡ Some text → o ≡ None → ⊥
 some_or_none o text some none = cc
 
-pub one_some : (o : Option (List ℕ)) (text other : List ℕ) → o ≡ Some text → o ≡ Some other → text ≡ other
-one_some o text other e f = cc
-
 -- a line of four fields that are these
 pub four_text : {line a b c d : List ℕ} (a' b' c' d' : List ℕ) → IsFourFields line a b c d → a' ≡ a → b' ≡ b → c' ≡ c → d' ≡ d → a' then b' then c' then d' ≡ line
 four_text {line} {a} {b} {c} {d} a' b' c' d' four e f g h = rw (e, f, g, h) four.whole

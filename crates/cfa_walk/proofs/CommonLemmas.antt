@@ -1,6 +1,6 @@
 -- Promises of common bundles, and common bundles one after the other.
-use Rattle.std.proofs.Common.{◌≡◌, ◌∙◌, ℕ, ◌+◌, ◌<◌, length, take, drop, get_or, map, Bool, true, false, cond, List, [], ◌∷◌, ◌++◌, IsTrue, Option, refl, ap, sym, subst}
-use Rattle.std.specs.Prelude.{not, All, Some, IfSome, Result, Err}
+use Rattle.std.proofs.Common.{◌≡◌, ◌∙◌, ℕ, ◌+◌, ◌<◌, length, take, drop, get_or, map, Bool, true, false, cond, List, [], ◌∷◌, ◌++◌, IsTrue, refl, ap, sym, subst}
+use Rattle.std.specs.Prelude.{not, All, Result, Err}
 use Rattle.std.proofs.Common.{rules}
 use Rattle.std.proofs.lemmas.Bool.{false≢true}
 use Rattle.std.proofs.lemmas.List.{map-append, take-append-drop}
@@ -223,9 +223,6 @@ module _ (policy : PolicyTree) (depth : ℕ) (type : PromiseType) where
 
 pub in_parts : {X Y : Type 0} (f : X → Y) (xs : List X) (i : ℕ) → map f xs ≡ map f (take i xs) ++ map f (drop i xs)
 in_parts f xs i = ap (map f) (sym (take-append-drop i xs)) ∙ map-append f (take i xs) (drop i xs)
-
-pub of_some : {X : Type 0} (P : X → Type 0) (found : Option X) (x : X) → found ≡ Some x → IfSome found P → P x
-of_some {X} P found x is holds = subst (λ (f : Option X). IfSome f P) is holds
 
 pub of_item : {X : Type 0} (P : X → Type 0) (xs : List X) (i : ℕ) (x : X) → i < length xs → x ≡ get_or xs i x → All P xs → P x
 of_item P xs i x within is all = subst P (sym is) (All-get_or P xs i x within all)

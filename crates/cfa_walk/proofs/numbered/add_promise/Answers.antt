@@ -1,6 +1,6 @@
 use Rattle.std.proofs.Common.{sym, subst}
+use Rattle.cfa_base.specs.lemmas.Options.{some_at}
 use Rattle.cfa_walk.specs.Remembered.{GuardsRepeat, StandsLast}
-use Rattle.cfa_walk.proofs.CommonLemmas.{of_some}
 use Rattle.cfa_walk.proofs.RememberedLemmas.{repeats_pushed}
 use Rattle.cfa_walk.proofs.numbered.add_promise.Goals as goal
 
@@ -8,4 +8,4 @@ pub returns-in_ok-push-clause-guards : goal.returns-in_ok-push-clause-guards
 returns-in_ok-push-clause-guards c = λ so_far.
     let ps = c.args.promises.now.items in
     subst GuardsRepeat (sym c.in_ok-push.ensures.items)
-    (repeats_pushed ps _ so_far (λ marked. of_some (λ _. StandsLast ps c.args.promise.now.guard) c.args.found c.in-Some.promise_type c.in-Some.is (c.requires marked)))
+    (repeats_pushed ps _ so_far (λ marked. some_at c.args.found c.in-Some.promise_type (λ _. StandsLast ps c.args.promise.now.guard) c.in-Some.is (c.requires marked)))

@@ -1,4 +1,5 @@
 use Rattle.std.proofs.Common.{◌≡◌, ◌∙◌, [], ◌∷◌, map, subst, ap, sym}
+use Rattle.cfa_base.specs.lemmas.Options.{some_at}
 use Rattle.cfa_schema.specs.Seen.{tree_of}
 use Rattle.cfa_walk.specs.Bundles.{seen_bundle}
 use Rattle.cfa_classes.specs.declared.levels.Status.TheVariants.{Yes}
@@ -9,7 +10,6 @@ use Rattle.cfa_walk.specs.Numbered.{numbered_in}
 use Rattle.cfa_walk.specs.Remembered.{GuardsRepeat}
 use Rattle.cfa_walk.specs.SeenNumbered.{seen_numbered}
 use Rattle.cfa_walk.specs.Steps.{AreCounted}
-use Rattle.cfa_walk.proofs.CommonLemmas.{of_some}
 use Rattle.cfa_walk.proofs.ServedLemmas.{found_name}
 use Rattle.cfa_walk.proofs.WalkLemmas.{agent_gone}
 use Rattle.cfa_walk.proofs.walking.through_bundle.Goals as goal
@@ -32,8 +32,8 @@ returns-in_ok-numbered-in-Some g c =
           (found_name policy name block c.requires.found) is c.requires.depth (c.args.teller.now, (c.args.site.now, c.args.out.now))
           (g.met.T.Teller.steady (c.args.teller.now, (c.args.site.now, c.args.out.now))) (c.go_through.new.teller, (c.go_through.new.site, c.go_through.new.out))
           c.args.state.now c.of_sequence.new.state c.go_through.new.state a
-          c.go_through.new.activation c.go_through.result (of_some (IsOf name name Yes) c.in_ok-of_sequence.field-0 a c.in-Some.is c.in_ok-of_sequence.ensures.is_of)
-          (of_some (λ m. (s : Setting) (h : History) → Keeps s c.args.state.now h → Stands s c.of_sequence.new.state m (Begun name [] ∷ h)) c.in_ok-of_sequence.field-0 a c.in-Some.is
+          c.go_through.new.activation c.go_through.result (some_at c.in_ok-of_sequence.field-0 a (IsOf name name Yes) c.in-Some.is c.in_ok-of_sequence.ensures.is_of)
+          (some_at c.in_ok-of_sequence.field-0 a (λ m. (s : Setting) (h : History) → Keeps s c.args.state.now h → Stands s c.of_sequence.new.state m (Begun name [] ∷ h)) c.in-Some.is
           c.in_ok-of_sequence.ensures.stands) c.go_through.ensures.ends.0,
       c.go_through.ensures.ends.1,
     )
