@@ -1,4 +1,5 @@
 -- Lemmas on these definitions that the proofs of the crates above cite. No contract names one.
+pub mod GuardPlaces
 pub mod GuardRest
 pub mod GuardRuns
 pub mod Levels

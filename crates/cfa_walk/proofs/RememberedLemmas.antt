@@ -8,7 +8,8 @@ use Rattle.cfa_output.specs.declared.ends.Stop.{Stop}
 use Rattle.cfa_kinds.specs.declared.kinds.PromiseType.{PromiseType}
 use Rattle.cfa_tree.specs.declared.expressions.Expr.{Expr}
 use Rattle.cfa_tree.specs.declared.promises.Promise.{Promise}
-use Rattle.cfa_tree.specs.Repeats.{guard_at, guard_in}
+use Rattle.cfa_tree.specs.Repeats.{guard_at}
+use Rattle.cfa_tree.specs.lemmas.GuardPlaces.{guard_there}
 use Rattle.cfa_tree.specs.Plain.{plain_expr}
 use Rattle.cfa_tree.specs.Tree.{ExprTree, PolicyTree}
 use Rattle.cfa_walk.specs.declared.activations.Activation.{Activation}
@@ -171,9 +172,6 @@ module _ (ps : List Held) (x : Held) where
 -- the last promise is the one before an index of a section, if its type was found
 abbrev pub LastStands : List Promise → Option PromiseType → (index : ℕ) → List Held → Type 0
 LastStands promises found i ps = 0 < i → IfSome found (λ _. StandsLast ps (guard_at promises (i - 1)))
-
-guard_there : (promises : List Promise) (i : ℕ) (p : Promise) → i < length promises → p ≡ get_or promises i p → guard_at promises i ≡ p.guard
-guard_there promises i p within is = get_or-map guard_in promises i p None within ∙ ap guard_in (sym is)
 
 pub last_before : (promises : List Promise) (found : Option PromiseType) (i : ℕ) (p : Promise) (ps : List Held) → i < length promises → p ≡ get_or promises i p →
     LastStands promises found i ps → (0 < i) × (guard_at promises i ≡ guard_at promises (i - 1)) → IfSome found (λ _. StandsLast ps p.guard)
