@@ -22,21 +22,19 @@ follows_none site i = record { told = none site.told i; faults = site.faults } w
   none None = refl
   none (Some t) = ap Some (sym (adds_none t))
 
+told_both : (a b : List Entry) (told : Option Told) → option_map (adds b) (option_map (adds a) told) ≡ option_map (adds (a ++ b)) told
+told_both a b None = refl
+told_both a b (Some t) = ap Some (adds_both a b t)
+
 -- what happens in two parts happens as one
 pub follows_both : (a b : List Entry) (site : Shown Told) → followed (adds b) (followed (adds a) site) ≡ followed (adds (a ++ b)) site
-follows_both a b site i = record { told = both site.told i; faults = site.faults } where
-  both : (told : Option Told) → option_map (adds b) (option_map (adds a) told) ≡ option_map (adds (a ++ b)) told
-  both None = refl
-  both (Some t) = ap Some (adds_both a b t)
+follows_both a b site i = record { told = told_both a b site.told i; faults = site.faults }
 
 pub follows_then : (a b : List Entry) (before mid after : Shown Told) → Follows (adds a) before mid → Follows (adds b) mid after → Follows (adds (a ++ b)) before after
 follows_then a b before mid after first then = then ∙ ap (followed (adds b)) first ∙ follows_both a b before
 
 pub told_along : (a b : List Entry) (before mid after : Option Told) → mid ≡ option_map (adds a) before → after ≡ option_map (adds b) mid → after ≡ option_map (adds (a ++ b)) before
-told_along a b before mid after first then = then ∙ ap (option_map (adds b)) first ∙ both before where
-  both : (told : Option Told) → option_map (adds b) (option_map (adds a) told) ≡ option_map (adds (a ++ b)) told
-  both None = refl
-  both (Some t) = ap Some (adds_both a b t)
+told_along a b before mid after first then = then ∙ ap (option_map (adds b)) first ∙ told_both a b before
 
 -- ---- counts of faults
 
