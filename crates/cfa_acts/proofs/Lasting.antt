@@ -13,6 +13,7 @@ use Rattle.cfa_outside.specs.declared.sites.Change.{Change}
 use Rattle.cfa_outside.specs.declared.sites.Change.TheVariants.{PutFile, PutDir, Remove, SetPerms, PutService}
 use Rattle.cfa_outside.specs.Worlds.{HasParents, is_file, is_directory, file_with, with_perms, perms_in, new_directory}
 use Rattle.cfa_outside.specs.Sites.{after_change}
+use Rattle.cfa_outside.specs.lemmas.Kinds.{set_directory}
 use Rattle.cfa_edits.specs.declared.edits.Edit.{Edit}
 use Rattle.cfa_edits.specs.Scripts.{AreEdits, script_text}
 use Rattle.cfa_edits.specs.Laws.{TextsTellScripts}
@@ -25,7 +26,7 @@ use Rattle.cfa_acts.specs.Settling.{is_settled, keeps_content}
 use Rattle.cfa_acts.specs.Laws.{HasScript, NeededKeepsPost}
 use Rattle.cfa_acts.proofs.Needs.{unmet, create_needs, make_dir_needs, delete_needs, content_needs, copy_needs, takes_no_directory, edit_needs, perms_needs, start_needs, stop_needs, enable_needs, disable_needs, restart_needs, bust_needs, RowNeeds}
 use Rattle.cfa_acts.proofs.Effects.{apart, left, leaves, may_make, stays_clear, put_over}
-use Rattle.cfa_acts.proofs.Posts.{at, made_file, made_bytes, made_perms, set_file, set_directory, set_bytes, set_perms_in, copied, copies_as, kept_perms, row_put, set_settled}
+use Rattle.cfa_acts.proofs.Posts.{at, made_file, made_bytes, made_perms, set_file, set_bytes, set_perms_in, copied, copies_as, kept_perms, row_put, set_settled}
 use Rattle.cfa_acts.proofs.Settled.{settled_content}
 
 -- the node at a path after a change

@@ -64,10 +64,6 @@ pub set_file : (perms : Perms) (n : Node) → is_file (Some (with_perms perms n)
 set_file perms (File _ _) = refl
 set_file perms (Dir _) = refl
 
-pub set_directory : (perms : Perms) (n : Node) → is_directory (Some (with_perms perms n)) ≡ is_directory (Some n)
-set_directory perms (File _ _) = refl
-set_directory perms (Dir _) = refl
-
 pub set_bytes : (bytes : List ℕ) (perms : Perms) (n : Node) → has_bytes bytes (Some (with_perms perms n)) ≡ has_bytes bytes (Some n)
 set_bytes bytes perms (File _ _) = refl
 set_bytes bytes perms (Dir _) = refl

@@ -18,6 +18,7 @@ use Rattle.cfa_outside.specs.declared.sites.Entry.TheVariants.{Did, Refused}
 use Rattle.cfa_outside.specs.Worlds.{NodeMap, above, above_from, is_file, is_directory, is_blocked, has_below, new_directory, with_dir, with_dirs, put_file, file_with, shows, takes_file, look_at, is_in_directories, is_free, takes_directory, is_removable, is_below, put_directory, with_perms, set_perms_of, set_perms, HasParents}
 use Rattle.cfa_outside.specs.Sites.{fits, after_change, after, AllFit}
 use Rattle.cfa_outside.specs.lemmas.Looks.{no_directory}
+use Rattle.cfa_outside.specs.lemmas.Kinds.{set_directory}
 use Rattle.cfa_outside.proofs.Above.{above_here, above_done, above_whole}
 use Rattle.cfa_base.specs.TextMaps.{text_cmp}
 use Rattle.cfa_base.specs.lemmas.TextMaps.{tied, ties, any_passes}
@@ -353,10 +354,6 @@ module _ (nodes : NodeMap) (path : List ℕ) (fit : is_removable (look_at nodes 
         still q p among (was_there q here) (all_in (λ d. is_directory (map.get nodes d)) (above q) (parents.of_each q (was_there q here)) p among));
   }
 
-same_kind : (perms : Perms) (node : Node) → is_directory (Some (with_perms perms node)) ≡ is_directory (Some node)
-same_kind perms (node.File bytes _) = refl
-same_kind perms (node.Dir _) = refl
-
 -- permissions are set of what stands
 module _ (nodes : NodeMap) (path : List ℕ) (perms : Perms) (node : Node) (stands : map.get nodes path ≡ Some node) (parents : HasParents nodes) where
   abbrev changed : NodeMap
@@ -379,7 +376,7 @@ module _ (nodes : NodeMap) (path : List ℕ) (perms : Perms) (node : Node) (stan
   kind_stands q =
       ap is_directory (get_changed q)
       ∙ elim (eq_by_cmp text_cmp q path) as (λ b. eq_by_cmp text_cmp q path ≡ b → is_directory (cond b (Some (with_perms perms node)) (map.get nodes q)) ≡ is_directory (map.get nodes q)) [
-        | true ↦ λ same. same_kind perms node ∙ sym (ap is_directory (at_path q same))
+        | true ↦ λ same. set_directory perms node ∙ sym (ap is_directory (at_path q same))
         | false ↦ λ _. refl
       ] refl
 
