@@ -15,6 +15,7 @@ use Rattle.cfa_walk.specs.Kept.{scope_at}
 use Rattle.cfa_walk.specs.Later.{IsLater, IsLaterHere, AreLater}
 use Rattle.cfa_walk.specs.Numbered.{Numbered}
 use Rattle.cfa_walk.specs.Remembered.{IsNow, IsPast, GuardHolds, ResolutionHolds, RowHolds, RowsHold, guard_now, guard_value, resolution_now}
+use Rattle.cfa_walk.proofs.LevelLemmas.{at_most}
 
 -- ---- counts that rise
 
@@ -23,9 +24,6 @@ as_next x y z low high same = omega arith
 
 as_first : (x y z : ℕ) → x ≤ y → y ≤ z → z ≡ x → y ≡ x
 as_first x y z low high same = omega arith
-
-up_to : (x y z : ℕ) → x ≤ y → y ≤ z → x ≤ z
-up_to x y z low high = omega arith
 
 no_more : (x y : ℕ) → x ≡ y → x ≤ y
 no_more x y same = omega arith
@@ -56,7 +54,7 @@ pub later_then : (st st' st'' : State) → IsLater st st' → IsLater st' st'' �
 later_then st st' st'' first next =
     let low = as_first st.changes st'.changes st''.changes first.count next.count in
     let high = as_next st.changes st'.changes st''.changes first.count next.count in record {
-      count = up_to st.changes st'.changes st''.changes first.count next.count;
+      count = at_most st.changes st'.changes st''.changes first.count next.count;
       statuses = λ same. next.statuses (high same) ∙ first.statuses (low same);
       shared = λ same. next.shared (high same) ∙ first.shared (low same);
     }
@@ -87,7 +85,7 @@ here_then a a' a'' first next =
       path = next.path ∙ first.path;
       bundle = next.bundle ∙ first.bundle;
       place = next.place ∙ first.place;
-      count = up_to a.changes a'.changes a''.changes first.count next.count;
+      count = at_most a.changes a'.changes a''.changes first.count next.count;
       statuses = λ same. next.statuses (high same) ∙ first.statuses (low same);
       own = λ same. next.own (high same) ∙ first.own (low same);
     }
@@ -143,7 +141,7 @@ module _ (st st' : State) (a a' : Activation) (later : AreLater st st' a a') (sa
 
 module _ (st st' : State) (a a' : Activation) (later : AreLater st st' a a') (m : Moment) (past : IsPast m st a) where
   still_past : IsPast m st' a'
-  still_past = (up_to m.state st.changes st'.changes past.0 later.state.count, up_to m.activation a.changes a'.changes past.1 later.here.count)
+  still_past = (at_most m.state st.changes st'.changes past.0 later.state.count, at_most m.activation a.changes a'.changes past.1 later.here.count)
 
   module _ (now : IsNow m st' a') where
     was_now : IsNow m st a

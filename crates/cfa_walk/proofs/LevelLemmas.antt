@@ -87,11 +87,11 @@ later_same f = (arith-refl f.0, refl)
     arith-refl : (n : ℕ) → n ≤ n
     arith-refl n = omega arith
 
+pub at_most : (a b c : ℕ) → a ≤ b → b ≤ c → a ≤ c
+at_most a b c ab bc = omega arith
+
 pub later_then : (f g k : Faults) → Later f g → Later g k → Later f k
 later_then f g k fg gk = (at_most f.0 g.0 k.0 fg.0 gk.0, gk.1 ∙ fg.1)
-  where
-    at_most : (a b c : ℕ) → a ≤ b → b ≤ c → a ≤ c
-    at_most a b c ab bc = omega arith
 
 rose_same : (a b c : ℕ) → b ≡ a → Rose b c → Rose a c
 rose_same a b c same rose = subst (λ n. Rose n c) same rose
