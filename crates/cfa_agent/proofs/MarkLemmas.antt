@@ -3,7 +3,7 @@ use Rattle.std.proofs.Common.{◌≡◌, ◌≢◌, ⊎_elim, ℕ, suc, ◌+◌,
 use Rattle.std.specs.Prelude.{if◌then◌else◌}
 use Rattle.std.specs.Fmt.{decimal}
 use Rattle.std.specs.List.{slice_split}
-use Rattle.std.specs.Option.{option_or}
+use Rattle.std.specs.Option.{option_or, option_to_list}
 use Rattle.std.specs.Str.Parse.{digits_value}
 use Rattle.std.proofs.lemmas.Bool.{eq-eqb}
 use Rattle.std.proofs.lemmas.Bool.Decides.{eqb_tells}
@@ -166,10 +166,6 @@ gives_look moment false call n bytes closes = record {
 
 -- ---- the entries of an instance
 
-abbrev pub marks_in : Option Mark → List Mark
-marks_in None = []
-marks_in (Some mark) = mark ∷ []
-
 -- a mark that the instance of a number may meet, where its acts do what is planned
 abbrev pub CouldMeet : (number : ℕ) → Actuated → Option Mark → Type 0
 CouldMeet number planned None = Unit {0}
@@ -210,7 +206,7 @@ module _ (moment n : ℕ) (instance : Instance) (has_record : Bool) (small : n <
 
 -- the entries of an instance have the mark that it met, and no other
 pub gives_entries : (moment n : ℕ) (instance : Instance) (has_record : Bool) (planned : Actuated) (m : Option Mark) → n < 2 ^ 64 → AreOfActs planned.changes → CouldMeet n planned m →
-    Gives (entries_of moment n instance (done_by planned m) has_record) (marks_in m)
+    Gives (entries_of moment n instance (done_by planned m) has_record) (option_to_list m)
 gives_entries moment n instance has_record planned None small plain could = gives_calm moment n instance has_record small planned.changes planned.failure
 gives_entries moment n instance has_record planned (Some mark) small plain could =
     let P : List Mark → Type 0 = λ marks. Gives (entries_of moment n instance (done_by planned (Some mark)) has_record) marks in
@@ -232,10 +228,10 @@ added moment number instance done has_record has_locks =
     entries_of moment number instance done has_record ++ lock_entries moment has_locks instance
 
 gives_added : (moment n : ℕ) (instance : Instance) (has_record has_locks : Bool) (planned : Actuated) (m : Option Mark) → n < 2 ^ 64 → AreOfActs planned.changes → CouldMeet n planned m →
-    Gives (added moment n instance (done_by planned m) has_record has_locks) (marks_in m)
+    Gives (added moment n instance (done_by planned m) has_record has_locks) (option_to_list m)
 gives_added moment n instance has_record has_locks planned m small plain could =
     let P : List Mark → Type 0 = λ marks. Gives (added moment n instance (done_by planned m) has_record has_locks) marks in
-    subst P (append-nil (marks_in m)) (gives_both _ _ (marks_in m) [] (gives_entries moment n instance has_record planned m small plain could) (gives_locks moment has_locks instance))
+    subst P (append-nil (option_to_list m)) (gives_both _ _ (option_to_list m) [] (gives_entries moment n instance has_record planned m small plain could) (gives_locks moment has_locks instance))
 
 marks_both : (log more : List Entry) (marks : List Mark) → Gives log (marks_of log) → Gives more marks → marks_of (log ++ more) ≡ marks_of log ++ marks
 marks_both log more marks gives gives' = gives.before more ∙ ap (λ marks. marks_of log ++ marks) (gives_marks more marks gives')
@@ -246,7 +242,7 @@ within_more n k (m ∷ marks) le within =
     let here : m.instance ≤ n = All-head (λ (m : Mark). m.instance ≤ n) m marks within in
     All-cons (λ (m : Mark). m.instance ≤ k) m marks (omega arith) (within_more n k marks le (All-tail (λ (m : Mark). m.instance ≤ n) m marks within))
 
-within_in : (n : ℕ) (planned : Actuated) (m : Option Mark) → CouldMeet n planned m → All (λ (m : Mark). m.instance ≤ n) (marks_in m)
+within_in : (n : ℕ) (planned : Actuated) (m : Option Mark) → CouldMeet n planned m → All (λ (m : Mark). m.instance ≤ n) (option_to_list m)
 within_in n planned None could = All-nil (λ (m : Mark). m.instance ≤ n)
 within_in n planned (Some mark) could =
     let same : mark.instance ≡ n = could.0 in
@@ -266,7 +262,7 @@ whole_both n k log more marks le whole gives within =
 pub whole_next : (n moment : ℕ) (log : List Entry) (instance : Instance) (has_record has_locks : Bool) (planned : Actuated) (m : Option Mark) → suc n < 2 ^ 64 → IsWholeLog n log → AreOfActs planned.changes → CouldMeet (suc n) planned m →
     IsWholeLog (suc n) (log ++ added moment (suc n) instance (done_by planned m) has_record has_locks)
 whole_next n moment log instance has_record has_locks planned m small whole plain could =
-    whole_both n (suc n) log _ (marks_in m) (omega arith) whole (gives_added moment (suc n) instance has_record has_locks planned m small plain could) (within_in (suc n) planned m could)
+    whole_both n (suc n) log _ (option_to_list m) (omega arith) whole (gives_added moment (suc n) instance has_record has_locks planned m small plain could) (within_in (suc n) planned m could)
 
 -- so does a lock alone, which has no mark
 pub whole_lock : (n moment : ℕ) (log : List Entry) (instance : Instance) (has_locks : Bool) → IsWholeLog n log → IsWholeLog n (log ++ lock_entries moment has_locks instance)
@@ -276,9 +272,9 @@ pub marks_lock : (n moment : ℕ) (log : List Entry) (instance : Instance) (has_
 marks_lock n moment log instance has_locks whole = marks_both log _ [] whole.gives (gives_locks moment has_locks instance) ∙ append-nil (marks_of log)
 
 pub marks_next : (n moment : ℕ) (log : List Entry) (instance : Instance) (has_record has_locks : Bool) (planned : Actuated) (m : Option Mark) → suc n < 2 ^ 64 → IsWholeLog n log → AreOfActs planned.changes → CouldMeet (suc n) planned m →
-    marks_of (log ++ added moment (suc n) instance (done_by planned m) has_record has_locks) ≡ marks_of log ++ marks_in m
+    marks_of (log ++ added moment (suc n) instance (done_by planned m) has_record has_locks) ≡ marks_of log ++ option_to_list m
 marks_next n moment log instance has_record has_locks planned m small whole plain could =
-    marks_both log _ (marks_in m) whole.gives (gives_added moment (suc n) instance has_record has_locks planned m small plain could)
+    marks_both log _ (option_to_list m) whole.gives (gives_added moment (suc n) instance has_record has_locks planned m small plain could)
 
 -- ---- marks of numbers
 
@@ -292,11 +288,11 @@ found_none (m ∷ marks) n k lt within =
     let other : m.instance ≢ k = λ e. omega arith in
     ap (λ b. if b then Some m else mark_of marks k) (other_mark m.instance k other) ∙ found_none marks n k lt (All-tail (λ (m : Mark). m.instance ≤ n) m marks within)
 
-found_in : (n : ℕ) (planned : Actuated) (m : Option Mark) → CouldMeet n planned m → mark_of (marks_in m) n ≡ m
+found_in : (n : ℕ) (planned : Actuated) (m : Option Mark) → CouldMeet n planned m → mark_of (option_to_list m) n ≡ m
 found_in n planned None could = refl
 found_in n planned (Some mark) could = ap (λ b. if b then Some mark else None) (eq-eqb mark.instance n could.0)
 
-found_other : (n k : ℕ) (planned : Actuated) (m : Option Mark) → k < n → CouldMeet n planned m → mark_of (marks_in m) k ≡ None
+found_other : (n k : ℕ) (planned : Actuated) (m : Option Mark) → k < n → CouldMeet n planned m → mark_of (option_to_list m) k ≡ None
 found_other n k planned None lt could = refl
 found_other n k planned (Some mark) lt could =
     let same : mark.instance ≡ n = could.0 in
@@ -308,7 +304,7 @@ pub mark_before : (n k moment : ℕ) (log : List Entry) (instance : Instance) (h
     mark_of (marks_of (log ++ added moment (suc n) instance (done_by planned m) has_record has_locks)) k ≡ mark_of (marks_of log) k
 mark_before n k moment log instance has_record has_locks planned m small le whole plain could =
     ap (λ marks. mark_of marks k) (marks_next n moment log instance has_record has_locks planned m small whole plain could)
-    ∙ find-append (λ (m : Mark). m.instance == k) (marks_of log) (marks_in m)
+    ∙ find-append (λ (m : Mark). m.instance == k) (marks_of log) (option_to_list m)
     ∙ ap (option_or (mark_of (marks_of log) k)) (found_other (suc n) k planned m (omega arith) could)
     ∙ option_or-none (mark_of (marks_of log) k)
 
@@ -317,6 +313,6 @@ pub mark_next : (n moment : ℕ) (log : List Entry) (instance : Instance) (has_r
     mark_of (marks_of (log ++ added moment (suc n) instance (done_by planned m) has_record has_locks)) (suc n) ≡ m
 mark_next n moment log instance has_record has_locks planned m small whole plain could =
     ap (λ marks. mark_of marks (suc n)) (marks_next n moment log instance has_record has_locks planned m small whole plain could)
-    ∙ find-append (λ (m : Mark). m.instance == suc n) (marks_of log) (marks_in m)
-    ∙ ap (λ o. option_or o (mark_of (marks_in m) (suc n))) (found_none (marks_of log) n (suc n) (omega arith) whole.within)
+    ∙ find-append (λ (m : Mark). m.instance == suc n) (marks_of log) (option_to_list m)
+    ∙ ap (λ o. option_or o (mark_of (option_to_list m) (suc n))) (found_none (marks_of log) n (suc n) (omega arith) whole.within)
     ∙ found_in (suc n) planned m could
