@@ -13,10 +13,8 @@ use Rattle.cfa_parser.specs.Values.{ValueState, value_start, ValueProgress, goes
 use Rattle.cfa_parser.specs.Machine.{OpenSection, OpenPromise, SectionState, between_promises, has_word, in_guard, has_promiser, in_promisee, wants_attribute, has_name, in_value, BundleState, no_section as no_section_yet, has_section_word, in_section, BodyState, between_attributes, has_body_name, in_body_value, Section, guard_next, with_guard, new_section, new_promise, with_attribute, with_promise, closed_section, guard_word, section_step, within, promisee_next, attribute_next, promiser_next, value_next, BundleProgress, goes_on, ended, in_section_step, bundle_step, BodyProgress, body_goes_on, body_ended, body_value_next, body_step}
 use Rattle.cfa_tree.specs.lemmas.Lists.{append_one}
 use Rattle.cfa_tree.specs.lemmas.GuardRest.{GuardRest, GuardEarlier, guard_earlier, guard_alive, guard_starts}
+use Rattle.cfa_parser.proofs.Openings.{with_attributes}
 use Rattle.cfa_parser.proofs.ValueRest.{ValueRest, ValueEarlier, value_earlier, value_alive, value_starts}
-
-abbrev pub with_attributes : OpenPromise → List AttributeTree → OpenPromise
-with_attributes o attrs = record { promiser = o.promiser; place = o.place; promisee = o.promisee; attributes = o.attributes ++ attrs }
 
 -- the rest of a bundle between the promises of a section
 pub data SectionRest : Levels → List SectionTree → OpenSection → List Token → List SectionTree → List Token → Type 0 where

@@ -1,5 +1,6 @@
 pub mod BundleRest
 pub mod Limits
+pub mod Openings
 pub mod PolicyRest
 pub mod PolicyRuns
 pub mod Readings

@@ -11,10 +11,8 @@ use Rattle.cfa_tree.specs.Tree.{AttributeTree, SectionTree, NamedTree, PolicyTre
 use Rattle.cfa_tree.specs.Grammar.{token, Levels, Sections, no_section, Words, last_word, next_word, Params, no_params, empty_params, some_params, BodyAttributes, no_more, Policy, no_block, a_bundle, a_body, ReadsWithin}
 use Rattle.cfa_parser.specs.Machine.{BundleState, BodyState, no_section as no_section_yet, between_attributes, BlockWord, bundle_word, body_word, Heading, State, between_blocks, has_block_word, has_kind, has_block_name, wants_first_param, has_param, wants_param, has_params, in_bundle, in_body, Machine, start, BundleProgress, goes_on, ended, bundle_step, BodyProgress, body_goes_on, body_ended, body_step, block_word, block_begun, named, with_param, new_heading, block_opened, closed_bundle, closed_body, bundle_next, body_next, heading_step, within_blocks, state_step, step, run}
 use Rattle.cfa_tree.specs.lemmas.Lists.{append_one}
+use Rattle.cfa_parser.proofs.Openings.{with_params}
 use Rattle.cfa_parser.proofs.BundleRest.{BundleRest, IsCloseBrace, close_brace, BundleEarlier, bundle_earlier, bundle_alive, bundle_starts, BodyRest, BodyEarlier, body_earlier, body_alive, body_starts}
-
-abbrev with_params : Heading → List NamedTree → Heading
-with_params h names = record { block = h.block; place = h.place; kind = h.kind; name = h.name; params = h.params ++ names }
 
 -- the rest of a policy behind the brace of a block
 pub data BlockRest : Levels → PolicyTree → BlockWord → Heading → List Token → PolicyTree → Type 0 where

@@ -12,6 +12,7 @@ use Rattle.cfa_parser.specs.Machine.{OpenSection, OpenPromise, SectionState, bet
 use Rattle.cfa_tree.specs.lemmas.Lists.{append_one}
 use Rattle.cfa_tree.specs.lemmas.Levels.{left_of-none}
 use Rattle.cfa_tree.specs.lemmas.GuardRuns.{guard_run}
+use Rattle.cfa_parser.proofs.Openings.{with_attributes, with_params}
 use Rattle.cfa_parser.proofs.ValueRuns.{Behind, taken, word_behind, value_run}
 
 -- a token other than an open parenthesis ends a whole value
@@ -26,9 +27,6 @@ ended_by_comma limit x p word_behind = refl
 ended_by_semicolon : {v : ValueTree} {s : ValueState} (limit : Levels) (x : List ℕ) (p : Place) → Behind v None [] s → value_step limit s Semicolon x p ≡ Some (ended v)
 ended_by_semicolon limit x p taken = refl
 ended_by_semicolon limit x p word_behind = refl
-
-abbrev with_attributes : OpenPromise → List AttributeTree → OpenPromise
-with_attributes o attrs = record { promiser = o.promiser; place = o.place; promisee = o.promisee; attributes = o.attributes ++ attrs }
 
 abbrev section : List ℕ → Place → List PromiseTree → Option ExprTree → OpenSection
 section kind place promises g = record { kind = kind; place = place; promises = promises; guard = g }
@@ -133,9 +131,6 @@ module _ (limit : Levels) (blocks : PolicyTree) (h : Heading) where
       let r = value_run limit (λ w. machine blocks (in_body h attrs (in_body_value x p w))) (λ w next k y q e. ap (λ z. body_next blocks h (body_value_next attrs x p z k)) e) value [] (left_of-none limit) in
       r.2 ∙ (ap (λ z. run limit (body_next blocks h (body_value_next attrs x p z Semicolon)) us) (ended_by_semicolon limit y q r.1)
       ∙ (body_run others (attrs ++ a ∷ []) ∙ ap (λ z. run limit (Some (machine (blocks ++ closed_body h z ∷ []) between_blocks)) rest) (append_one attrs a more)))
-
-abbrev with_params : Heading → List NamedTree → Heading
-with_params h names = record { block = h.block; place = h.place; kind = h.kind; name = h.name; params = h.params ++ names }
 
 module _ (limit : Levels) (blocks : PolicyTree) where
   words_run : {ts rest : List Token} {names : List NamedTree} {x : List ℕ} {p : Place} → Words ts names (token OpenBrace x p ∷ rest) → (h : Heading) (state : State) →
