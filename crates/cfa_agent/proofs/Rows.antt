@@ -22,7 +22,7 @@ use Rattle.cfa_resolve.specs.FileActs.{file_acts, service_act, outcome_classes}
 use Rattle.cfa_resolve.specs.KeyTexts.{mode_text, key_text}
 use Rattle.cfa_resolve.specs.Instances.{made_instance}
 use Rattle.cfa_resolve.specs.Resolution.{resolution, made}
-use Rattle.cfa_resolve.specs.lemmas.Written.{promise, section, a_bundle, created}
+use Rattle.cfa_tree.specs.lemmas.Written.{promise, section, a_bundle, created}
 use Rattle.cfa_walk.specs.Views.{Setting, shared_names, shared_in}
 use Rattle.cfa_defines.specs.VarsPromises.{setting_choices, data_set}
 use Rattle.cfa_defines.specs.ClassPromises.{raises_of}

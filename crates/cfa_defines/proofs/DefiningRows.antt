@@ -1,10 +1,10 @@
 -- Worked rows of what vars and classes promises define.
 use Rattle.std.proofs.Common.{◌≡◌, ℕ, List, [], ◌∷◌, Some, None, codes, refl}
-use Rattle.std.specs.Prelude.{map, if◌then◌else◌}
+use Rattle.std.specs.Prelude.{if◌then◌else◌}
 use Rattle.std.specs.Str.{bytes_eq}
-use Rattle.cfa_base.specs.declared.places.Place.{Place}
 use Rattle.cfa_tree.specs.ClassTexts.{expression_of}
-use Rattle.cfa_tree.specs.Tree.{ValueTree, text, list, call, value_trees, PromiseTree}
+use Rattle.cfa_tree.specs.Tree.{ValueTree, call, value_trees, PromiseTree}
+use Rattle.cfa_tree.specs.lemmas.Written.{here, quoted, items}
 use Rattle.cfa_classes.specs.declared.levels.Status.{Status}
 use Rattle.cfa_classes.specs.declared.levels.Status.TheVariants.{No, Maybe, Yes}
 use Rattle.cfa_kinds.specs.declared.kinds.PromiseType.TheVariants as promises
@@ -34,15 +34,6 @@ scopes = record { own = own; own_name = codes "main"; shared = [] }
 -- the class a is set, b and c may be set or not
 abbrev status : List ℕ → Status
 status name = if bytes_eq name (codes "a") then Yes else (if bytes_eq name (codes "b") then Maybe else (if bytes_eq name (codes "c") then Maybe else No))
-
-abbrev here : Place
-here = record { file = 0; line = 4; col = 5 }
-
-abbrev quoted : List ℕ → ValueTree
-quoted content = text content here
-
-abbrev items : List (List ℕ) → ValueTree
-items contents = list (value_trees (map quoted contents)) here
 
 abbrev promise : (promiser name : List ℕ) → ValueTree → PromiseTree
 promise promiser name value =

@@ -1,7 +1,7 @@
 -- Worked rows of functions.
 use Rattle.std.proofs.Common.{◌≡◌, ℕ, List, [], ◌∷◌, ◌++◌, true, false, Some, None, codes, refl}
-use Rattle.cfa_base.specs.declared.places.Place.{Place}
-use Rattle.cfa_tree.specs.Tree.{ValueTree, text, word, reference, list_reference, list, call, value_trees}
+use Rattle.cfa_tree.specs.Tree.{ValueTree, word, reference, list_reference, list, call, value_trees}
+use Rattle.cfa_tree.specs.lemmas.Written.{here, quoted}
 use Rattle.cfa_vars.specs.declared.scoping.Datum.TheVariants.{Text as text_of, List as list_of}
 use Rattle.cfa_vars.specs.References.{reference_at, pieces, list_reference_of}
 use Rattle.cfa_vars.specs.Scopes.{Table, InScope, look, key_of}
@@ -27,12 +27,6 @@ own = (codes "x", text_of (codes "v")) ∷ (codes "l", list_of (codes "p" ∷ co
 
 abbrev main : InScope
 main = record { own = own; own_name = codes "main"; shared = (codes "b", (codes "m", list_of (codes "r" ∷ [])) ∷ []) ∷ [] }
-
-abbrev here : Place
-here = record { file = 0; line = 1; col = 1 }
-
-abbrev quoted : List ℕ → ValueTree
-quoted content = text content here
 
 abbrev answers : List ℕ → List ValueTree → Answer → Type 0
 answers name arguments answer = answer_of main [] name (value_trees arguments) ≡ answer

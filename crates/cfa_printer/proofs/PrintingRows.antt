@@ -1,25 +1,16 @@
 -- Worked rows: trees with their canonical text.
 use Rattle.std.proofs.Common.{◌≡◌, ℕ, List, [], ◌∷◌, refl, None, Some}
 use Rattle.std.specs.Prelude.{Option, codes, true, false}
-use Rattle.cfa_base.specs.declared.places.Place.{Place}
 use Rattle.cfa_base.specs.Lexing.{content_of}
-use Rattle.cfa_tree.specs.Tree.{ExprTree, class, negated, all_of, one_of, expr_trees, ValueTree, text, word, reference, list_reference, list, call, value_trees, AttributeTree, PromiseTree, NamedTree, bundle, body}
+use Rattle.cfa_tree.specs.Tree.{ExprTree, class, negated, all_of, one_of, expr_trees, text, word, reference, list_reference, list, call, value_trees, AttributeTree, PromiseTree, bundle, body}
 use Rattle.cfa_tree.specs.lemmas.PolicyA.{tree_a}
+use Rattle.cfa_tree.specs.lemmas.Written.{here, named, says}
 use Rattle.cfa_printer.specs.declared.expressions.Around.TheVariants.{Nothing}
 use Rattle.cfa_printer.specs.SameExpr.{same_expr}
 use Rattle.cfa_printer.specs.Printing.{quoted, printed, printed_expr, printed_value, printed_promises}
 
-abbrev at : Place
-at = record { file = 0; line = 1; col = 1 }
-
-abbrev named : List ℕ → NamedTree
-named name = record { name = name; place = at }
-
-abbrev attribute : List ℕ → ValueTree → AttributeTree
-attribute name value = record { name = name; value = value; place = at }
-
 abbrev promise : Option ExprTree → List ℕ → List AttributeTree → PromiseTree
-promise guard promiser attributes = record { guard = guard; promiser = promiser; promisee = None; attributes = attributes; place = at }
+promise guard promiser attributes = record { guard = guard; promiser = promiser; promisee = None; attributes = attributes; place = here }
 
 a_file_that_is_created : printed tree_a ≡ codes "bundle agent main\n{\n  files:\n    \"/etc/motd\" create => \"true\";\n}\n"
 a_file_that_is_created = refl
@@ -28,13 +19,13 @@ no_block : printed [] ≡ []
 no_block = refl
 
 -- a guard with no promise behind it stands in no tree, so it isn't printed
-a_section_without_promises : printed (bundle (named (codes "agent")) (named (codes "main")) [] (record { kind = codes "files"; promises = []; place = at } ∷ []) at ∷ [])
+a_section_without_promises : printed (bundle (named (codes "agent")) (named (codes "main")) [] (record { kind = codes "files"; promises = []; place = here } ∷ []) here ∷ [])
     ≡ codes "bundle agent main\n{\n  files:\n}\n"
 a_section_without_promises = refl
 
 two_blocks : printed
-    (bundle (named (codes "agent")) (named (codes "main")) [] [] at
-    ∷ body (named (codes "perms")) (named (codes "m")) (named (codes "x") ∷ named (codes "y") ∷ []) (attribute (codes "mode") (text (codes "$(x)") at) ∷ []) at ∷ [])
+    (bundle (named (codes "agent")) (named (codes "main")) [] [] here
+    ∷ body (named (codes "perms")) (named (codes "m")) (named (codes "x") ∷ named (codes "y") ∷ []) (says (codes "mode") (text (codes "$(x)") here) ∷ []) here ∷ [])
     ≡ codes "bundle agent main\n{\n}\nbody perms m(x, y)\n{\n  mode => \"$(x)\";\n}\n"
 two_blocks = refl
 
@@ -48,21 +39,21 @@ a_promise_with_all : printed_promises None
     (record {
       guard = None;
       promiser = codes "/f";
-      promisee = Some (word (codes "ops") at);
-      place = at;
-      attributes = attribute (codes "create") (text (codes "true") at) ∷ attribute (codes "perms") (call (codes "m") (value_trees (text (codes "644") at ∷ [])) at) ∷ [];
+      promisee = Some (word (codes "ops") here);
+      place = here;
+      attributes = says (codes "create") (text (codes "true") here) ∷ says (codes "perms") (call (codes "m") (value_trees (text (codes "644") here ∷ [])) here) ∷ [];
     } ∷ [])
     ≡ codes "    \"/f\" -> ops create => \"true\", perms => m(\"644\");\n"
 a_promise_with_all = refl
 
-lists : printed_value (list (value_trees (text (codes "a") at ∷ list_reference (codes "l") at ∷ reference (codes "b.c") at ∷ call (codes "f") (value_trees []) at ∷ [])) at)
+lists : printed_value (list (value_trees (text (codes "a") here ∷ list_reference (codes "l") here ∷ reference (codes "b.c") here ∷ call (codes "f") (value_trees []) here ∷ [])) here)
     ≡ codes "{ \"a\", @(l), $(b.c), f() }"
 lists = refl
 
-no_item : printed_value (list (value_trees []) at) ≡ codes "{ }"
+no_item : printed_value (list (value_trees []) here) ≡ codes "{ }"
 no_item = refl
 
-two_arguments : printed_value (call (codes "f") (value_trees (word (codes "a") at ∷ list (value_trees []) at ∷ [])) at) ≡ codes "f(a, { })"
+two_arguments : printed_value (call (codes "f") (value_trees (word (codes "a") here ∷ list (value_trees []) here ∷ [])) here) ≡ codes "f(a, { })"
 two_arguments = refl
 
 -- `"`, `'` and a backslash

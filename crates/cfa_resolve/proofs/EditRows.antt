@@ -35,7 +35,7 @@ use Rattle.cfa_resolve.specs.FileActs.{file_acts, outcome_classes}
 use Rattle.cfa_resolve.specs.KeyTexts.{mode_text, key_text}
 use Rattle.cfa_resolve.specs.Instances.{Reached, made_instance, handed_instance}
 use Rattle.cfa_resolve.specs.Resolution.{resolution, made, instance_in}
-use Rattle.cfa_resolve.specs.lemmas.Written.{here, named, quoted, says, items, section, promise as promised, a_body}
+use Rattle.cfa_tree.specs.lemmas.Written.{here, named, quoted, says, items, section, promise as promised, a_body}
 use Rattle.cfa_resolve.specs.declared.instances.Instance.{Instance}
 use Rattle.cfa_scripts.specs.declared.scripting.Scripted.{Scripted}
 use Rattle.cfa_scripts.specs.declared.scripting.Scripted.TheVariants.{TooMany as script_many, BadPattern as bad_pattern, BadValue as bad_value}

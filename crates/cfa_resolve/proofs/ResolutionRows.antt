@@ -15,7 +15,7 @@ use Rattle.cfa_resolve.specs.declared.instances.Work.{Work}
 use Rattle.cfa_resolve.specs.declared.instances.Work.TheVariants.{Acts, Report}
 use Rattle.cfa_resolve.specs.Instances.{Reached}
 use Rattle.cfa_resolve.specs.Resolution.{resolution}
-use Rattle.cfa_resolve.specs.lemmas.Written.{here, named, quoted, says}
+use Rattle.cfa_tree.specs.lemmas.Written.{here, named, quoted, says}
 use Rattle.std.specs.Fmt.{digits}
 use Rattle.cfa_base.specs.Escapes.{escaped, escape_of}
 use Rattle.cfa_kinds.specs.Kinds.{files_attribute, outcome_attribute, methods_attribute, services_attribute, delete_attribute, copy_from_attribute, perms_attribute, classes_body_attribute, action_attribute}

@@ -6,3 +6,4 @@ pub mod Levels
 pub mod Lists
 pub mod PolicyA
 pub mod Rows
+pub mod Written

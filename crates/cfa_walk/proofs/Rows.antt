@@ -27,7 +27,7 @@ use Rattle.cfa_resolve.specs.FileActs.{file_acts, service_act, outcome_classes}
 use Rattle.cfa_resolve.specs.KeyTexts.{mode_text, key_text}
 use Rattle.cfa_resolve.specs.Instances.{made_instance}
 use Rattle.cfa_resolve.specs.Resolution.{resolution, made}
-use Rattle.cfa_resolve.specs.lemmas.Written.{here, quoted, says, items, under, promise, section, a_bundle, a_body, created}
+use Rattle.cfa_tree.specs.lemmas.Written.{here, quoted, says, items, under, promise, section, a_bundle, a_body, created}
 use Rattle.cfa_outcomes.specs.declared.outcomes.Outcome.{Outcome}
 use Rattle.cfa_outcomes.specs.declared.outcomes.Outcome.TheVariants.{Kept, Repaired}
 use Rattle.cfa_walk.specs.History.{History, Begun, Set, Raised, Reached, Listed, Told, visits_in}
