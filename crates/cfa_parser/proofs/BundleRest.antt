@@ -12,7 +12,7 @@ use Rattle.cfa_tree.specs.Guards.{GuardState, guard_start, GuardProgress, goes_o
 use Rattle.cfa_parser.specs.Values.{ValueState, value_start, ValueProgress, goes_on as value_goes_on, ended as value_ended, value_step}
 use Rattle.cfa_parser.specs.Machine.{OpenSection, OpenPromise, SectionState, between_promises, has_word, in_guard, has_promiser, in_promisee, wants_attribute, has_name, in_value, BundleState, no_section as no_section_yet, has_section_word, in_section, BodyState, between_attributes, has_body_name, in_body_value, Section, guard_next, with_guard, new_section, new_promise, with_attribute, with_promise, closed_section, guard_word, section_step, within, promisee_next, attribute_next, promiser_next, value_next, BundleProgress, goes_on, ended, in_section_step, bundle_step, BodyProgress, body_goes_on, body_ended, body_value_next, body_step}
 use Rattle.cfa_tree.specs.lemmas.Lists.{append_one}
-use Rattle.cfa_tree.specs.lemmas.GuardRest.{GuardRest, GuardEarlier, guard_earlier, guard_alive, guard_starts}
+use Rattle.cfa_tree.specs.lemmas.GuardRest.{GuardRest, GuardEarlier, guard_earlier, guard_alive, guard_starts, somewhere}
 use Rattle.cfa_parser.proofs.Openings.{with_attributes}
 use Rattle.cfa_parser.proofs.ValueRest.{ValueRest, ValueEarlier, value_earlier, value_alive, value_starts}
 
@@ -259,9 +259,6 @@ bundle_earlier limit ss (has_section_word y q) _ x p = tt
 bundle_earlier limit ss (in_section s state) k x p = in_section_earlier limit ss s state k x p
 
 -- from each state some tokens lead to the end of the bundle
-abbrev somewhere : Place
-somewhere = record { file = 0; line = 1; col = 1 }
-
 section_alive : (limit : Levels) (ss : List SectionTree) (s : OpenSection) (state : SectionState) (rest : List Token) → (us : List Token) × (all : List SectionTree) × BundleRest limit ss (in_section s state) us all rest
 section_alive limit ss s between_promises rest = (rest, ss ++ closed_section s ∷ [], before_promises (section_done limit ss s rest))
 section_alive limit ss s (has_word x p) rest =

@@ -10,6 +10,7 @@ use Rattle.cfa_base.specs.Tokens.{Token}
 use Rattle.cfa_tree.specs.Tree.{AttributeTree, SectionTree, NamedTree, PolicyTree}
 use Rattle.cfa_tree.specs.Grammar.{token, Levels, Sections, no_section, Words, last_word, next_word, Params, no_params, empty_params, some_params, BodyAttributes, no_more, Policy, no_block, a_bundle, a_body, ReadsWithin}
 use Rattle.cfa_parser.specs.Machine.{BundleState, BodyState, no_section as no_section_yet, between_attributes, BlockWord, bundle_word, body_word, Heading, State, between_blocks, has_block_word, has_kind, has_block_name, wants_first_param, has_param, wants_param, has_params, in_bundle, in_body, Machine, start, BundleProgress, goes_on, ended, bundle_step, BodyProgress, body_goes_on, body_ended, body_step, block_word, block_begun, named, with_param, new_heading, block_opened, closed_bundle, closed_body, bundle_next, body_next, heading_step, within_blocks, state_step, step, run}
+use Rattle.cfa_tree.specs.lemmas.GuardRest.{somewhere}
 use Rattle.cfa_tree.specs.lemmas.Lists.{append_one}
 use Rattle.cfa_parser.proofs.Openings.{with_params}
 use Rattle.cfa_parser.proofs.BundleRest.{BundleRest, IsCloseBrace, close_brace, BundleEarlier, bundle_earlier, bundle_alive, bundle_starts, BodyRest, BodyEarlier, body_earlier, body_alive, body_starts}
@@ -228,9 +229,6 @@ policy_of_rest (before_block r) = r
 -- what is left at a state that these tokens lead to makes them a policy
 pub rest_reads : (limit : Levels) (ts us : List Token) (m : Machine) (all : PolicyTree) → run limit (Some start) ts ≡ Some m → Rest limit m.blocks m.state us all → ReadsWithin limit (ts ++ us) all
 rest_reads limit ts us m all is r = policy_of_rest (led limit start m ts us all (run limit (Some start) ts) is (leads limit ts start us all) r)
-
-abbrev somewhere : Place
-somewhere = record { file = 0; line = 1; col = 1 }
 
 opened_alive : (limit : Levels) (blocks : PolicyTree) (w : BlockWord) (h : Heading) → (all : PolicyTree) × BlockRest limit blocks w h (token CloseBrace [] somewhere ∷ []) all
 opened_alive limit blocks bundle_word h = (blocks ++ closed_bundle h [] ∷ [], bundle_rest no_section no_block)

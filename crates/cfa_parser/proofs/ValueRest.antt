@@ -10,6 +10,7 @@ use Rattle.cfa_tree.specs.Tree.{ValueTree, text, word, reference, list_reference
 use Rattle.cfa_tree.specs.Grammar.{token, Levels, Value, a_list, an_item, Item, a_text, a_reference, a_list_reference, a_word, a_call, Args, no_args, some_args, MoreArgs, args_end, next_arg, no_items, some_items, MoreItems, items_end, comma_end, next_item}
 use Rattle.cfa_tree.specs.Room.{left_of, has_room, only_if}
 use Rattle.cfa_parser.specs.Values.{OpenList, OpenCall, ValueState, wants_value, has_word, has_paren, has_item, has_argument, has_value, ValueProgress, goes_on, ended, value_start, with_item, with_argument, value_taken, going_on, new_call, behind_step, value_step}
+use Rattle.cfa_tree.specs.lemmas.GuardRest.{somewhere}
 use Rattle.cfa_tree.specs.lemmas.Lists.{append_one}
 use Rattle.cfa_tree.specs.lemmas.Levels.{room_opens, left_of-none}
 
@@ -171,9 +172,6 @@ value_earlier limit (has_argument c calls) k x p = behind_earlier limit (has_arg
 value_earlier limit (has_value v) k x p = λ rest. whole
 
 -- from each state some tokens lead to the end of a value
-abbrev somewhere : Place
-somewhere = record { file = 0; line = 1; col = 1 }
-
 abbrev Alive : Levels → ValueTree → Option OpenList → List OpenCall → List Token → Type 0
 Alive limit v inside calls rest = (us : List Token) × (tree : ValueTree) × BehindRest limit v inside calls us tree rest
 

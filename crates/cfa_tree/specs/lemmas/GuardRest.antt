@@ -113,7 +113,7 @@ guard_earlier limit (has_atom cs es (l ∷ outer)) _ x p = tt
 guard_earlier limit (has_atom cs es []) _ x p = λ rest. whole_rest limit cs es rest
 
 -- from each state some tokens lead to the end of a guard
-abbrev somewhere : Place
+abbrev pub somewhere : Place
 somewhere = record { file = 0; line = 1; col = 1 }
 
 closes_alive : (limit : Levels) (g : ExprTree) (ms : List GuardLevel) (rest : List Token) → (us : List Token) × (tree : ExprTree) × Closes limit g ms us tree rest
