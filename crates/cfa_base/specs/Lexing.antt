@@ -23,6 +23,10 @@ is_word (b ∷ bs) = list_all is_word_byte (b ∷ bs)
 abbrev pub is_dot : ℕ → Bool
 is_dot b = b == 46
 
+-- a byte of a word, or the dot between two
+abbrev pub is_name_byte : ℕ → Bool
+is_name_byte b = is_word_byte b || is_dot b
+
 -- a word, or two words with a dot between them
 abbrev pub is_name : List ℕ → Bool
 is_name text = is_word text || (is_word (before_first is_dot text) && is_word (after_first is_dot text))

@@ -9,8 +9,8 @@ use Rattle.std.specs.Str.{IsUtf8, IsCharBoundary}
 use Rattle.std.proofs.lemmas.Str.{IsCharBoundary-before_ascii, IsCharBoundary-after_ascii}
 use Rattle.std.proofs.lemmas.Bool.{eqb-true, cases_lt, and_parts}
 use Rattle.std.proofs.lemmas.Bool.Decides.{nat_tests}
-use Rattle.cfa_base.specs.Lexing.{is_name}
-use Rattle.cfa_vars.specs.References.{is_name_byte, closing, name_before, reference_at, literal, reference, Piece, begun_by, pieces}
+use Rattle.cfa_base.specs.Lexing.{is_name, is_name_byte}
+use Rattle.cfa_vars.specs.References.{closing, name_before, reference_at, literal, reference, Piece, begun_by, pieces}
 
 -- a name with the bracket that closes it, at the front of a text
 record Closed (close : ℕ) (rest name : List ℕ) : Type 0 where

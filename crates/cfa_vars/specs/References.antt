@@ -2,11 +2,7 @@
 -- with a dot between them; a `$` that begins no reference is itself.
 use Rattle.std.specs.Prelude.{ℕ, ◌+◌, Bool, ◌&&◌, ◌||◌, ◌==◌, List, [], ◌∷◌, length, drop, slice_index, take_while, Option, Some, None, if◌then◌else◌}
 use Rattle.std.specs.List.{list_any, before_first, after_first, filter_map}
-use Rattle.cfa_base.specs.Lexing.{is_word_byte, is_dot, is_name}
-
--- a byte of a word, or the dot between two
-abbrev pub is_name_byte : ℕ → Bool
-is_name_byte b = is_word_byte b || is_dot b
+use Rattle.cfa_base.specs.Lexing.{is_dot, is_name_byte, is_name}
 
 -- whether a name is qualified, as `bundle.word` is
 abbrev pub is_qualified : List ℕ → Bool

@@ -9,7 +9,7 @@ use Rattle.std.proofs.lemmas.List.Sums.{split_at_first, passes_at_first}
 use Rattle.std.proofs.lemmas.List.Folds.{list_all-append}
 use Rattle.cfa_base.specs.declared.tokens.Kind.{Kind}
 use Rattle.cfa_base.specs.declared.tokens.Kind.TheVariants.{Word, Text, Ref, ListRef, FatArrow, ThinArrow, DoubleColon, Colon, Comma, Semicolon, OpenBrace, CloseBrace, OpenParen, CloseParen, Bang, Dot, And, Or}
-use Rattle.cfa_base.specs.Lexing.{is_word_byte, is_word, is_dot, is_nothing, is_quote, is_quoted, closes, is_name, name_of, is_reference, spells, Takes}
+use Rattle.cfa_base.specs.Lexing.{is_word_byte, is_word, is_dot, is_name_byte, is_nothing, is_quote, is_quoted, closes, is_name, name_of, is_reference, spells, Takes}
 use Rattle.cfa_base.specs.Scanned.{kind_from}
 use Rattle.cfa_base.specs.lemmas.Spelled.{spelled_at, quote_is}
 use Rattle.cfa_base.specs.lemmas.Scanning.{front_first}
@@ -207,9 +207,6 @@ takes_text (b ∷ bs) rest quoted =
     as_text tail spelled = subst (λ (k : Kind). IsTrue (spells k (b ∷ tail))) (quote_is b tail parts.0) spelled
 
 -- References.
-
-abbrev pub is_name_byte : ℕ → Bool
-is_name_byte b = is_word_byte b || is_dot b
 
 word_bytes : (text : List ℕ) → IsTrue (is_word text) → IsTrue (list_all is_name_byte text)
 word_bytes [] word = refl

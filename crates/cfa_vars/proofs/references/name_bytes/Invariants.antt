@@ -1,6 +1,6 @@
 use Rattle.std.proofs.Common.{◌≡◌, ◌+◌, drop}
 use Rattle.std.specs.List.{prefix_len}
-use Rattle.cfa_vars.specs.References.{is_name_byte}
+use Rattle.cfa_base.specs.Lexing.{is_name_byte}
 use Rattle.cfa_vars.proofs.references.name_bytes.Given as goal
 
 abbrev pub invariant-loop-place : goal.invariant-loop-place
