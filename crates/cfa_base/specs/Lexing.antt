@@ -31,6 +31,10 @@ is_name_byte b = is_word_byte b || is_dot b
 abbrev pub is_name : List ℕ → Bool
 is_name text = is_word text || (is_word (before_first is_dot text) && is_word (after_first is_dot text))
 
+-- the bracket that closes an opening one
+abbrev pub closing_of : ℕ → Option ℕ
+closing_of opening = if opening == 40 then Some 41 else (if opening == 123 then Some 125 else None)
+
 -- what stands between the brackets of a reference
 abbrev pub name_of : List ℕ → List ℕ
 name_of text = take (length text - 3) (drop 2 text)

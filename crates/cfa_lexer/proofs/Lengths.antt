@@ -5,9 +5,8 @@ use Rattle.std.proofs.lemmas.Bool.{both_ways, false_from_ne_true, eqb-true, eq-e
 use Rattle.std.proofs.lemmas.List.{append_assoc, append-nil, take_more, take-append-drop, length-append, length-take, take_at}
 use Rattle.std.specs.List.{list_all, position_or_len}
 use Rattle.std.proofs.lemmas.List.Sums.{passes_at_first}
-use Rattle.cfa_base.specs.Lexing.{closes, is_name, is_name_byte, name_of, is_reference}
+use Rattle.cfa_base.specs.Lexing.{closes, closing_of, is_name, is_name_byte, name_of, is_reference}
 use Rattle.cfa_base.specs.lemmas.Taking.{closes_within, Brackets, parentheses, braces, reference_of, reference_from, closing_is_no_name, name_bytes, all_weaker}
-use Rattle.cfa_lexer.specs.Fronts.{closing_of}
 
 -- Behind an opening quote.
 

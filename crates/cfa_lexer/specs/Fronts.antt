@@ -13,10 +13,6 @@ gap_len (b ∷ rest) = if is_separator b then 1 else (if is_hash b then length (
 abbrev pub IsPassingLen : (List ℕ → Bool) → List ℕ → Option ℕ → Type 0
 IsPassingLen test bytes len = MatchOption len ((n : ℕ) → test (take n bytes) ≡ false) (λ n. (n ≤ length bytes) × IsTrue (test (take n bytes)))
 
--- the bracket that closes an opening one
-abbrev pub closing_of : ℕ → Option ℕ
-closing_of opening = if opening == 40 then Some 41 else (if opening == 123 then Some 125 else None)
-
 -- the longest symbol that two bytes begin with, and how many bytes it has: `=>` is 61 62, `->` 45 62, `::` 58 58,
 -- `||` 124 124, `,` 44, `;` 59, `{` 123, `}` 125, `(` 40, `)` 41, `!` 33, `.` 46 and `&` 38
 abbrev pub symbol_of : (first second : ℕ) → Option (Kind × ℕ)

@@ -1,8 +1,8 @@
 // What stands at the front of some bytes.
 ghost use Rattle.std.specs.Prelude.{◌≡◌, ◌<◌, length, slice_index, false};
 ghost use Rattle.std.specs.List.{take_while};
-ghost use Rattle.cfa_base.specs.Lexing.{is_word_byte, is_reference, closes};
-ghost use Rattle.cfa_lexer.specs.Fronts.{gap_len, IsPassingLen, closing_of, symbol_of, TellsFront};
+ghost use Rattle.cfa_base.specs.Lexing.{is_word_byte, closing_of, is_reference, closes};
+ghost use Rattle.cfa_lexer.specs.Fronts.{gap_len, IsPassingLen, symbol_of, TellsFront};
 
 use crate::bytes::{is_quote, is_separator, len_before};
 use cfa_base::{Kind, is_name, is_word_byte, word_len};

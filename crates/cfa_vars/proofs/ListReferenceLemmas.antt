@@ -5,7 +5,8 @@ use Rattle.std.proofs.lemmas.Option.{cond_some, none-some, same_Some}
 use Rattle.std.specs.Str.{IsUtf8, IsCharBoundary}
 use Rattle.std.proofs.lemmas.Str.{IsCharBoundary-before_ascii, IsCharBoundary-after_ascii}
 use Rattle.std.proofs.lemmas.Bool.{eqb-true}
-use Rattle.cfa_vars.specs.References.{closing, name_before, reference_at, whole_name, list_reference_of}
+use Rattle.cfa_base.specs.Lexing.{closing_of}
+use Rattle.cfa_vars.specs.References.{name_before, reference_at, whole_name, list_reference_of}
 use Rattle.cfa_vars.proofs.ReferenceLemmas.{Stands, stands}
 
 pub record Wholly (text name : List ℕ) : Type 0 where
@@ -46,7 +47,7 @@ unfolding list_reference_of reference_at
 wholly [] name utf8 h = absurd (none-some name h)
 wholly (at ∷ []) name utf8 h = absurd (none-some name h)
 wholly (at ∷ o ∷ rest) name utf8 h =
-    let w = whole_of (length rest) (name_before (closing o) rest) name (at_cases (eqb at 64) _ name h) in
+    let w = whole_of (length rest) (name_before (closing_of o) rest) name (at_cases (eqb at 64) _ name h) in
     wholly_by at o rest name utf8 w.1 (stands (36 ∷ o ∷ rest) name w.0)
 
 -- the same by the length of the name alone

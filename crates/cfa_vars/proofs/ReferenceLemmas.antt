@@ -9,8 +9,8 @@ use Rattle.std.specs.Str.{IsUtf8, IsCharBoundary}
 use Rattle.std.proofs.lemmas.Str.{IsCharBoundary-before_ascii, IsCharBoundary-after_ascii}
 use Rattle.std.proofs.lemmas.Bool.{eqb-true, cases_lt, and_parts}
 use Rattle.std.proofs.lemmas.Bool.Decides.{nat_tests}
-use Rattle.cfa_base.specs.Lexing.{is_name, is_name_byte}
-use Rattle.cfa_vars.specs.References.{closing, name_before, reference_at, literal, reference, Piece, begun_by, pieces}
+use Rattle.cfa_base.specs.Lexing.{is_name, is_name_byte, closing_of}
+use Rattle.cfa_vars.specs.References.{name_before, reference_at, literal, reference, Piece, begun_by, pieces}
 
 -- a name with the bracket that closes it, at the front of a text
 record Closed (close : ℕ) (rest name : List ℕ) : Type 0 where
@@ -71,7 +71,7 @@ closing_cases dollar o rest name d true t es et h = stands_after dollar o 41 res
 closing_cases dollar o rest name d false true es et h = stands_after dollar o 125 rest name d (inr (eqb-true o 123 et)) (inr refl) (closed_name 125 rest (omega arith) name h)
 closing_cases dollar o rest name d false false es et h = absurd (none-some name h)
 
-dollar_cases : (dollar open_bracket : ℕ) (rest name : List ℕ) (t : Bool) → eqb dollar 36 ≡ t → cond t (name_before (closing open_bracket) rest) None ≡ Some name → Stands (dollar ∷ open_bracket ∷ rest) name
+dollar_cases : (dollar open_bracket : ℕ) (rest name : List ℕ) (t : Bool) → eqb dollar 36 ≡ t → cond t (name_before (closing_of open_bracket) rest) None ≡ Some name → Stands (dollar ∷ open_bracket ∷ rest) name
 dollar_cases dollar o rest name true e h = closing_cases dollar o rest name (eqb-true dollar 36 e) (eqb o 40) (eqb o 123) refl refl h
 dollar_cases dollar o rest name false e h = absurd (none-some name h)
 

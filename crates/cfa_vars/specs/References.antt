@@ -1,8 +1,8 @@
 -- A text is literal bytes and references. A reference is `$(name)` or `${name}`, where a name is a word, or two words
 -- with a dot between them; a `$` that begins no reference is itself.
-use Rattle.std.specs.Prelude.{ℕ, ◌+◌, Bool, ◌&&◌, ◌||◌, ◌==◌, List, [], ◌∷◌, length, drop, slice_index, take_while, Option, Some, None, if◌then◌else◌}
+use Rattle.std.specs.Prelude.{ℕ, ◌+◌, Bool, ◌&&◌, ◌==◌, List, [], ◌∷◌, length, drop, slice_index, take_while, Option, Some, None, if◌then◌else◌}
 use Rattle.std.specs.List.{list_any, before_first, after_first, filter_map}
-use Rattle.cfa_base.specs.Lexing.{is_dot, is_name_byte, is_name}
+use Rattle.cfa_base.specs.Lexing.{is_dot, is_name_byte, is_name, closing_of}
 
 -- whether a name is qualified, as `bundle.word` is
 abbrev pub is_qualified : List ℕ → Bool
@@ -13,10 +13,6 @@ bundle_part name = before_first is_dot name
 
 abbrev pub word_part : List ℕ → List ℕ
 word_part name = after_first is_dot name
-
--- the bracket that closes a reference which this one opens
-abbrev pub closing : ℕ → Option ℕ
-closing b = if b == 40 then Some 41 else (if b == 123 then Some 125 else None)
 
 -- the name between an open bracket and the one that closes it
 abbrev pub name_before : Option ℕ → List ℕ → Option (List ℕ)
@@ -29,7 +25,7 @@ name_before (Some close) rest =
 unfoldable pub reference_at : List ℕ → Option (List ℕ)
 reference_at [] = None
 reference_at (dollar ∷ []) = None
-reference_at (dollar ∷ open_bracket ∷ rest) = if dollar == 36 then name_before (closing open_bracket) rest else None
+reference_at (dollar ∷ open_bracket ∷ rest) = if dollar == 36 then name_before (closing_of open_bracket) rest else None
 
 pub data Piece : Type 0 where
   literal : ℕ → Piece
@@ -62,4 +58,4 @@ unfoldable pub list_reference_of : List ℕ → Option (List ℕ)
 list_reference_of [] = None
 list_reference_of (at ∷ []) = None
 list_reference_of (at ∷ open_bracket ∷ rest) =
-    if at == 64 then whole_name (length rest) (name_before (closing open_bracket) rest) else None
+    if at == 64 then whole_name (length rest) (name_before (closing_of open_bracket) rest) else None

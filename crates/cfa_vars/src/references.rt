@@ -2,8 +2,8 @@
 ghost use Rattle.std.specs.Prelude.{◌≡◌, ◌+◌, ◌<◌, ℕ, true, false, [], ◌∷◌, ◌++◌, length, take, drop, map, Some, None, MatchOption, IfSome, IsTrue};
 ghost use Rattle.std.specs.List.{list_all, prefix_len, position_or_len};
 ghost use Rattle.std.specs.Option.{option_map, option_copied};
-ghost use Rattle.cfa_base.specs.Lexing.{is_name, is_name_byte};
-ghost use Rattle.cfa_vars.specs.References.{is_qualified, bundle_part, word_part, closing, name_before, reference_at, literal, reference, pieces, list_reference_of};
+ghost use Rattle.cfa_base.specs.Lexing.{is_name, is_name_byte, closing_of};
+ghost use Rattle.cfa_vars.specs.References.{is_qualified, bundle_part, word_part, name_before, reference_at, literal, reference, pieces, list_reference_of};
 
 use cfa_base::{is_name, is_word_byte};
 
@@ -37,7 +37,7 @@ fn name_bytes(text: &[u8]) -> usize
 
 /// The bracket that closes a reference which this one opens: `)` for `(` and `}` for `{`.
 pub fn closing(bracket: u8) -> Option<u8>
-    ensures { result ≡ closing bracket }
+    ensures { result ≡ closing_of bracket }
 {
     match bracket {
         b'(' => Some(b')'),
