@@ -11,6 +11,7 @@ pub mod Decimals
 pub mod Escapes
 pub mod Index
 pub mod IndexTables
+pub mod Joined
 pub mod Order
 pub mod TextMaps
 pub mod lemmas

@@ -10,9 +10,10 @@ use Rattle.std.proofs.lemmas.Bool.{cases_lt, and_parts}
 use Rattle.std.proofs.lemmas.Bool.Decides.{nat_tests}
 use borrow.Author.Tests.{ltb-true}
 use Rattle.std.proofs.lemmas.List.{append_assoc, append-nil, take_more, flat_map_more}
+use Rattle.cfa_base.specs.Joined.{joined}
 use Rattle.cfa_base.specs.Decimals.{is_decimal}
 use Rattle.cfa_kinds.specs.lemmas.Digits.{numerals}
-use Rattle.cfa_functions.specs.Functions.{item_at, joined}
+use Rattle.cfa_functions.specs.Functions.{item_at}
 
 -- the first item stands without glue
 pub joined_first : (glue : List ℕ) (items : List (List ℕ)) (item : List ℕ) → 0 < length items → item ≡ get_or items 0 item → [] ++ item ≡ joined glue (take (0 + 1) items)

@@ -2,10 +2,10 @@
 -- unresolved. A text of more than 65,536 bytes is too long: as an argument it isn't looked at, and makes the call too
 -- long, unless the call is unresolved without it; as what a text function makes it makes the call too long.
 use Rattle.std.specs.Prelude.{ℕ, Bool, nat_lt, nat_le, List, [], ◌∷◌, ◌++◌, length, map, slice_get, Option, Some, None, is_some, option_and_then, Result, Ok, Err, if◌then◌else◌}
-use Rattle.std.specs.List.{flat_map}
 use Rattle.std.specs.Fmt.{decimal}
 use Rattle.std.specs.Str.{bytes_eq}
 use Rattle.std.specs.Str.Parse.{digits_value}
+use Rattle.cfa_base.specs.Joined.{joined}
 use Rattle.cfa_base.specs.declared.limits.TheConstants.{MOST_TEXT_BYTES}
 use Rattle.cfa_base.specs.Decimals.{is_decimal}
 use Rattle.cfa_base.specs.Patterns.{is_pattern, matches_in, pattern_of}
@@ -103,11 +103,6 @@ canonical_byte b = if is_word_byte b then b else 95
 -- the text with an underscore for each byte that is no ASCII letter, digit or underscore
 abbrev pub canonified : List ℕ → List ℕ
 canonified text = map canonical_byte text
-
--- the items with the glue between them
-abbrev pub joined : List ℕ → List (List ℕ) → List ℕ
-joined glue [] = []
-joined glue (item ∷ items) = item ++ flat_map (λ next. glue ++ next) items
 
 -- a text behind what was joined so far
 abbrev pub followed_by : Result (List ℕ) Lack → Result (List ℕ) Lack → Result (List ℕ) Lack

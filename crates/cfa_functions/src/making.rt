@@ -1,7 +1,8 @@
 // What functions make of their arguments.
 ghost use Rattle.std.specs.Prelude.{◌≡◌, ◌<◌, ◌==◌, [], if◌then◌else◌, IfOk, map, length, option_copied, slice_get};
 ghost use Rattle.std.specs.Fmt.{decimal};
-ghost use Rattle.cfa_functions.specs.Functions.{canonical_byte, canonified, joined, item_at, text_made};
+ghost use Rattle.cfa_base.specs.Joined.{joined};
+ghost use Rattle.cfa_functions.specs.Functions.{canonical_byte, canonified, item_at, text_made};
 ghost use Rattle.cfa_functions.specs.Given.{argument_of};
 ghost use Rattle.cfa_kinds.specs.declared.functions.TextFunction.TheVariants.{Nth, Concat};
 

@@ -3,6 +3,7 @@ use Rattle.std.proofs.Common.{◌≡◌, refl, sym, ◌∙◌, ap, ℕ, List, []
 use Rattle.std.specs.Prelude.{codes}
 use Rattle.std.specs.declared.alloc.Global.{Global}
 use Rattle.std.specs.declared.vec.Vec.{Vec}
+use Rattle.cfa_base.specs.Joined.{joined}
 use Rattle.cfa_tree.specs.declared.expressions.Expr.{Expr, And as AndOf, Or as OrOf}
 use Rattle.cfa_tree.specs.Plain.{plain_expr}
 use Rattle.cfa_tree.specs.Tree.{expr_trees}
@@ -10,7 +11,7 @@ use Rattle.cfa_tree.specs.lemmas.Rows.{plain_expr-And, plain_expr-Or}
 use Rattle.cfa_printer.specs.declared.expressions.Around.{Around}
 use Rattle.cfa_printer.specs.declared.expressions.Around.TheVariants.{Or, And}
 use Rattle.cfa_printer.proofs.Loops.{regrouped}
-use Rattle.cfa_printer.specs.Printing.{joined, all_of_in, one_of_in, printed_expr, printed_exprs}
+use Rattle.cfa_printer.specs.Printing.{all_of_in, one_of_in, printed_expr, printed_exprs}
 
 part_texts : (around : Around) (es : List Expr) → printed_exprs around (expr_trees (map plain_expr es)) ≡ map (λ e. printed_expr around (plain_expr e)) es
 part_texts around [] = refl

@@ -4,6 +4,7 @@ use Rattle.std.specs.Prelude.{IsTrue, not, codes, ◌==◌}
 use Rattle.std.specs.List.{flat_map, list_all}
 use Rattle.std.proofs.lemmas.Bool.{false≢true, and_parts, eqb-true}
 use Rattle.std.proofs.lemmas.List.{append_assoc}
+use Rattle.cfa_base.specs.Joined.{joined}
 use Rattle.cfa_base.specs.declared.places.Place.{Place}
 use Rattle.cfa_base.specs.Tokens.{Token}
 use Rattle.cfa_base.specs.Lexing.{is_word_byte, is_word, place_after}
@@ -14,7 +15,7 @@ use Rattle.cfa_tree.specs.Grammar.Guard.{guard}
 use Rattle.cfa_tree.specs.Tree.{ExprTree, class, negated, all_of, one_of, ExprTrees, no_expr, more_exprs, expr_trees}
 use Rattle.cfa_printer.specs.declared.expressions.Around.{Around}
 use Rattle.cfa_printer.specs.declared.expressions.Around.TheVariants.{Nothing, Or, And}
-use Rattle.cfa_printer.specs.Printing.{joined, in_parentheses, printed_expr, printed_exprs}
+use Rattle.cfa_printer.specs.Printing.{in_parentheses, printed_expr, printed_exprs}
 use Rattle.cfa_printer.proofs.Readable.{Several, ReadableExpr, EachExpr}
 use Rattle.cfa_printer.proofs.Standing.{Stands, nothing, one_token, alone, begun, goes_on, ended, read_as, at_bytes, ends_word, more_end}
 

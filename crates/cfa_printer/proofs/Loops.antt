@@ -4,7 +4,7 @@ use Rattle.std.specs.Prelude.{if◌then◌else◌}
 use Rattle.std.specs.List.{flat_map}
 use Rattle.std.proofs.lemmas.Bool.{eqb-true}
 use Rattle.std.proofs.lemmas.List.{append-nil, append_assoc, drop_all}
-use Rattle.cfa_printer.specs.Printing.{joined}
+use Rattle.cfa_base.specs.Joined.{joined}
 
 -- the texts from an index on, where each but the first of all stands behind the separator
 abbrev pub left : (index : ℕ) (separator : List ℕ) → List (List ℕ) → List ℕ

@@ -5,13 +5,14 @@ use Rattle.std.specs.declared.alloc.Global.{Global}
 use Rattle.std.specs.declared.vec.Vec.{Vec}
 use Rattle.std.proofs.lemmas.Bool.{false≢true, eqb-true}
 use Rattle.std.proofs.lemmas.List.{append-nil, append_assoc, nil_from_length}
+use Rattle.cfa_base.specs.Joined.{joined}
 use Rattle.cfa_base.specs.declared.places.Place.{Place}
 use Rattle.cfa_tree.specs.declared.attributes.Attribute.{Attribute}
 use Rattle.cfa_tree.specs.declared.values.Value.{Value, List as Listed, Call as Called}
 use Rattle.cfa_tree.specs.Plain.{plain_value, plain_attribute}
 use Rattle.cfa_tree.specs.Tree.{value_trees}
 use Rattle.cfa_tree.specs.lemmas.Rows.{plain_value-List, plain_value-Call}
-use Rattle.cfa_printer.specs.Printing.{joined, in_parentheses, listed, printed_value, printed_values, printed_attribute, printed_attributes}
+use Rattle.cfa_printer.specs.Printing.{in_parentheses, listed, printed_value, printed_values, printed_attribute, printed_attributes}
 use Rattle.cfa_printer.proofs.Loops.{regrouped, map-map}
 
 item_texts : (vs : List Value) → printed_values (value_trees (map plain_value vs)) ≡ map (λ v. printed_value (plain_value v)) vs

@@ -3,6 +3,7 @@ use Rattle.std.proofs.Common.{◌≡◌, refl, ◌∙◌, ap, ℕ, List, [], ◌
 use Rattle.std.specs.Prelude.{IsTrue, codes}
 use Rattle.std.specs.List.{flat_map}
 use Rattle.std.proofs.lemmas.List.{append_assoc}
+use Rattle.cfa_base.specs.Joined.{joined}
 use Rattle.cfa_base.specs.declared.places.Place.{Place}
 use Rattle.cfa_base.specs.declared.tokens.Kind.TheVariants.{OpenParen, OpenBrace}
 use Rattle.cfa_base.specs.Tokens.{Token}
@@ -11,7 +12,7 @@ use Rattle.cfa_base.specs.lemmas.Taking.{takes_word, takes_text, takes_ref, take
 use Rattle.cfa_tree.specs.Grammar.{token, Levels, Opens, Value, Item, Args, MoreArgs, MoreItems, a_list, an_item, a_text, a_reference, a_list_reference, a_word, a_call, no_args, some_args, args_end, next_arg, no_items, some_items, items_end, next_item}
 use Rattle.cfa_tree.specs.Tree.{ValueTree, text, word, reference, list_reference, list, call, ValueTrees, no_value, more_values, value_trees}
 use Rattle.cfa_tree.specs.Unplaced.{no_place, unplaced_value, unplaced_values}
-use Rattle.cfa_printer.specs.Printing.{joined, quoted, in_parentheses, printed_value, printed_values}
+use Rattle.cfa_printer.specs.Printing.{quoted, in_parentheses, printed_value, printed_values}
 use Rattle.cfa_printer.proofs.Quoted.{quoted_is_quoted, content_of_quoted}
 use Rattle.cfa_printer.proofs.Readable.{IsItem, ReadableValue, EachItem, EachValue}
 use Rattle.cfa_printer.proofs.Standing.{Again, alone, begun, goes_on, a_space, read_as, at_bytes, ends_word, more_end}

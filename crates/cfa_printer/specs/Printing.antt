@@ -2,15 +2,11 @@
 -- it. Every line of it ends with a newline.
 use Rattle.std.specs.Prelude.{ℕ, ◌||◌, ◌==◌, if◌then◌else◌, List, [], ◌∷◌, ◌++◌, map, Option, Some, None, codes}
 use Rattle.std.specs.List.{flat_map}
+use Rattle.cfa_base.specs.Joined.{joined}
 use Rattle.cfa_tree.specs.Tree.{ExprTree, class, negated, all_of, one_of, ExprTrees, no_expr, more_exprs, ValueTree, text, word, reference, list_reference, list, call, ValueTrees, no_value, more_values, AttributeTree, PromiseTree, SectionTree, NamedTree, BlockTree, bundle, body, PolicyTree}
 use Rattle.cfa_printer.specs.declared.expressions.Around.{Around}
 use Rattle.cfa_printer.specs.declared.expressions.Around.TheVariants.{Nothing, Or, And}
 use Rattle.cfa_printer.specs.SameExpr.{same_guard}
-
--- the texts in order, with the separator between two of them
-abbrev pub joined : (separator : List ℕ) → List (List ℕ) → List ℕ
-joined separator [] = []
-joined separator (x ∷ xs) = x ++ flat_map (λ y. separator ++ y) xs
 
 abbrev pub in_parentheses : List ℕ → List ℕ
 in_parentheses inner = 40 ∷ inner ++ 41 ∷ []

@@ -1,9 +1,10 @@
 // Sections, blocks and policies.
 ghost use Rattle.std.specs.Prelude.{◌≡◌, ◌++◌, map, codes, IfOk, OnOk};
 ghost use Rattle.std.specs.List.{flat_map};
+ghost use Rattle.cfa_base.specs.Joined.{joined};
 ghost use Rattle.cfa_printer.specs.Appended.{Appends};
 ghost use Rattle.cfa_tree.specs.Plain.{plain_named, plain_section, plain_block, plain_policy};
-ghost use Rattle.cfa_printer.specs.Printing.{joined, printed_name, printed_params, head_of, printed_section, printed_block, printed};
+ghost use Rattle.cfa_printer.specs.Printing.{printed_name, printed_params, head_of, printed_section, printed_block, printed};
 
 use crate::attributes::push_body_attributes;
 use crate::promises::push_promises;

@@ -3,6 +3,7 @@ use Rattle.std.proofs.Common.{◌≡◌, ◌≤◌, ℕ, Bool, true, false, List
 use Rattle.std.specs.Prelude.{nat_le, Result, Ok, Err}
 use Rattle.std.proofs.lemmas.Bool.Decides.{nat_tests}
 use Rattle.std.specs.Fmt.{decimal}
+use Rattle.cfa_base.specs.Joined.{joined}
 use Rattle.cfa_tree.specs.Tree.{ValueTree, text, word, reference, list_reference, list, call}
 use Rattle.cfa_vars.specs.Scopes.{InScope}
 use Rattle.cfa_vars.specs.Expansion.{Chosen, filled, first_unresolved, done_or_too_long, told_of, expanded}
@@ -16,7 +17,7 @@ use Rattle.cfa_functions.specs.declared.answering.Lack.{Lack}
 use Rattle.cfa_functions.specs.declared.answering.Lack.TheVariants.{Missing, Hidden}
 use Rattle.cfa_functions.specs.declared.reading.ValueText.{ValueText}
 use Rattle.cfa_functions.specs.declared.reading.ValueText.TheVariants.{Text as whole_text, Unresolved as text_unresolved, TooLong as text_too_long}
-use Rattle.cfa_functions.specs.Functions.{Argument, applied, of_one, of_two, found_by, as_text, as_list, as_filled_list, as_number, canonified, concatenated, joined, item_at, text_answer, text_made}
+use Rattle.cfa_functions.specs.Functions.{Argument, applied, of_one, of_two, found_by, as_text, as_list, as_filled_list, as_number, canonified, concatenated, item_at, text_answer, text_made}
 use Rattle.cfa_functions.specs.Calls.{expanded_text, answered_text, nested, text_given, arguments_given}
 
 abbrev pub IsWithin : ValueText → Type 0

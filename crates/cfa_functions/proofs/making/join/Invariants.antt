@@ -1,6 +1,6 @@
 use Rattle.std.proofs.Common.{◌≡◌, take}
 use Rattle.std.specs.String.{string_bytes}
-use Rattle.cfa_functions.specs.Functions.{joined}
+use Rattle.cfa_base.specs.Joined.{joined}
 use Rattle.cfa_functions.proofs.making.join.Given as goal
 
 abbrev pub invariant-loop-place : goal.invariant-loop-place

@@ -1,8 +1,9 @@
 use Rattle.std.proofs.Common.{◌≡◌, ◌++◌, drop, map}
 use Rattle.std.specs.Prelude.{codes}
 use Rattle.std.specs.String.{string_bytes}
+use Rattle.cfa_base.specs.Joined.{joined}
 use Rattle.cfa_tree.specs.Plain.{plain_attribute}
-use Rattle.cfa_printer.specs.Printing.{joined, printed_attribute}
+use Rattle.cfa_printer.specs.Printing.{printed_attribute}
 use Rattle.cfa_printer.proofs.Loops.{left}
 use Rattle.cfa_printer.proofs.attributes.push_attributes.Given as goal
 

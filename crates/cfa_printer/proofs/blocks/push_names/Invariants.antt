@@ -1,8 +1,9 @@
 use Rattle.std.proofs.Common.{◌≡◌, ◌++◌, drop, map}
 use Rattle.std.specs.Prelude.{codes}
 use Rattle.std.specs.String.{string_bytes}
+use Rattle.cfa_base.specs.Joined.{joined}
 use Rattle.cfa_tree.specs.Plain.{plain_named}
-use Rattle.cfa_printer.specs.Printing.{joined, printed_name}
+use Rattle.cfa_printer.specs.Printing.{printed_name}
 use Rattle.cfa_printer.proofs.Loops.{left}
 use Rattle.cfa_printer.proofs.blocks.push_names.Given as goal
 

@@ -1,9 +1,10 @@
 use Rattle.std.proofs.Common.{◌≡◌, ◌++◌, drop, map}
 use Rattle.std.specs.Prelude.{codes}
 use Rattle.std.specs.String.{string_bytes}
+use Rattle.cfa_base.specs.Joined.{joined}
 use Rattle.cfa_tree.specs.Plain.{plain_expr}
 use Rattle.cfa_printer.specs.declared.expressions.Around.TheVariants.{Or, And}
-use Rattle.cfa_printer.specs.Printing.{joined, printed_expr}
+use Rattle.cfa_printer.specs.Printing.{printed_expr}
 use Rattle.cfa_printer.proofs.Loops.{left}
 use Rattle.cfa_printer.proofs.expressions.+push_expr.Given as goal
 
