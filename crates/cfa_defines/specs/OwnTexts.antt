@@ -141,3 +141,10 @@ combined_by scopes reads None false =
 
 unfoldable pub combined : InScope → List Read → Combined
 combined scopes reads = combined_by scopes reads (first_lacking scopes reads) (has_too_many scopes reads)
+
+-- the combinations that were found
+abbrev pub choices_found : Combined → List Chosen
+choices_found (lacks name) = []
+choices_found too_many = []
+choices_found (too_long combinations) = []
+choices_found (found choices) = choices

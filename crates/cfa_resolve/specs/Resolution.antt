@@ -19,7 +19,7 @@ use Rattle.cfa_resolve.specs.declared.instances.Instance.{Instance}
 use Rattle.cfa_resolve.specs.declared.instances.Resolved.{Resolved}
 use Rattle.cfa_defines.specs.declared.combining.Combined.{Combined}
 use Rattle.cfa_defines.specs.declared.combining.Combined.TheVariants.{Lacks as lacks, TooMany as too_many, TooLong as too_long, Found as found}
-use Rattle.cfa_defines.specs.OwnTexts.{combined, own_reads}
+use Rattle.cfa_defines.specs.OwnTexts.{choices_found, combined, own_reads}
 use Rattle.cfa_bodies.specs.declared.hearing.Heard.{Heard}
 use Rattle.cfa_bodies.specs.declared.hearing.Heard.TheVariants.{Lacks as lacks_body, TooMany as many_in_body, TooLong as long_in_body, All as all_heard}
 use Rattle.cfa_bodies.specs.Bodies.{Bodies, bodies_of, heard}
@@ -185,12 +185,6 @@ resolution_of policy id scopes statuses path =
     option_map (λ typed. resolution (reached_at policy id scopes statuses path typed)) (typed_promise_of policy id)
 
 -- ---- the patterns that it builds
-
-abbrev pub choices_found : Combined → List Chosen
-choices_found (lacks name) = []
-choices_found too_many = []
-choices_found (too_long combinations) = []
-choices_found (found choices) = choices
 
 abbrev pub IsBuiltByCall : Caller → Option ValueTree → (text : List ℕ) → Type 0
 IsBuiltByCall caller None text = ⊥

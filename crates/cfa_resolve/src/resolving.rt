@@ -6,9 +6,10 @@ ghost use Rattle.cfa_served.specs.Checked.{typed_promise_of};
 ghost use Rattle.cfa_schema.specs.Seen.{tree_of};
 ghost use Rattle.cfa_vars.specs.Scopes.{in_scope};
 ghost use Rattle.cfa_acts.specs.Acts.{IsOwn};
+ghost use Rattle.cfa_defines.specs.OwnTexts.{choices_found};
 ghost use Rattle.cfa_scripts.specs.EditPromises.{at_least_one};
 ghost use Rattle.cfa_resolve.specs.Instances.{bust_instance};
-ghost use Rattle.cfa_resolve.specs.Resolution.{resolved_among, resolved_as, resolution, is_acting, IsActing, resolution_of, choices_found, IsBuiltAmong, IsBuiltFor};
+ghost use Rattle.cfa_resolve.specs.Resolution.{resolved_among, resolved_as, resolution, is_acting, IsActing, resolution_of, IsBuiltAmong, IsBuiltFor};
 ghost use Rattle.cfa_resolve.specs.SeenReached.{seen_reached};
 ghost use Rattle.cfa_resolve.specs.Viewed.{reached_in, too_big_in, IsBuiltAt};
 

@@ -14,8 +14,7 @@ use Rattle.cfa_served.specs.Served.{bundle_of}
 use Rattle.cfa_vars.specs.Scopes.{InScope}
 use Rattle.cfa_vars.specs.Expansion.{Chosen, expanded}
 use Rattle.cfa_defines.specs.declared.combining.Combined.{Combined}
-use Rattle.cfa_defines.specs.declared.combining.Combined.TheVariants.{Lacks as lacks, TooMany as too_many, TooLong as too_long, Found as found}
-use Rattle.cfa_defines.specs.OwnTexts.{combined, own_reads}
+use Rattle.cfa_defines.specs.OwnTexts.{choices_found, combined, own_reads}
 use Rattle.cfa_defines.specs.VarsPromises.{setting_choices}
 use Rattle.cfa_defines.specs.Builds.{BuiltBy}
 use Rattle.cfa_bodies.specs.declared.sayings.Said.{Said}
@@ -60,12 +59,6 @@ module _ (policy : PolicyTree) (scopes : InScope) (type : PromiseType) (promise 
     pub choice : Chosen
     pub is_combination : Contains choices choice
     pub is_built : BuiltIn choice content
-
-  abbrev pub choices_found : Combined → List Chosen
-  choices_found (lacks name) = []
-  choices_found too_many = []
-  choices_found (too_long combinations) = []
-  choices_found (found choices) = choices
 
   abbrev pub BuiltFor : Combined → (text : List ℕ) → Type 0
   BuiltFor combined content = BuiltAmong (choices_found combined) content
