@@ -1,20 +1,15 @@
 -- One turn of a loop over the parts of an expression, for a function from classes to statuses.
-use Rattle.std.proofs.Common.{◌≡◌, ℕ, ◌+◌, ◌<◌, ◌≤◌, List, length, drop, get_or, map, sym, ap, add-one, drop-cons}
+use Rattle.std.proofs.Common.{◌≡◌, ℕ, ◌+◌, ◌<◌, ◌≤◌, List, length, drop, get_or, sym, ap, add-one, drop-cons}
 use Rattle.std.proofs.lemmas.List.{drop_all}
 use Rattle.std.specs.declared.alloc.Global.{Global}
 use Rattle.std.specs.declared.vec.Vec.{Vec}
 use Rattle.cfa_tree.specs.declared.expressions.Expr.{Expr, And, Or}
 use Rattle.cfa_tree.specs.Plain.{plain_expr}
-use Rattle.cfa_tree.specs.Tree.{ExprTrees, expr_trees}
-use Rattle.cfa_tree.specs.lemmas.Rows.{plain_expr-And, plain_expr-Or}
+use Rattle.cfa_tree.specs.lemmas.Rows.{plain_parts, plain_expr-And, plain_expr-Or}
 use Rattle.cfa_classes.specs.declared.levels.Status.{Status}
 use Rattle.cfa_classes.specs.declared.levels.Status.TheVariants.{No, Yes}
 use Rattle.cfa_classes.specs.Status.{lesser, greater, value_of, least_of, greatest_of}
 use Rattle.cfa_classes.specs.lemmas.Orders.{lesser_assoc, greater_assoc, lesser_Yes, greater_No}
-
--- the expressions of some parts
-abbrev pub plain_parts : List Expr → ExprTrees
-plain_parts parts = expr_trees (map plain_expr parts)
 
 module _ (status : List ℕ → Status) where
   pub least_begins : (e : Expr) (parts : Vec Expr Global) (items : List Expr) → e ≡ And parts → items ≡ parts.items → lesser Yes (least_of (plain_parts items) status) ≡ value_of (plain_expr e) status

@@ -1,5 +1,5 @@
 -- The test of two expressions with parts, from the tests of their parts.
-use Rattle.std.proofs.Common.{◌≡◌, refl, sym, ◌∙◌, ap, ℕ, suc, ◌+◌, ◌<◌, ◌≤◌, Bool, true, false, ◌&&◌, List, [], ◌∷◌, map, length, get_or, drop, add-one, drop-cons, arith}
+use Rattle.std.proofs.Common.{◌≡◌, refl, sym, ◌∙◌, ap, ℕ, suc, ◌+◌, ◌<◌, ◌≤◌, Bool, true, false, ◌&&◌, List, [], ◌∷◌, length, get_or, drop, add-one, drop-cons, arith}
 use Rattle.std.specs.declared.alloc.Global.{Global}
 use Rattle.std.specs.declared.vec.Vec.{Vec}
 use Rattle.std.proofs.lemmas.List.{drop_all}
@@ -7,12 +7,9 @@ use Rattle.cfa_tree.specs.declared.expressions.Expr.{Expr, Class, Not', And, And
 use Rattle.cfa_tree.specs.declared.expressions.Expr as declared
 use denote.Hole.Carrier
 use Rattle.cfa_tree.specs.Plain.{plain_expr}
-use Rattle.cfa_tree.specs.Tree.{ExprTrees, all_of, one_of, expr_trees}
-use Rattle.cfa_tree.specs.lemmas.Rows.{plain_expr-And, plain_expr-Or}
+use Rattle.cfa_tree.specs.Tree.{ExprTrees, all_of, one_of}
+use Rattle.cfa_tree.specs.lemmas.Rows.{plain_parts, plain_expr-And, plain_expr-Or}
 use Rattle.cfa_printer.specs.SameExpr.{same_expr, same_exprs}
-
-abbrev plain_parts : List Expr → ExprTrees
-plain_parts es = expr_trees (map plain_expr es)
 
 abbrev IsAndShape : Expr → Type 0
 IsAndShape (Class name) = ⊥

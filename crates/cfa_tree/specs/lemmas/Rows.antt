@@ -9,7 +9,11 @@ use Rattle.cfa_tree.specs.declared.expressions.Expr.TheBlock.{hidden-the_row-Exp
 use Rattle.cfa_tree.specs.declared.values.Value.{Value, List as Listed, Call as Called, Row_of-Value, end_of-Value, more_of-Value, items-the_row-Value, items_hidden-the_row-Value-0}
 use Rattle.cfa_tree.specs.declared.values.Value.TheBlock.{hidden-the_row-Value-0}
 use Rattle.cfa_tree.specs.Plain.{plain_expr, plain_exprs, plain_value, plain_values}
-use Rattle.cfa_tree.specs.Tree.{ValueTree, negated, all_of, one_of, more_exprs, expr_trees, list, call, more_values, value_trees, values_in}
+use Rattle.cfa_tree.specs.Tree.{ValueTree, negated, all_of, one_of, ExprTrees, more_exprs, expr_trees, list, call, more_values, value_trees, values_in}
+
+-- the expressions of some parts
+abbrev pub plain_parts : List Expr → ExprTrees
+plain_parts parts = expr_trees (map plain_expr parts)
 
 pub plain_exprs-row : {m : _} (row : Row_of-Expr m) → plain_exprs row ≡ expr_trees (map plain_expr (items-the_row-Expr m row))
 plain_exprs-row end_of-Expr = refl

@@ -1,8 +1,8 @@
 use Rattle.std.proofs.Common.{◌≡◌, drop}
 use Rattle.cfa_tree.specs.Plain.{plain_expr}
+use Rattle.cfa_tree.specs.lemmas.Rows.{plain_parts}
 use Rattle.cfa_classes.specs.Raised.{greater_in}
 use Rattle.cfa_classes.specs.Status.{lesser, greater, value_of, least_of, greatest_of}
-use Rattle.cfa_classes.proofs.Turns.{plain_parts}
 use Rattle.cfa_classes.proofs.valuing.+value.Given as goal
 
 abbrev pub invariant-loop-part : goal.invariant-loop-part
