@@ -1,6 +1,7 @@
 -- Command lines and what they ask for, computed from the definition.
 use Rattle.std.proofs.Common.{◌≡◌, ◌∷◌, [], Bool, Option, Some, None, true, false, refl, codes, List}
-use Rattle.cfa_words.specs.Words.{Text, asked}
+use Rattle.cfa_base.specs.Index.{Text}
+use Rattle.cfa_words.specs.Words.{asked}
 use Rattle.cfa_words.specs.declared.words.Request.{Request}
 use Rattle.cfa_words.specs.declared.words.Request.TheVariants.{Run, Check, Show, Audit}
 

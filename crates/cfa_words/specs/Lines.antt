@@ -2,7 +2,8 @@
 use Rattle.std.specs.Prelude.{List, [], ◌∷◌, Option, Some, None, option_map}
 use Rattle.std.specs.Borrow.{Bor}
 use Rattle.cfa_words.specs.declared.words.Line.{Line}
-use Rattle.cfa_words.specs.Words.{Given, Text}
+use Rattle.cfa_base.specs.Index.{Text}
+use Rattle.cfa_words.specs.Words.{Given}
 
 -- the text behind a reference
 abbrev pub text_in : Option (Bor Text) → Option Text

@@ -3,13 +3,11 @@
 use Rattle.std.specs.Prelude.{ℕ, Bool, true, false, not, ◌==◌, ◌||◌, List, [], ◌∷◌, ◌++◌, Option, Some, None, codes, if◌then◌else◌, is_some, option_and_then, option_map}
 use Rattle.std.specs.List.{list_all, list_any, before_first, after_first, slice_split}
 use Rattle.std.specs.Str.{bytes_eq}
+use Rattle.cfa_base.specs.Index.{Text}
 use Rattle.cfa_base.specs.Lexing.{is_word}
 use Rattle.cfa_words.specs.declared.words.Options.{Options}
 use Rattle.cfa_words.specs.declared.words.Request.{Request}
 use Rattle.cfa_words.specs.declared.words.Request.TheVariants.{Run, Check, Show, Audit}
-
-abbrev pub Text : Type 0
-Text = List ℕ
 
 -- ---- what a word gives
 

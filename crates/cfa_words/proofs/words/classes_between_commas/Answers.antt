@@ -2,7 +2,8 @@ use Rattle.std.proofs.Common.{◌≡◌, ◌∙◌, ◌+◌, ◌++◌, ◌∷◌
 use Rattle.std.specs.List.{list_all, slice_split}
 use Rattle.std.proofs.lemmas.List.{get_or-map, length-map, take_more}
 use Rattle.std.proofs.lemmas.List.Folds.{list_all-map, list_all_at, list_all_more}
-use Rattle.cfa_words.specs.Words.{Text, class_list, is_class}
+use Rattle.cfa_base.specs.Index.{Text}
+use Rattle.cfa_words.specs.Words.{class_list, is_class}
 use Rattle.cfa_words.proofs.words.classes_between_commas.Goals as goal
 
 abbrev text_of : Bor Text → Text

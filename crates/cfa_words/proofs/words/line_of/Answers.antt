@@ -1,13 +1,10 @@
-use Rattle.std.proofs.Common.{◌∙◌, ap, sym, refl, subst, map, List, Bor, inl, inr}
+use Rattle.std.proofs.Common.{◌∙◌, ap, sym, refl, subst, inl, inr}
 use Rattle.clap.specs.Words.{App, fault_of, found_of, is_simple, is_simple_and_free, kind_of, matches_of}
 use Rattle.clap.specs.Kinds.{IsAmong}
-use Rattle.cfa_words.specs.Words.{Text}
+use Rattle.cfa_base.specs.IndexTables.{texts_of}
 use Rattle.cfa_words.proofs.Reading.{is_plain_command}
 use Rattle.cfa_words.proofs.Lines.{refused, taken}
 use Rattle.cfa_words.proofs.words.line_of.Goals as goal
-
-abbrev texts_of : List (Bor Text) → List Text
-texts_of = map (λ t. t.now)
 
 pub returns-in-Ok : goal.returns-in-Ok
 returns-in-Ok c =
