@@ -13,5 +13,6 @@ pub mod Results
 pub mod Scanning
 pub mod Spelled
 pub mod Taking
+pub mod TextKeys
 pub mod TextMaps
 pub mod Truths

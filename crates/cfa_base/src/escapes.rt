@@ -59,7 +59,7 @@ pub fn escape_bytes(alloc: Global, text: &[u8]) -> Result<Name, memory::NoMemory
 {
     let mut field = String::new(alloc);
     percent_encode(text, ESCAPED).append_to(&mut field)?;
-    Ok(Name::from_string(field))
+    Ok(Name::from_string(field)?)
 }
 
 /// The text whose escaped field this is. Other spellings, as `%2F` for a slash or `%c3` in lower case, are the field of no
@@ -77,7 +77,7 @@ pub fn unescape_bytes(alloc: Global, field: &[u8]) -> Result<Name, FieldErr>
     ensures bad { result ≡ Err FieldErr.BadField → ¬ IsField field.now }
 {
     let text = match percent_decode(field).decode_utf8(alloc) {
-        Ok(text) => Name::from_string(text.into_owned(alloc)?),
+        Ok(text) => Name::from_string(text.into_owned(alloc)?)?,
         Err(DecodeError::Utf8(_)) => return Err(FieldErr::BadField),
         Err(DecodeError::OutOfMemory) => return Err(FieldErr::NoMemory),
     };

@@ -1,31 +1,32 @@
 // Maps from texts.
-ghost use Rattle.std.specs.Prelude.{◌≡◌, OnOk, OnErr, option_copied, string_bytes};
+ghost use Rattle.std.specs.Prelude.{◌≡◌, OnOk, OnErr, option_copied};
 ghost use Rattle.std.specs.FinMap as map;
 ghost use Rattle.cfa_base.specs.TextMaps.{has_front};
 
-use crate::NoMemory;
+use crate::{Name, NoMemory};
 use std::alloc::Global;
 use std::collections::BTreeMap;
 use std::marker::Model;
+use std::rc::RcStr;
 
 /// A map from texts. Contracts see a finite map from the bytes of the texts. A look-up and a change cost a logarithm of
 /// comparisons.
 #[derive(Debug, Drop)]
 pub struct TextMap<V> {
-    rows: BTreeMap<String, V>,
+    rows: BTreeMap<RcStr, V>,
 }
 
 impl<V> Model for TextMap<V> {
     ghost use Rattle.std.specs.Coded.{coded_list, coded_ℕ};
     ghost use Rattle.std.specs.FinMap as map;
-    ghost use Rattle.std.specs.String.{string_bytes};
+    ghost use Rattle.std.specs.Rc.{rc_str_bytes};
     ghost use Rattle.cfa_base.specs.TextMaps.{TextMap, text_map};
 
     ghost Value = { TextMap V };
 
     ghost coded = { map.code (coded_list coded_ℕ) V.code };
 
-    ghost view = { λ m. text_map string_bytes m.rows.entries };
+    ghost view = { λ m. text_map rc_str_bytes m.rows.entries };
 }
 
 impl<V> TextMap<V> {
@@ -53,13 +54,13 @@ impl<V> TextMap<V> {
     }
 
     /// Puts a value at a text, in the place of the one that is there. After want of memory the map is as it was.
-    pub fn insert(&mut self, key: String, value: V) -> Result<(), NoMemory>
+    pub fn insert(&mut self, key: Name, value: V) -> Result<(), NoMemory>
     where
         V: Drop,
-        ensures ok { OnOk result (self.new ≡ map.insert self.old (string_bytes key) value) }
+        ensures ok { OnOk result (self.new ≡ map.insert self.old key value) }
         ensures err { OnErr result (self.new ≡ self.old) }
     {
-        self.rows.insert(key, value)?;
+        self.rows.insert(key.into_key(), value)?;
         Ok(())
     }
 
@@ -74,11 +75,14 @@ impl<V> TextMap<V> {
 
     /// Whether some text of the map begins with this one, without taking memory. The first text from there on tells,
     /// since such texts stand together.
-    pub fn has_front(&self, front: &String) -> bool
-        ensures { result ≡ has_front self.now (string_bytes front.now) }
+    pub fn has_front(&self, front: &Name) -> bool
+        ensures { result ≡ has_front self.now front.now }
     {
-        match self.rows.range(front..).next() {
-            Some((key, _)) => key.as_bytes().starts_with(front.as_bytes()),
+        match self.rows.range(front.as_key()..).next() {
+            Some((key, _)) => key
+                .as_str()
+                .as_bytes()
+                .starts_with(front.as_str().as_bytes()),
             None => false,
         }
     }

@@ -1,38 +1,45 @@
 // Texts, and lists of texts.
 ghost use Rattle.std.specs.Prelude.{◌≡◌, List, ℕ, [], ◌∷◌, ◌++◌, IfOk, OnOk, OnErr, option_copied, slice_get};
+ghost use Rattle.std.specs.Rc.{rc_str_bytes};
 ghost use Rattle.std.specs.String.{string_bytes};
 
 use crate::NoMemory;
 use std::alloc::Global;
 use std::marker::Model;
+use std::rc::RcStr;
 
-/// A text in UTF-8. Contracts see the list of its bytes.
+/// A text in UTF-8, which its copies have in common. Contracts see the list of its bytes.
 #[derive(Debug, Drop)]
 pub struct Name {
-    text: String,
+    text: RcStr,
 }
 
 impl Model for Name {
+    ghost use Rattle.std.specs.Prelude.{List, ℕ};
+    ghost use Rattle.std.specs.Rc.{rc_str_bytes};
+
     ghost Value = { List ℕ };
 
-    ghost view = { λ n. string_bytes n.text };
+    ghost view = { λ n. rc_str_bytes n.text };
 }
 
 impl Name {
-    /// The text of a `String`, without taking memory.
-    pub fn from_string(text: String) -> Name
-        ensures { result ≡ string_bytes text }
+    /// The text of a `String`. What room it has left over is given back.
+    pub fn from_string(text: String) -> Result<Name, NoMemory>
+        ensures { IfOk result (λ n. n ≡ string_bytes text) }
     {
-        Name { text }
+        let mut text = text;
+        text.shrink_to_fit();
+        let text = RcStr::from_string(text)?;
+        Ok(Name { text })
     }
 
-    /// A copy of this text.
+    /// A text with these bytes.
     pub fn from_text(alloc: Global, text: &str) -> Result<Name, NoMemory>
         ensures { IfOk result (λ n. n ≡ text.now) }
     {
-        Ok(Name {
-            text: String::from_str(alloc, text)?,
-        })
+        let text = RcStr::from_str(alloc, text)?;
+        Ok(Name { text })
     }
 
     /// The text, without taking memory.
@@ -42,18 +49,26 @@ impl Name {
         self.text.as_str()
     }
 
-    /// The `String` of this text, without taking memory.
-    pub fn into_string(self) -> String
-        ensures { string_bytes result ≡ self }
+    /// The text as a key of a map, without taking memory.
+    pub fn as_key(&self) -> &RcStr
+        ensures { rc_str_bytes result.now ≡ self.now }
+    {
+        &self.text
+    }
+
+    /// The same without the `Name`.
+    pub fn into_key(self) -> RcStr
+        ensures { rc_str_bytes result ≡ self }
     {
         self.text
     }
 
-    /// An equal text of its own.
-    pub fn copy(&self, alloc: Global) -> Result<Name, NoMemory>
+    /// The same text, without a copy of its bytes. The parameter is that of all copies.
+    pub fn copy(&self, _alloc: Global) -> Result<Name, NoMemory>
         ensures { IfOk result (λ n. n ≡ self.now) }
     {
-        Name::from_text(alloc, self.as_str())
+        let text = self.text.clone()?;
+        Ok(Name { text })
     }
 }
 

@@ -14,19 +14,19 @@ use cfa_tree::{Named, Value};
 use cfa_vars::{Datum, Scope, Scopes};
 use std::alloc::Global;
 
-/// The empty text, without taking memory.
-pub fn empty_text(alloc: Global) -> Name
-    ensures { result ≡ [] }
+/// The empty text.
+pub fn empty_text(alloc: Global) -> Result<Name, NoMemory>
+    ensures { IfOk result (λ text. text ≡ []) }
 {
-    Name::from_string(String::new(alloc))
+    Name::from_text(alloc, "")
 }
 
 /// The text, empty where there is none.
-pub fn whole_or_empty(alloc: Global, text: ValueText) -> Name
-    ensures { result ≡ whole_or_empty text }
+pub fn whole_or_empty(alloc: Global, text: ValueText) -> Result<Name, NoMemory>
+    ensures { IfOk result (λ whole. whole ≡ whole_or_empty text) }
 {
     match text {
-        ValueText::Text(content) => content,
+        ValueText::Text(content) => Ok(content),
         ValueText::Unresolved(_) => empty_text(alloc),
         ValueText::TooLong => empty_text(alloc),
     }
@@ -54,10 +54,10 @@ fn datum_given(
 {
     match referred_list(value) {
         Some(name) => Ok(Datum::List(items_named(alloc, name, scopes)?)),
-        None => Ok(Datum::Text(whole_or_empty(
-            alloc,
-            text_of_value(alloc, value, scopes, choice)?,
-        ))),
+        None => {
+            let text = text_of_value(alloc, value, scopes, choice)?;
+            Ok(Datum::Text(whole_or_empty(alloc, text)?))
+        }
     }
 }
 

@@ -63,7 +63,7 @@ fn sayings_in(
         (value_trees (map plain_value arguments.now)) (Some (plain_block (a_body body.now)))) }
 {
     let params = bind(alloc, body.params.as_slice(), arguments, scopes, choice)?;
-    let own_name = empty_text(alloc);
+    let own_name = empty_text(alloc)?;
     let inner = Scopes {
         own: &params,
         own_name: &own_name,

@@ -61,28 +61,28 @@ fn push_time(alloc: Global, time: Time, classes: &mut Names) -> Result<(), NoMem
 fn year_class(alloc: Global, year: u16) -> Result<Name, NoMemory>
     ensures { IfOk result (λ class. class ≡ year_class year) }
 {
-    Ok(Name::from_string(format!(in alloc; "Yr{year}")?))
+    Ok(Name::from_string(format!(in alloc; "Yr{year}")?)?)
 }
 
 #[tactic(auto, unfolding(crate::specs::Calendar::day_class))]
 fn day_class(alloc: Global, day: u8) -> Result<Name, NoMemory>
     ensures { IfOk result (λ class. class ≡ day_class day) }
 {
-    Ok(Name::from_string(format!(in alloc; "Day{day}")?))
+    Ok(Name::from_string(format!(in alloc; "Day{day}")?)?)
 }
 
 fn hour_class(alloc: Global, hour: u8) -> Result<Name, NoMemory>
     requires { hour < 24 }
     ensures { IfOk result (λ class. class ≡ hour_class hour) }
 {
-    Ok(Name::from_string(format!(in alloc; "Hr{hour:02}")?))
+    Ok(Name::from_string(format!(in alloc; "Hr{hour:02}")?)?)
 }
 
 fn minute_class(alloc: Global, minute: u8) -> Result<Name, NoMemory>
     requires { minute < 60 }
     ensures { IfOk result (λ class. class ≡ minute_class minute) }
 {
-    Ok(Name::from_string(format!(in alloc; "Min{minute:02}")?))
+    Ok(Name::from_string(format!(in alloc; "Min{minute:02}")?)?)
 }
 
 fn five_minutes_class(alloc: Global, minute: u8) -> Result<Name, NoMemory>
@@ -91,7 +91,7 @@ fn five_minutes_class(alloc: Global, minute: u8) -> Result<Name, NoMemory>
 {
     let first = minute / 5 * 5;
     let next = (first + 5) % 60;
-    Ok(Name::from_string(format!(in alloc; "Min{first:02}_{next:02}")?))
+    Ok(Name::from_string(format!(in alloc; "Min{first:02}_{next:02}")?)?)
 }
 
 fn month_name(month: u8) -> &'static str

@@ -51,7 +51,7 @@ impl Statuses {
         ensures err { OnErr result (self.new ≡ self.old) }
     {
         let status = self.get(&class).greater(to);
-        self.given.insert(class.into_string(), status)?;
+        self.given.insert(class, status)?;
         Ok(())
     }
 

@@ -13,7 +13,7 @@ fn about(alloc: Global, what: &str, name: &Name) -> Result<Name, NoMemory>
     let mut text = String::from_str(alloc, what)?;
     text.push_str(" ")?;
     text.push_str(field.as_str())?;
-    Ok(Name::from_string(text))
+    Ok(Name::from_string(text)?)
 }
 
 /// What an act asks for.

@@ -28,7 +28,7 @@ pub fn demo_policy(alloc: Global, n: u32) -> Result<Name, NoMemory>
         push_promise(&mut text, k)?;
     }
     text.push_str(ENDING)?;
-    Ok(Name::from_string(text))
+    Ok(Name::from_string(text)?)
 }
 
 // Adds the line of the promise of a number.

@@ -74,5 +74,5 @@ fn written(
             text.push(*c)?;
         }
     }
-    Ok(Name::from_string(text))
+    Ok(Name::from_string(text)?)
 }

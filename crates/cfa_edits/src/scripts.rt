@@ -51,7 +51,7 @@ impl Script {
         write_edits(alloc, &mut text, edits.as_slice())?;
         Ok(Script {
             edits,
-            text: Name::from_string(text),
+            text: Name::from_string(text)?,
         })
     }
 

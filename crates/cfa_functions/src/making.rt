@@ -28,7 +28,7 @@ pub fn canonify(alloc: Global, text: &Name) -> Result<Name, NoMemory>
     for byte in text.as_str().as_bytes() {
         whole.push(canonical_byte(*byte) as char)?;
     }
-    Ok(Name::from_string(whole))
+    Ok(Name::from_string(whole)?)
 }
 
 fn concat(alloc: Global, arguments: &[Given<'_>]) -> Result<Answer, NoMemory>
@@ -46,7 +46,7 @@ fn concat(alloc: Global, arguments: &[Given<'_>]) -> Result<Answer, NoMemory>
     if is_hidden {
         return Ok(Answer::TooLong);
     }
-    Ok(limited(Name::from_string(whole)))
+    Ok(limited(Name::from_string(whole)?))
 }
 
 fn glue_before<'g>(place: usize, glue: &'g Name) -> &'g str
@@ -63,14 +63,14 @@ fn join(alloc: Global, glue: &Name, items: &[Name]) -> Result<Name, NoMemory>
         whole.push_str(glue_before(place, glue))?;
         whole.push_str(item.as_str())?;
     }
-    Ok(Name::from_string(whole))
+    Ok(Name::from_string(whole)?)
 }
 
 fn count(alloc: Global, items: &[Name]) -> Result<Name, NoMemory>
     ensures { IfOk result (λ n. n ≡ decimal (length items.now)) }
 {
     let count = items.len();
-    Ok(Name::from_string(format!(in alloc; "{count}")?))
+    Ok(Name::from_string(format!(in alloc; "{count}")?)?)
 }
 
 fn item_of(items: &[Name], place: usize) -> Option<&Name>

@@ -79,7 +79,7 @@ pub fn reference_text(alloc: Global, name: &Name) -> Result<Name, NoMemory>
     ensures { IfOk result (λ text. text ≡ codes "$(" ++ name.now ++ codes ")") }
 {
     let name = name.as_str();
-    Ok(Name::from_string(format!(in alloc; "$({name})")?))
+    Ok(Name::from_string(format!(in alloc; "$({name})")?)?)
 }
 
 fn find_list<'a>(scopes: &Scopes<'a>, name: &str) -> Given<'a>

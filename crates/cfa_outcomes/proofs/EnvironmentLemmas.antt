@@ -8,11 +8,11 @@ use Rattle.std.specs.Cmp.Lexicographic.{nat_list_cmp_total}
 use Rattle.std.specs.FinMap as finite
 use Rattle.std.specs.HashMap as hash
 use Rattle.std.specs.Option.{option_or}
-use Rattle.std.specs.Prelude.{String, IsSome}
+use Rattle.std.specs.Prelude.{IsSome}
 use Rattle.std.specs.Str.{bytes_eq}
-use Rattle.std.specs.String.{string_bytes, string_eq}
 use Rattle.cfa_base.specs.TextMaps.{text_cmp, text_map}
 use Rattle.cfa_base.specs.declared.places.PromiseId.{PromiseId}
+use Rattle.cfa_base.specs.lemmas.TextKeys.{in_hash}
 use Rattle.cfa_base.specs.lemmas.TextMaps.{get-put, remove-insert, ties_alike, same_texts}
 use Rattle.cfa_base.specs.lemmas.EqualTexts.{same_text, texts_apart}
 use Rattle.cfa_classes.specs.declared.levels.Status.{Status}
@@ -161,42 +161,42 @@ one_more_yes statuses classes i class within at so_far q =
 -- ---- the marks of paths, in a hash map
 
 -- what is found at a path
-pub marks_at-found : {Y S : Type 0} (m : hash.HashMap (String Y) Raised S) (marks : Marks) (bs path : List ℕ) (found : Option Raised)
-    → text_map string_bytes m.entries ≡ marks → bs ≡ path → found ≡ hash.get_by_text m bs → marks_at marks path ≡ unwrap_or found none_raised
+pub marks_at-found : {K S : Type 0} (bytes : K → List ℕ) (m : hash.HashMap K Raised S) (marks : Marks) (bs path : List ℕ) (found : Option Raised)
+    → text_map bytes m.entries ≡ marks → bs ≡ path → found ≡ in_hash bytes m bs → marks_at marks path ≡ unwrap_or found none_raised
 unfolding marks_at
-marks_at-found m marks bs path found view by_path is =
-    let e : finite.get marks path ≡ found = ap (finite.get marks) (sym by_path) ∙ ap (λ n. finite.get n bs) (sym view) ∙ get-hashed m bs ∙ sym is in
+marks_at-found bytes m marks bs path found view by_path is =
+    let e : finite.get marks path ≡ found = ap (finite.get marks) (sym by_path) ∙ ap (λ n. finite.get n bs) (sym view) ∙ get-hashed bytes m bs ∙ sym is in
     ap (λ o. unwrap_or o none_raised) e
 
 -- the marks of a path were raised where they lie
-pub marked-written : {Y S : Type 0} (m n : hash.HashMap (String Y) Raised S) (marks : Marks) (bs path text : List ℕ) (to : Status) (before after : Raised)
-    → text_map string_bytes m.entries ≡ marks → bs ≡ path → Some before ≡ hash.get_by_text m bs
-    → hash.WritesThrough string_eq (λ k. bytes_eq bs (string_bytes k)) m after n → after ≡ raised before text to
-    → text_map string_bytes n.entries ≡ marked marks path text to
+pub marked-written : {K S : Type 0} (bytes : K → List ℕ) (m n : hash.HashMap K Raised S) (marks : Marks) (bs path text : List ℕ) (to : Status) (before after : Raised)
+    → text_map bytes m.entries ≡ marks → bs ≡ path → Some before ≡ in_hash bytes m bs
+    → hash.WritesThrough (λ x y. bytes_eq (bytes x) (bytes y)) (λ k. bytes_eq bs (bytes k)) m after n → after ≡ raised before text to
+    → text_map bytes n.entries ≡ marked marks path text to
 unfolding marked
-marked-written m n marks bs path text to before after view by_path is writes raises =
-    let there : IsSome (hash.get_by_text m bs) = subst IsSome is refl in
-    let put : text_map string_bytes n.entries ≡ finite.insert (text_map string_bytes m.entries) bs after = hashed-put bs m n after (writes.3 there) in
-    let at : marks_at marks path ≡ before = marks_at-found m marks bs path (Some before) view by_path is in
+marked-written bytes m n marks bs path text to before after view by_path is writes raises =
+    let there : IsSome (in_hash bytes m bs) = subst IsSome is refl in
+    let put : text_map bytes n.entries ≡ finite.insert (text_map bytes m.entries) bs after = hashed-put bytes bs m n after (writes.3 there) in
+    let at : marks_at marks path ≡ before = marks_at-found bytes m marks bs path (Some before) view by_path is in
     let value : after ≡ raised (marks_at marks path) text to = raises ∙ ap (λ r. raised r text to) (sym at) in
     put ∙ ap (λ t. finite.insert t bs after) view ∙ ap (λ p. finite.insert marks p after) by_path ∙ ap (finite.insert marks path) value
 
 -- nothing was written
-pub marked-left : {Y S : Type 0} (m n : hash.HashMap (String Y) Raised S) (marks : Marks) (bs : List ℕ) (before after : Raised)
-    → text_map string_bytes m.entries ≡ marks → Some before ≡ hash.get_by_text m bs
-    → hash.WritesThrough string_eq (λ k. bytes_eq bs (string_bytes k)) m after n → after ≡ before
-    → text_map string_bytes n.entries ≡ marks
-marked-left m n marks bs before after view is writes stays =
-    ap (text_map string_bytes) (writes.0 ∙ set_value_same _ m.entries after (sym (ap Some stays ∙ is))) ∙ view
+pub marked-left : {K S : Type 0} (bytes : K → List ℕ) (m n : hash.HashMap K Raised S) (marks : Marks) (bs : List ℕ) (before after : Raised)
+    → text_map bytes m.entries ≡ marks → Some before ≡ in_hash bytes m bs
+    → hash.WritesThrough (λ x y. bytes_eq (bytes x) (bytes y)) (λ k. bytes_eq bs (bytes k)) m after n → after ≡ before
+    → text_map bytes n.entries ≡ marks
+marked-left bytes m n marks bs before after view is writes stays =
+    ap (text_map bytes) (writes.0 ∙ set_value_same _ m.entries after (sym (ap Some stays ∙ is))) ∙ view
 
 -- a path got its first mark
-pub marked-added : {Y S : Type 0} (m n : hash.HashMap (String Y) Raised S) (marks : Marks) (key : String Y) (bs path text : List ℕ) (to : Status) (texts : Raised)
-    → text_map string_bytes m.entries ≡ marks → bs ≡ path → string_bytes key ≡ path → None ≡ hash.get_by_text m bs
-    → hash.Updates string_eq m n key (Some texts) → texts ≡ raised none_raised text to
-    → text_map string_bytes n.entries ≡ marked marks path text to
+pub marked-added : {K S : Type 0} (bytes : K → List ℕ) (m n : hash.HashMap K Raised S) (marks : Marks) (key : K) (bs path text : List ℕ) (to : Status) (texts : Raised)
+    → text_map bytes m.entries ≡ marks → bs ≡ path → bytes key ≡ path → None ≡ in_hash bytes m bs
+    → hash.Updates (λ x y. bytes_eq (bytes x) (bytes y)) m n key (Some texts) → texts ≡ raised none_raised text to
+    → text_map bytes n.entries ≡ marked marks path text to
 unfolding marked
-marked-added m n marks key bs path text to texts view by_path by_key is updates raises =
-    let put : text_map string_bytes n.entries ≡ finite.insert (text_map string_bytes m.entries) (string_bytes key) texts = hashed-put (string_bytes key) m n texts updates in
-    let at : marks_at marks path ≡ none_raised = marks_at-found m marks bs path None view by_path is in
+marked-added bytes m n marks key bs path text to texts view by_path by_key is updates raises =
+    let put : text_map bytes n.entries ≡ finite.insert (text_map bytes m.entries) (bytes key) texts = hashed-put bytes (bytes key) m n texts updates in
+    let at : marks_at marks path ≡ none_raised = marks_at-found bytes m marks bs path None view by_path is in
     let value : texts ≡ raised (marks_at marks path) text to = raises ∙ ap (λ r. raised r text to) (sym at) in
-    put ∙ ap (λ t. finite.insert t (string_bytes key) texts) view ∙ ap (λ p. finite.insert marks p texts) by_key ∙ ap (finite.insert marks path) value
+    put ∙ ap (λ t. finite.insert t (bytes key) texts) view ∙ ap (λ p. finite.insert marks p texts) by_key ∙ ap (finite.insert marks path) value

@@ -94,7 +94,7 @@ impl Environment {
     {
         let key = class.copy(self.alloc)?;
         let copy = class.copy(self.alloc)?;
-        self.sources.insert(key.into_string(), source)?;
+        self.sources.insert(key, source)?;
         match self.statuses.raise(copy, to) {
             Ok(()) => Ok(()),
             Err(wanting) => {

@@ -1,7 +1,7 @@
 // The marks of instances.
 ghost use Rattle.std.specs.Prelude.{◌≡◌, OnOk, OnErr};
 ghost use Rattle.std.specs.FinMap as finite;
-ghost use Rattle.std.specs.String.{string_bytes};
+ghost use Rattle.std.specs.Rc.{rc_str_bytes};
 ghost use Rattle.cfa_outcomes.specs.Environments.{mark_in, marked};
 
 use crate::text_marks::TextMarks;
@@ -10,16 +10,17 @@ use cfa_classes::Status;
 use std::alloc::Global;
 use std::collections::HashMap;
 use std::marker::Model;
+use std::rc::RcStr;
 
 // By the hashes of paths, and of one path by those of texts. As a rule a look-up and a change cost what it takes to hash and
 // compare one path and one text, however many there are.
 #[derive(Drop)]
 pub struct Marks {
-    rows: HashMap<String, TextMarks>,
+    rows: HashMap<RcStr, TextMarks>,
 }
 
 impl Model for Marks {
-    ghost use Rattle.std.specs.String.{string_bytes};
+    ghost use Rattle.std.specs.Rc.{rc_str_bytes};
     ghost use Rattle.cfa_base.specs.TextMaps.{text_map};
     ghost use Rattle.cfa_outcomes.specs.Environments.{Marks};
     ghost use Rattle.cfa_outcomes.specs.EnvironmentCodes.{marks_code};
@@ -28,7 +29,7 @@ impl Model for Marks {
 
     ghost coded = { marks_code };
 
-    ghost view = { λ m. text_map string_bytes m.rows.entries };
+    ghost view = { λ m. text_map rc_str_bytes m.rows.entries };
 }
 
 impl Marks {
@@ -66,7 +67,7 @@ impl Marks {
                 let key = path.copy(alloc)?;
                 let mut texts = TextMarks::new(alloc);
                 texts.raise(text, to)?;
-                self.rows.insert(key.into_string(), texts)?;
+                self.rows.insert(key.into_key(), texts)?;
                 Ok(())
             }
         }

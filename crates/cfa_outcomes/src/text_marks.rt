@@ -7,16 +7,17 @@ use cfa_classes::Status;
 use std::alloc::Global;
 use std::collections::HashMap;
 use std::marker::Model;
+use std::rc::RcStr;
 
 // By the hashes of the texts. The texts of a path are long and begin alike, so that each comparison of two of them would
 // read most of both.
 #[derive(Drop)]
 pub struct TextMarks {
-    rows: HashMap<String, Status>,
+    rows: HashMap<RcStr, Status>,
 }
 
 impl Model for TextMarks {
-    ghost use Rattle.std.specs.String.{string_bytes};
+    ghost use Rattle.std.specs.Rc.{rc_str_bytes};
     ghost use Rattle.cfa_base.specs.TextMaps.{text_map};
     ghost use Rattle.cfa_classes.specs.Raised.{Raised};
     ghost use Rattle.cfa_outcomes.specs.EnvironmentCodes.{raised_code};
@@ -25,7 +26,7 @@ impl Model for TextMarks {
 
     ghost coded = { raised_code };
 
-    ghost view = { λ m. text_map string_bytes m.rows.entries };
+    ghost view = { λ m. text_map rc_str_bytes m.rows.entries };
 }
 
 impl TextMarks {
@@ -57,7 +58,7 @@ impl TextMarks {
                 Ok(())
             }
             None => {
-                self.rows.insert(text.into_string(), to)?;
+                self.rows.insert(text.into_key(), to)?;
                 Ok(())
             }
         }

@@ -11,7 +11,7 @@ use std::alloc::{AllocError, Global};
 pub fn line(alloc: Global, item: &Item) -> Result<Name, NoMemory>
     ensures { IfOk result (λ name. name ≡ line_of item.now) }
 {
-    Ok(Name::from_string(text(alloc, item)?))
+    Ok(Name::from_string(text(alloc, item)?)?)
 }
 
 fn text(alloc: Global, item: &Item) -> Result<String, AllocError>

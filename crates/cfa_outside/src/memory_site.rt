@@ -106,12 +106,9 @@ fn apply(alloc: Global, world: &mut World, change: &Change) -> Result<(), NoMemo
             Ok(())
         }
         Change::SetPerms(path, perms) => world.nodes.set_perms(alloc, path, perms),
-        Change::PutService(name, row) => {
-            let key = String::from_str(alloc, name.as_str())?;
-            world.services.insert(key, *row)
-        }
+        Change::PutService(name, row) => world.services.insert(name.copy(alloc)?, *row),
         Change::PutLock(key, moment) => {
-            let key = String::from_str(alloc, key.text())?;
+            let key = Name::from_text(alloc, key.text())?;
             world.locks.insert(key, *moment)
         }
         Change::Append(bytes) => world.journal.append(bytes.as_slice()),

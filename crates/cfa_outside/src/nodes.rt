@@ -1,7 +1,6 @@
 // What stands at each path.
 ghost use Rattle.std.specs.Prelude.{◌≡◌, ◌≤◌, not, [], IsTrue, IfOk, OnOk, OnErr, IsErrOf, IfSome, IfNone, option_copied, length, drop};
 ghost use Rattle.std.specs.FinMap as map;
-ghost use Rattle.std.specs.String.{string_bytes};
 ghost use Rattle.cfa_outside.specs.Worlds.{put_file, put_directory, set_perms, with_perms, file_with, root_perms, with_dirs, above, above_from, is_file, is_directory, is_blocked, is_in_directories, has_below, look_at, takes_file, takes_directory, is_removable, bytes_in, perms_in, is_free, HasParents};
 ghost use Rattle.cfa_outside.specs.NextSlash.{IsNextSlash};
 
@@ -102,6 +101,7 @@ impl Nodes {
     {
         let mut front = String::from_str(alloc, path.text().as_str())?;
         front.push_str("/")?;
+        let front = Name::from_string(front)?;
         Ok(self.rows.has_front(&front))
     }
 
@@ -125,7 +125,7 @@ impl Nodes {
         if self.rows.contains(text) || !lies_in_directories(&self.rows, text) {
             return Err(NodeErr::Misplaced);
         }
-        self.rows.insert(String::from_str(alloc, text)?, node)?;
+        self.rows.insert(Name::from_text(alloc, text)?, node)?;
         Ok(())
     }
 
@@ -244,12 +244,12 @@ fn put_from(
     rows: &mut TextMap<Node>,
     path: &str,
     from: usize,
-    placed: (String, Node),
+    placed: (Name, Node),
 ) -> Result<(), NoMemory>
     requires { from ≤ length path.now }
     ensures ok { OnOk result (rows.new
         ≡ map.insert (with_dirs (above_from path.now from (drop from path.now)) rows.old)
-        (string_bytes placed.0) placed.1) }
+        placed.0 placed.1) }
     ensures err { OnErr result (rows.new ≡ rows.old) }
 {
     let Some(i) = slash_from(path, from) else {
@@ -260,7 +260,7 @@ fn put_from(
         return put_from(alloc, rows, path, i + 1, placed);
     }
     let node = Node::Dir(root_perms(alloc, 0o700)?);
-    rows.insert(String::from_str(alloc, dir)?, node)?;
+    rows.insert(Name::from_text(alloc, dir)?, node)?;
     match put_from(alloc, rows, path, i + 1, placed) {
         Ok(()) => Ok(()),
         Err(e) => {
@@ -275,7 +275,7 @@ fn put_node(alloc: Global, rows: &mut TextMap<Node>, path: &str, node: Node) -> 
         (rows.new ≡ map.insert (with_dirs (above path.now) rows.old) path.now node) }
     ensures err { OnErr result (rows.new ≡ rows.old) }
 {
-    let key = String::from_str(alloc, path)?;
+    let key = Name::from_text(alloc, path)?;
     put_from(alloc, rows, path, path.len().min(1), (key, node))
 }
 
@@ -325,5 +325,5 @@ fn set_perms(
         return Ok(());
     };
     let node = node_with(alloc, node, perms)?;
-    rows.insert(String::from_str(alloc, path)?, node)
+    rows.insert(Name::from_text(alloc, path)?, node)
 }

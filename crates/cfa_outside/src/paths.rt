@@ -78,9 +78,8 @@ impl Path {
         if whole.len() > 1024 {
             return Err(PathErr::BadPath);
         }
-        Ok(Path {
-            text: Name::from_string(whole),
-        })
+        let text = Name::from_string(whole)?;
+        Ok(Path { text })
     }
 
     /// The path's text, with each run of slashes as one, without taking memory.

@@ -5,7 +5,7 @@ ghost use Rattle.cfa_base.specs.Lexing.{content_of, name_of, is_quoted, is_refer
 ghost use Rattle.cfa_parser.specs.Refused.{OnlyMemory};
 
 use crate::ParseErr;
-use cfa_base::Name;
+use cfa_base::{Name, NoMemory};
 use std::alloc::Global;
 
 // Whether a backslash before this byte is dropped.
@@ -52,9 +52,9 @@ fn unescaped(alloc: Global, bytes: &[u8]) -> Result<Vec<u8>, ParseErr>
     Ok(content)
 }
 
-fn name_from_utf8(bytes: Vec<u8>) -> Name
+fn name_from_utf8(bytes: Vec<u8>) -> Result<Name, NoMemory>
     requires { IsUtf8 bytes.items }
-    ensures { result ≡ bytes.items }
+    ensures { IfOk result (λ name. name ≡ bytes.items) }
 {
     Name::from_string(String::from_utf8(bytes).unwrap())
 }
@@ -66,7 +66,7 @@ pub fn content(alloc: Global, text: &str) -> Result<Name, ParseErr>
     ensures memory { IfErr result OnlyMemory }
 {
     let inner = &text.as_bytes()[1..text.len() - 1];
-    Ok(name_from_utf8(unescaped(alloc, inner)?))
+    Ok(name_from_utf8(unescaped(alloc, inner)?)?)
 }
 
 /// The name in the brackets of a reference, which begins with this sign.
@@ -76,5 +76,5 @@ pub fn referred_name(alloc: Global, sign: u8, text: &str) -> Result<Name, ParseE
     ensures memory { IfErr result OnlyMemory }
 {
     let inner = &text.as_bytes()[2..text.len() - 1];
-    Ok(name_from_utf8(Vec::from_slice(alloc, inner)?))
+    Ok(name_from_utf8(Vec::from_slice(alloc, inner)?)?)
 }

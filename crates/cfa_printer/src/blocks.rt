@@ -122,5 +122,5 @@ pub fn print(alloc: Global, policy: &Policy) -> Result<Name, NoMemory>
     for block in policy.blocks.as_slice() {
         push_block(&mut out, block)?;
     }
-    Ok(Name::from_string(out))
+    Ok(Name::from_string(out)?)
 }

@@ -63,7 +63,7 @@ fn audit_lines(alloc: Global, journal: &Journal) -> Result<Name, NoMemory>
     if journal.torn > 0 {
         append_line(alloc, &mut text, &Item::Torn(journal.torn))?;
     }
-    Ok(Name::from_string(text))
+    Ok(Name::from_string(text)?)
 }
 
 /// The lines of the audit of the journal of that name. It is refused with the line of its first fault.

@@ -35,7 +35,7 @@ pub(crate) fn join_by_commas(alloc: Global, items: &[Name]) -> Result<Name, NoMe
     for (place, item) in items.iter().enumerate() {
         add_field(&mut whole, comma_before(place), item.as_str())?;
     }
-    Ok(Name::from_string(whole))
+    Ok(Name::from_string(whole)?)
 }
 
 /// A word, and fields with a space before each.
@@ -47,7 +47,7 @@ pub(crate) fn fields_after(alloc: Global, first: &str, fields: &[Name]) -> Resul
     for field in fields {
         add_field(&mut whole, " ", field.as_str())?;
     }
-    Ok(Name::from_string(whole))
+    Ok(Name::from_string(whole)?)
 }
 
 fn escape_all(alloc: Global, names: &[Name]) -> Result<Vec<Name>, NoMemory>
@@ -95,7 +95,7 @@ fn mode_text(alloc: Global, mode: u16) -> Result<Name, NoMemory>
     push_digit(&mut text, mode / 64)?;
     push_digit(&mut text, mode / 8)?;
     push_digit(&mut text, mode)?;
-    Ok(Name::from_string(text))
+    Ok(Name::from_string(text)?)
 }
 
 /// A mode as a field, an asterisk where there is none.

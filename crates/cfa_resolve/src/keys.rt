@@ -102,7 +102,7 @@ fn list_text(alloc: Global, items: &[Name]) -> Result<Name, NoMemory>
     for item in items {
         add_field(&mut whole, ",", escape(alloc, item)?.as_str())?;
     }
-    Ok(Name::from_string(whole))
+    Ok(Name::from_string(whole)?)
 }
 
 fn datum_text(alloc: Global, datum: &Datum) -> Result<Name, NoMemory>
@@ -112,7 +112,7 @@ fn datum_text(alloc: Global, datum: &Datum) -> Result<Name, NoMemory>
         Datum::Text(content) => {
             let field = escape(alloc, content)?;
             let field = field.as_str();
-            Ok(Name::from_string(format!(in alloc; "t{field}")?))
+            Ok(Name::from_string(format!(in alloc; "t{field}")?)?)
         }
         Datum::List(items) => list_text(alloc, items.as_slice()),
     }
@@ -200,5 +200,5 @@ pub(crate) fn key_text(
     add_classes(alloc, ";r=", outcomes.repaired.as_slice(), &mut text)?;
     add_classes(alloc, ";f=", outcomes.failed.as_slice(), &mut text)?;
     write!(text, ";e={minutes}")?;
-    Ok(Name::from_string(text))
+    Ok(Name::from_string(text)?)
 }

@@ -98,8 +98,8 @@ fn promiser_in(
 {
     match expand(alloc, &reached.promise.promiser, &reached.scopes, choice)? {
         Expanded::Done(whole) => Ok(whole),
-        Expanded::Unresolved(_) => Ok(empty_text(alloc)),
-        Expanded::TooLong => Ok(empty_text(alloc)),
+        Expanded::Unresolved(_) => empty_text(alloc),
+        Expanded::TooLong => empty_text(alloc),
     }
 }
 
@@ -127,7 +127,7 @@ fn call_work(
         (value_of (codes "usebundle") (plain_promise reached.now.promise.now).attributes)) }
 {
     match value_named(reached.promise.attributes.as_slice(), "usebundle") {
-        None => Ok(Work::Call(empty_text(alloc), Parts::from_vec(Vec::new(alloc)))),
+        None => Ok(Work::Call(empty_text(alloc)?, Parts::from_vec(Vec::new(alloc)))),
         Some(value) => call_of(alloc, reached, value, choice),
     }
 }

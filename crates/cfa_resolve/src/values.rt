@@ -73,9 +73,9 @@ pub(crate) fn own_text(
 {
     match value_named(promise.attributes.as_slice(), name) {
         None => Ok(None),
-        Some(value) => Ok(Some(whole_or_empty(
-            alloc,
-            text_of_value(alloc, value, scopes, choice)?,
-        ))),
+        Some(value) => {
+            let text = text_of_value(alloc, value, scopes, choice)?;
+            Ok(Some(whole_or_empty(alloc, text)?))
+        }
     }
 }

@@ -170,7 +170,7 @@ fn long_text(alloc: Global) -> Result<Datum, NoMemory> {
     for _ in 0..65_535u32 {
         text.push_str("a")?;
     }
-    Ok(Datum::Text(Name::from_string(text)))
+    Ok(Datum::Text(Name::from_string(text)?))
 }
 
 fn set_lists(alloc: Global, own: &mut Scope) -> Result<(), NoMemory> {

@@ -42,8 +42,8 @@ fn promiser_in(
 {
     match expand(alloc, &editor.promise.promiser, &editor.scopes, choice)? {
         Expanded::Done(whole) => Ok(whole),
-        Expanded::Unresolved(_) => Ok(empty_text(alloc)),
-        Expanded::TooLong => Ok(empty_text(alloc)),
+        Expanded::Unresolved(_) => empty_text(alloc),
+        Expanded::TooLong => empty_text(alloc),
     }
 }
 

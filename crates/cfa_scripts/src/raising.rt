@@ -288,7 +288,7 @@ fn add_origin(
             if origins.contains(class.as_str()) {
                 Ok(())
             } else {
-                origins.insert(class.copy(alloc)?.into_string(), origin)
+                origins.insert(class.copy(alloc)?, origin)
             }
         }
     }

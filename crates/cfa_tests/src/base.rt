@@ -184,7 +184,7 @@ fn nested(alloc: Global, depth: usize) -> Result<Name, PatternErr> {
     for _ in 0..depth {
         text.push_str(")")?;
     }
-    Ok(Name::from_string(text))
+    Ok(Name::from_string(text)?)
 }
 
 fn refusal(alloc: Global, text: &Name) -> Option<PatternErr> {

@@ -59,7 +59,7 @@ fn long_text(alloc: Global) -> Result<Name, NoMemory> {
     for _ in 0..65_535u32 {
         text.push_str("a")?;
     }
-    Ok(Name::from_string(text))
+    Ok(Name::from_string(text)?)
 }
 
 fn list_of(alloc: Global, texts: &[&str]) -> Result<Datum, NoMemory> {

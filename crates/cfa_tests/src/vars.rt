@@ -36,7 +36,7 @@ fn set_long(alloc: Global, scope: &mut Scope, size: u32) -> Result<(), NoMemory>
     for _ in 0..size {
         text.push_str("a")?;
     }
-    let text = Name::from_string(text);
+    let text = Name::from_string(text)?;
     scope.set(Name::from_text(alloc, "x")?, Datum::Text(text))
 }
 

@@ -130,7 +130,7 @@ pub fn expand(
     ensures { IfOk result (λ e. e ≡ expanded (in_scope scopes.now) choice.now text.now) }
 {
     if let Some(whole) = fill(alloc, text.as_str(), scopes, choice)? {
-        return Ok(Expanded::Done(Name::from_string(whole)));
+        return Ok(Expanded::Done(Name::from_string(whole)?));
     }
     match first_unresolved(text.as_str(), scopes, choice) {
         Some(name) => Ok(Expanded::Unresolved(Name::from_text(alloc, name)?)),

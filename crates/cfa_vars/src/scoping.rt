@@ -6,6 +6,7 @@ use cfa_base::{Name, Names, NoMemory};
 use indexmap::IndexMap;
 use std::alloc::Global;
 use std::marker::Model;
+use std::rc::RcStr;
 
 /// What a variable holds.
 #[derive(Debug, Drop)]
@@ -18,17 +19,18 @@ pub enum Datum {
 /// hold, in the order in which the names were first set.
 #[derive(Drop)]
 pub struct Scope {
-    values: IndexMap<String, Datum>,
+    values: IndexMap<RcStr, Datum>,
 }
 
 impl Model for Scope {
     ghost use Rattle.std.specs.Prelude.{List, ℕ};
     ghost use Rattle.cfa_vars.specs.declared.scoping.Datum.{Datum};
-    ghost use Rattle.cfa_vars.specs.Named.{by_bytes};
+    ghost use Rattle.std.specs.Rc.{rc_str_bytes};
+    ghost use Rattle.cfa_base.specs.TextMaps.{by_bytes};
 
     ghost Value = { List (List ℕ × Datum) };
 
-    ghost view = { λ s. by_bytes s.values.entries };
+    ghost view = { λ s. by_bytes rc_str_bytes s.values.entries };
 }
 
 impl Scope {
@@ -47,7 +49,7 @@ impl Scope {
         ensures ok { OnOk result (self.new ≡ put self.old name value) }
         ensures err { OnErr result (self.new ≡ self.old) }
     {
-        let _before = self.values.insert(name.into_string(), value)?;
+        let _before = self.values.insert(name.into_key(), value)?;
         Ok(())
     }
 

@@ -1,18 +1,18 @@
 -- Where instances stand in a list, and in the table of places.
 use Rattle.std.proofs.Common.{◌≡◌, ◌⊎◌, ℕ, zero, suc, Bool, true, false, cond, ◌&&◌, List, [], ◌∷◌, ◌++◌, length, Option, Some, None, inl, inr, refl, sym, ap, subst, ◌∙◌}
 use Rattle.std.proofs.lemmas.Map.Steps.{set_value_same}
-use Rattle.std.proofs.lemmas.Map.Text.{btree_map_updates_text}
 use Rattle.std.specs.BTreeMap as tree
-use Rattle.std.specs.Cmp.Lexicographic.{nat_list_cmp_total, slice_cmp}
+use Rattle.std.specs.Cmp.Lexicographic.{slice_cmp}
 use Rattle.std.specs.Ordering.{nat_cmp}
-use Rattle.std.specs.Prelude.{String, IsSome, option_and_then, unwrap_or}
-use Rattle.std.specs.String.{string_bytes, string_cmp}
+use Rattle.std.specs.Prelude.{IsSome, option_and_then, unwrap_or}
+use Rattle.std.specs.declared.cmp.Ordering.{Ordering}
 use Rattle.std.specs.FinMap as finite
 use Rattle.std.specs.Str.{bytes_eq}
 use Rattle.std.proofs.lemmas.Bool.{and_parts}
 use Rattle.std.proofs.lemmas.Slice.Eq.{bytes_eq-Decides}
 use Rattle.cfa_base.specs.TextMaps.{TextMap, text_cmp, text_map}
-use Rattle.cfa_base.specs.lemmas.TextMaps.{get-put, get-text_map, text_map-put, same_texts}
+use Rattle.cfa_base.specs.lemmas.TextKeys.{in_tree}
+use Rattle.cfa_base.specs.lemmas.TextMaps.{get-put, get-text_map, text_map-put}
 use Rattle.cfa_resolve.specs.declared.instances.Instance.{Instance}
 use Rattle.cfa_walk.specs.History.{is_named}
 use Rattle.cfa_walk.specs.Names.{name_of}
@@ -94,62 +94,60 @@ has_none m is p t place there =
 
 -- ---- what is written through a look-up by bytes
 
-text_map-written : {Y X : Type 0} (bs : List ℕ) (m n : tree.BTreeMap (String Y) X) (x : X) → tree.UpdatesBy string_cmp (λ k. slice_cmp nat_cmp bs (string_bytes k)) m n (Some x) → text_map string_bytes n.entries ≡ finite.insert (text_map string_bytes m.entries) bs x
-text_map-written bs m n x updates = finite.same_map nat_list_cmp_total same_texts _ _ (λ q.
-    get-text_map string_bytes n.entries q
-    ∙ btree_map_updates_text bs m n (Some x) updates q
-    ∙ ap (cond (bytes_eq bs q) (Some x)) (sym (get-text_map string_bytes m.entries q))
-    ∙ sym (get-put (text_map string_bytes m.entries) bs x q))
+module _ {K : Type 0} (bytes : K → List ℕ) where
+  abbrev in_order : K → K → Ordering
+  in_order x y = slice_cmp nat_cmp (bytes x) (bytes y)
 
--- what is found at a path
-pub places_at-found : {Y : Type 0} (m : tree.BTreeMap (String Y) (TextMap ℕ)) (places : Places) (bs path : List ℕ) (found : Option (TextMap ℕ))
-    → text_map string_bytes m.entries ≡ places → bs ≡ path → found ≡ tree.get_by_text m bs → finite.get places path ≡ found
-places_at-found m places bs path found view by_path is =
-    ap (finite.get places) (sym by_path) ∙ ap (λ (n : Places). finite.get n bs) (sym view) ∙ get-text_map string_bytes m.entries bs ∙ sym is
+  -- what is found at a path
+  pub places_at-found : (m : tree.BTreeMap K (TextMap ℕ)) (places : Places) (bs path : List ℕ) (found : Option (TextMap ℕ))
+      → text_map bytes m.entries ≡ places → bs ≡ path → found ≡ in_tree bytes m bs → finite.get places path ≡ found
+  places_at-found m places bs path found view by_path is =
+      ap (finite.get places) (sym by_path) ∙ ap (λ (n : Places). finite.get n bs) (sym view) ∙ get-text_map bytes m.entries bs ∙ sym is
 
--- the place of a text was put where those of its path lie
-pub place-written : {Y Z : Type 0} (m n : tree.BTreeMap (String Y) (TextMap ℕ)) (places : Places) (bs path text : List ℕ) (key : String Z) (place : ℕ) (before after : TextMap ℕ)
-    → text_map string_bytes m.entries ≡ places → bs ≡ path → string_bytes key ≡ text → Some before ≡ tree.get_by_text m bs
-    → tree.WritesThrough string_cmp (λ k. slice_cmp nat_cmp bs (string_bytes k)) m after n → after ≡ finite.insert before (string_bytes key) place
-    → text_map string_bytes n.entries ≡ with_place places path text place
-place-written m n places bs path text key place before after view by_path by_text is writes puts =
-    let there : IsSome (tree.get_by_text m bs) = subst IsSome is refl in
-    let put : text_map string_bytes n.entries ≡ finite.insert (text_map string_bytes m.entries) bs after = text_map-written bs m n after (writes.3 there) in
-    let at : finite.get places path ≡ Some before = places_at-found m places bs path (Some before) view by_path is in
-    let value : after ≡ finite.insert (unwrap_or (finite.get places path) finite.empty) text place =
-    puts ∙ ap (λ t. finite.insert before t place) by_text ∙ ap (λ (o : Option (TextMap ℕ)). finite.insert (unwrap_or o finite.empty) text place) (sym at) in
-    put ∙ ap (λ (t : Places). finite.insert t bs after) view ∙ ap (λ p. finite.insert places p after) by_path ∙ ap (finite.insert places path) value
+  -- the place of a text was put where those of its path lie
+  pub place-written : (m n : tree.BTreeMap K (TextMap ℕ)) (places : Places) (bs path text : List ℕ) (place : ℕ) (before after : TextMap ℕ)
+      → text_map bytes m.entries ≡ places → bs ≡ path → Some before ≡ in_tree bytes m bs
+      → tree.WritesThrough in_order (λ k. slice_cmp nat_cmp bs (bytes k)) m after n → after ≡ finite.insert before text place
+      → text_map bytes n.entries ≡ with_place places path text place
+  place-written m n places bs path text place before after view by_path is writes puts =
+      let there : IsSome (in_tree bytes m bs) = subst IsSome is refl in
+      let put : text_map bytes n.entries ≡ finite.insert (text_map bytes m.entries) bs after = text_map-put bytes bs m n after (writes.3 there) in
+      let at : finite.get places path ≡ Some before = places_at-found m places bs path (Some before) view by_path is in
+      let value : after ≡ finite.insert (unwrap_or (finite.get places path) finite.empty) text place =
+      puts ∙ ap (λ (o : Option (TextMap ℕ)). finite.insert (unwrap_or o finite.empty) text place) (sym at) in
+      put ∙ ap (λ (t : Places). finite.insert t bs after) view ∙ ap (λ p. finite.insert places p after) by_path ∙ ap (finite.insert places path) value
 
--- nothing was written
-pub place-left : {Y : Type 0} (m n : tree.BTreeMap (String Y) (TextMap ℕ)) (places : Places) (bs : List ℕ) (before after : TextMap ℕ)
-    → text_map string_bytes m.entries ≡ places → Some before ≡ tree.get_by_text m bs
-    → tree.WritesThrough string_cmp (λ k. slice_cmp nat_cmp bs (string_bytes k)) m after n → after ≡ before
-    → text_map string_bytes n.entries ≡ places
-place-left m n places bs before after view is writes stays =
-    ap (text_map string_bytes) (writes.0 ∙ set_value_same _ m.entries after (sym (ap Some stays ∙ is))) ∙ view
+  -- nothing was written
+  pub place-left : (m n : tree.BTreeMap K (TextMap ℕ)) (places : Places) (bs : List ℕ) (before after : TextMap ℕ)
+      → text_map bytes m.entries ≡ places → Some before ≡ in_tree bytes m bs
+      → tree.WritesThrough in_order (λ k. slice_cmp nat_cmp bs (bytes k)) m after n → after ≡ before
+      → text_map bytes n.entries ≡ places
+  place-left m n places bs before after view is writes stays =
+      ap (text_map bytes) (writes.0 ∙ set_value_same _ m.entries after (sym (ap Some stays ∙ is))) ∙ view
 
--- a path got its first place
-pub place-added : {Y Z : Type 0} (m n : tree.BTreeMap (String Y) (TextMap ℕ)) (places : Places) (key : String Y) (bs path text : List ℕ) (text_key : String Z) (place : ℕ) (empty texts : TextMap ℕ)
-    → text_map string_bytes m.entries ≡ places → bs ≡ path → string_bytes key ≡ path → string_bytes text_key ≡ text → None ≡ tree.get_by_text m bs
-    → tree.Updates string_cmp m n key (Some texts) → empty ≡ finite.empty → texts ≡ finite.insert empty (string_bytes text_key) place
-    → text_map string_bytes n.entries ≡ with_place places path text place
-place-added m n places key bs path text text_key place empty texts view by_path by_key by_text is updates bare puts =
-    let put : text_map string_bytes n.entries ≡ finite.insert (text_map string_bytes m.entries) (string_bytes key) texts = text_map-put m n key texts updates in
-    let at : finite.get places path ≡ None = places_at-found m places bs path None view by_path is in
-    let value : texts ≡ finite.insert (unwrap_or (finite.get places path) finite.empty) text place =
-    puts ∙ ap (λ (t : TextMap ℕ). finite.insert t (string_bytes text_key) place) bare ∙ ap (λ t. finite.insert finite.empty t place) by_text
-    ∙ ap (λ (o : Option (TextMap ℕ)). finite.insert (unwrap_or o finite.empty) text place) (sym at) in
-    put ∙ ap (λ (t : Places). finite.insert t (string_bytes key) texts) view ∙ ap (λ p. finite.insert places p texts) by_key ∙ ap (finite.insert places path) value
+  -- a path got its first place
+  pub place-added : (m n : tree.BTreeMap K (TextMap ℕ)) (places : Places) (key : K) (bs path text : List ℕ) (place : ℕ) (empty texts : TextMap ℕ)
+      → text_map bytes m.entries ≡ places → bs ≡ path → bytes key ≡ path → None ≡ in_tree bytes m bs
+      → tree.Updates in_order m n key (Some texts) → empty ≡ finite.empty → texts ≡ finite.insert empty text place
+      → text_map bytes n.entries ≡ with_place places path text place
+  place-added m n places key bs path text place empty texts view by_path by_key is updates bare puts =
+      let put : text_map bytes n.entries ≡ finite.insert (text_map bytes m.entries) (bytes key) texts = text_map-put bytes (bytes key) m n texts updates in
+      let at : finite.get places path ≡ None = places_at-found m places bs path None view by_path is in
+      let value : texts ≡ finite.insert (unwrap_or (finite.get places path) finite.empty) text place =
+      puts ∙ ap (λ (t : TextMap ℕ). finite.insert t text place) bare
+      ∙ ap (λ (o : Option (TextMap ℕ)). finite.insert (unwrap_or o finite.empty) text place) (sym at) in
+      put ∙ ap (λ (t : Places). finite.insert t (bytes key) texts) view ∙ ap (λ p. finite.insert places p texts) by_key ∙ ap (finite.insert places path) value
 
 -- ---- a look-up
 
-pub placed_is : {Y : Type 0} (m : tree.BTreeMap (String Y) (TextMap ℕ)) (places : Places) (bs path bytes text : List ℕ) (texts : TextMap ℕ) (found : Option ℕ)
-    → text_map string_bytes m.entries ≡ places → bs ≡ path → bytes ≡ text → Some texts ≡ tree.get_by_text m bs → found ≡ finite.get texts bytes → found ≡ placed places path text
-placed_is m places bs path bytes text texts found view by_path by_text is found_is =
-    found_is ∙ ap (finite.get texts) by_text
-    ∙ sym (ap (option_and_then (λ (ts : TextMap ℕ). finite.get ts text)) (places_at-found m places bs path (Some texts) view by_path is))
+module _ {K : Type 0} (bytes : K → List ℕ) where
+  pub placed_is : (m : tree.BTreeMap K (TextMap ℕ)) (places : Places) (bs path ts text : List ℕ) (texts : TextMap ℕ) (found : Option ℕ)
+      → text_map bytes m.entries ≡ places → bs ≡ path → ts ≡ text → Some texts ≡ in_tree bytes m bs → found ≡ finite.get texts ts → found ≡ placed places path text
+  placed_is m places bs path ts text texts found view by_path by_text is found_is =
+      found_is ∙ ap (finite.get texts) by_text
+      ∙ sym (ap (option_and_then (λ (all : TextMap ℕ). finite.get all text)) (places_at-found bytes m places bs path (Some texts) view by_path is))
 
-pub placed_nowhere : {Y : Type 0} (m : tree.BTreeMap (String Y) (TextMap ℕ)) (places : Places) (bs path text : List ℕ)
-    → text_map string_bytes m.entries ≡ places → bs ≡ path → None ≡ tree.get_by_text m bs → ◌≡◌ {A = Option ℕ} None (placed places path text)
-placed_nowhere m places bs path text view by_path is =
-    sym (ap (option_and_then (λ (ts : TextMap ℕ). finite.get ts text)) (places_at-found m places bs path None view by_path is))
+  pub placed_nowhere : (m : tree.BTreeMap K (TextMap ℕ)) (places : Places) (bs path text : List ℕ)
+      → text_map bytes m.entries ≡ places → bs ≡ path → None ≡ in_tree bytes m bs → ◌≡◌ {A = Option ℕ} None (placed places path text)
+  placed_nowhere m places bs path text view by_path is =
+      sym (ap (option_and_then (λ (all : TextMap ℕ). finite.get all text)) (places_at-found bytes m places bs path None view by_path is))

@@ -270,7 +270,7 @@ pub(crate) fn inner_path(alloc: Global, instance: &Instance) -> Result<Name, NoM
 {
     let path = instance.path.as_str();
     let text = instance.text.as_str();
-    Ok(Name::from_string(format!(in alloc; "{path}\n{text}")?))
+    Ok(Name::from_string(format!(in alloc; "{path}\n{text}")?)?)
 }
 
 /// The status of a guard in an activation.

@@ -10,15 +10,16 @@ use cfa_resolve::Instance;
 use std::alloc::Global;
 use std::collections::BTreeMap;
 use std::marker::Model;
+use std::rc::RcStr;
 
 // Places by paths, and of one path by key texts. A look-up and a change cost a logarithm of comparisons.
 #[derive(Drop)]
 pub(crate) struct Places {
-    rows: BTreeMap<String, TextMap<u32>>,
+    rows: BTreeMap<RcStr, TextMap<u32>>,
 }
 
 impl Model for Places {
-    ghost use Rattle.std.specs.String.{string_bytes};
+    ghost use Rattle.std.specs.Rc.{rc_str_bytes};
     ghost use Rattle.cfa_base.specs.TextMaps.{text_map};
     ghost use Rattle.cfa_walk.specs.Places.{Places, places_code};
 
@@ -26,7 +27,7 @@ impl Model for Places {
 
     ghost coded = { places_code };
 
-    ghost view = { λ p. text_map string_bytes p.rows.entries };
+    ghost view = { λ p. text_map rc_str_bytes p.rows.entries };
 }
 
 impl Places {
@@ -52,11 +53,11 @@ impl Places {
         ensures err { OnErr result (self.new ≡ self.old) }
     {
         match self.rows.get_mut(path.as_str()) {
-            Some(texts) => texts.insert(text.into_string(), place),
+            Some(texts) => texts.insert(text, place),
             None => {
                 let mut texts = TextMap::new(alloc);
-                texts.insert(text.into_string(), place)?;
-                self.rows.insert(path.into_string(), texts)?;
+                texts.insert(text, place)?;
+                self.rows.insert(path.into_key(), texts)?;
                 Ok(())
             }
         }

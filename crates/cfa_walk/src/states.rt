@@ -89,7 +89,7 @@ fn set_wait(
     let mut map = taken(alloc, calls);
     match waits {
         None => map.remove(path.as_str()),
-        Some(wait) => map.insert(path.into_string(), wait)?,
+        Some(wait) => map.insert(path, wait)?,
     }
     *calls = Some(map);
     Ok(())

@@ -2,7 +2,7 @@
 use Rattle.std.proofs.Common.{◌≡◌, ℕ, List, [], ◌∷◌, Bool, true, false, cond, ◌||◌, Option, Some, None, is_some, refl, sym, ap, ◌∙◌}
 use Rattle.std.proofs.lemmas.Bool.{false≢true, or_right}
 use Rattle.std.proofs.lemmas.Cmp.{tied_itself}
-use Rattle.std.proofs.lemmas.Map.Text.{is_eq-slice_cmp, btree_map_updates_text}
+use Rattle.std.proofs.lemmas.Map.Text.{is_eq-slice_cmp}
 use Rattle.std.proofs.lemmas.Slice.Eq.{bytes_eq-Decides}
 use Rattle.std.specs.BTreeMap as tree
 use Rattle.std.specs.Map.{lookup}
@@ -12,12 +12,12 @@ use Rattle.std.specs.List.{list_any}
 use Rattle.std.specs.Cmp.{eq_by_cmp_equiv}
 use Rattle.std.specs.Ordering.{eq_by_cmp, is_eq, match_ordering, nat_cmp}
 use Rattle.std.specs.Str.{bytes_eq}
-use Rattle.std.specs.Prelude.{String, option_copied}
+use Rattle.std.specs.Prelude.{option_copied}
 use denote.Ref.{Bor}
-use Rattle.std.specs.String.{string_bytes, string_cmp}
 use Rattle.std.specs.Cmp.Lexicographic.{nat_list_cmp_total, slice_cmp}
 use Rattle.std.specs.declared.cmp.Ordering.TheVariants.{Less, Equal, Greater}
 use Rattle.cfa_base.specs.TextMaps.{text_cmp, TextMap, by_bytes, text_map}
+use Rattle.cfa_base.specs.lemmas.TextKeys.{in_tree, tree_updates}
 
 pub same_texts : map.IsAntisymmetric text_cmp
 same_texts = map.slice_cmp-IsAntisymmetric map.nat_cmp-IsAntisymmetric
@@ -95,13 +95,13 @@ pub ties_alike : (k q : List ℕ) → eq_by_cmp text_cmp q k ≡ bytes_eq k q
 ties_alike k q = sym (sym (is_eq-slice_cmp k q) ∙ (eq_by_cmp_equiv nat_list_cmp_total).symm k q)
 
 -- to take out what a text finds is to take out its bytes
-pub text_map-update : {Y X : Type 0} (bs : List ℕ) (m n : tree.BTreeMap (String Y) X) → tree.UpdatesBy string_cmp (λ k. slice_cmp nat_cmp bs (string_bytes k)) m n None → text_map string_bytes n.entries ≡ map.remove (text_map string_bytes m.entries) bs
-text_map-update bs m n updates = map.same_map nat_list_cmp_total same_texts _ _ (λ q.
-    get-text_map string_bytes n.entries q
-    ∙ btree_map_updates_text bs m n None updates q
-    ∙ ap (λ b. cond b None (tree.get_by_text m q)) (sym (ties_alike bs q))
-    ∙ ap (cond (eq_by_cmp text_cmp q bs) None) (sym (get-text_map string_bytes m.entries q))
-    ∙ sym (map.get-remove nat_list_cmp_total (text_map string_bytes m.entries) bs q))
+pub text_map-update : {K X : Type 0} (bytes : K → List ℕ) (bs : List ℕ) (m n : tree.BTreeMap K X) → tree.UpdatesBy (λ x y. slice_cmp nat_cmp (bytes x) (bytes y)) (λ k. slice_cmp nat_cmp bs (bytes k)) m n None → text_map bytes n.entries ≡ map.remove (text_map bytes m.entries) bs
+text_map-update bytes bs m n updates = map.same_map nat_list_cmp_total same_texts _ _ (λ q.
+    get-text_map bytes n.entries q
+    ∙ tree_updates bytes bs m n None updates q
+    ∙ ap (λ b. cond b None (in_tree bytes m q)) (sym (ties_alike bs q))
+    ∙ ap (cond (eq_by_cmp text_cmp q bs) None) (sym (get-text_map bytes m.entries q))
+    ∙ sym (map.get-remove nat_list_cmp_total (text_map bytes m.entries) bs q))
 
 -- what a look-up doesn't find isn't there
 pub absent : {A : Type 0} (found : Option (Bor A)) (o : Option A) → option_copied found ≡ o → is_some found ≡ false → o ≡ None
@@ -116,10 +116,10 @@ present (Some x) o is _ = sym (ap is_some is)
 pub get-put : {X : Type 0} (m : TextMap X) (k : List ℕ) (x : X) (q : List ℕ) → map.get (map.insert m k x) q ≡ cond (bytes_eq k q) (Some x) (map.get m q)
 get-put m k x q = map.get-insert nat_list_cmp_total m k x q ∙ ap (λ b. cond b (Some x) (map.get m q)) (ties_alike k q)
 
--- to put a value at a key is to put it at its bytes
-pub text_map-put : {Y X : Type 0} (m n : tree.BTreeMap (String Y) X) (key : String Y) (x : X) → tree.Updates string_cmp m n key (Some x) → text_map string_bytes n.entries ≡ map.insert (text_map string_bytes m.entries) (string_bytes key) x
-text_map-put m n key x updates = map.same_map nat_list_cmp_total same_texts _ _ (λ q.
-    get-text_map string_bytes n.entries q
-    ∙ btree_map_updates_text (string_bytes key) m n (Some x) updates q
-    ∙ ap (cond (bytes_eq (string_bytes key) q) (Some x)) (sym (get-text_map string_bytes m.entries q))
-    ∙ sym (get-put (text_map string_bytes m.entries) (string_bytes key) x q))
+-- to put a value at what has these bytes is to put it at them
+pub text_map-put : {K X : Type 0} (bytes : K → List ℕ) (bs : List ℕ) (m n : tree.BTreeMap K X) (x : X) → tree.UpdatesBy (λ x y. slice_cmp nat_cmp (bytes x) (bytes y)) (λ k. slice_cmp nat_cmp bs (bytes k)) m n (Some x) → text_map bytes n.entries ≡ map.insert (text_map bytes m.entries) bs x
+text_map-put bytes bs m n x updates = map.same_map nat_list_cmp_total same_texts _ _ (λ q.
+    get-text_map bytes n.entries q
+    ∙ tree_updates bytes bs m n (Some x) updates q
+    ∙ ap (cond (bytes_eq bs q) (Some x)) (sym (get-text_map bytes m.entries q))
+    ∙ sym (get-put (text_map bytes m.entries) bs x q))

@@ -66,7 +66,7 @@ impl<'p> Matcher<'p> {
             → IfOk result (λ name. name ≡ replaced self.old text.now value true) }
         ensures same { self.new ≡ self.old }
     {
-        Ok(Name::from_string(self.inner.replace_all(alloc, text, template)?))
+        Ok(Name::from_string(self.inner.replace_all(alloc, text, template)?)?)
     }
 
     fn replace_first(
@@ -79,6 +79,6 @@ impl<'p> Matcher<'p> {
             → IfOk result (λ name. name ≡ replaced self.old text.now value false) }
         ensures same { self.new ≡ self.old }
     {
-        Ok(Name::from_string(self.inner.replace(alloc, text, template)?))
+        Ok(Name::from_string(self.inner.replace(alloc, text, template)?)?)
     }
 }

@@ -37,14 +37,14 @@ fn add_service(alloc: Global, world: &mut World, text: &str) -> Result<(), Fail>
         enabled: enabled == "enabled",
         restarts: restarts.parse::<u32>().unwrap_or(0),
     };
-    Ok(world.services.insert(String::from_str(alloc, name)?, row)?)
+    Ok(world.services.insert(Name::from_text(alloc, name)?, row)?)
 }
 
 fn add_lock(alloc: Global, world: &mut World, text: &str) -> Result<(), Fail> {
     let lock = with_keys(alloc, text)?;
     let (key, moment) = parts(lock.as_str(), " ");
     let moment = moment.parse::<u64>().unwrap_or(0);
-    Ok(world.locks.insert(String::from_str(alloc, key)?, moment)?)
+    Ok(world.locks.insert(Name::from_text(alloc, key)?, moment)?)
 }
 
 // A file of so many times the letter a.

@@ -4,7 +4,7 @@ use Rattle.cfa_base.proofs.escapes.escape_bytes.Goals as goal
 pub returns : goal.returns
 returns c =
     rw (
-      c.from_string.ensures,
+      c.in_ok-from_string.ensures,
       c.in_ok-append_to.ensures.ok,
       c.new-field.ensures.bytes,
       c.percent_encode.ensures.text,

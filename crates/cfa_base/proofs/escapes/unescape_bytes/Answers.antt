@@ -17,7 +17,7 @@ returns-in-Err-Utf8-clause-bad c _ (text, utf8, field) =
 pub returns-else-eq-clause-bad : goal.returns-else-eq-clause-bad
 returns-else-eq-clause-bad c _ (text, utf8, field) =
     let decoded : decoded_bytes c.percent_decode.result ≡ text = c.percent_decode.ensures.bytes ∙ ap percent_decode (sym field) ∙ percent_decode-escaped text utf8 in
-    let read = c.from_string-text.ensures ∙ c.in_ok-into_owned-in-Ok.ensures.ok ∙ c.in-Ok.ensures.value ∙ decoded in
+    let read = c.in_ok-text-in-Ok.ensures ∙ c.in_ok-into_owned-in-Ok.ensures.ok ∙ c.in-Ok.ensures.value ∙ decoded in
     let written = c.as_bytes.ensures.value ∙ c.as_str-2.ensures ∙ c.in_ok-escape.ensures ∙ ap escaped read ∙ field in
     let found = c.eq.ensures ∙ (bytes_eq-Decides _ _).1 written in
     false≢true (sym c.if-eq.false ∙ found)

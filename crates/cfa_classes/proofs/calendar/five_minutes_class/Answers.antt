@@ -8,4 +8,4 @@ unfolding five_minutes_class
 returns c =
     let first = styled_decimal-two_digits _ (c.args.minute / 5 * 5) c.laid_out.ensures (omega arith) in
     let next = styled_decimal-two_digits _ ((c.args.minute / 5 * 5 + 5) % 60) c.laid_out-2.ensures (omega arith) in
-    c.from_string.ensures ∙ c.in_ok-format.ensures.ok ∙ rw (first, next) refl
+    c.in_ok-from_string.ensures ∙ c.in_ok-format.ensures.ok ∙ rw (first, next) refl

@@ -6,4 +6,4 @@ use Rattle.cfa_classes.proofs.calendar.hour_class.Goals as goal
 pub returns : goal.returns
 unfolding hour_class
 returns c =
-    c.from_string.ensures ∙ c.in_ok-format.ensures.ok ∙ ap (λ d. 72 ∷ 114 ∷ d) (styled_decimal-two_digits _ _ c.laid_out.ensures (omega arith))
+    c.in_ok-from_string.ensures ∙ c.in_ok-format.ensures.ok ∙ ap (λ d. 72 ∷ 114 ∷ d) (styled_decimal-two_digits _ _ c.laid_out.ensures (omega arith))

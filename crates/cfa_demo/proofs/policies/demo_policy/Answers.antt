@@ -15,7 +15,7 @@ loop-k-preserved c =
 pub returns-clause-text : goal.returns-clause-text
 returns-clause-text c =
     let all : c.loop-k.k ≡ c.args.n = omega arith in
-    c.from_string.ensures ∙ c.in_ok-push_str.ensures.bytes
+    c.in_ok-from_string.ensures ∙ c.in_ok-push_str.ensures.bytes
     ∙ ap (λ rest. string_bytes c.loop-k.text ++ rest) (sym the_end)
     ∙ ap (λ text. text ++ text_of ending) (c.loop-k.invariant ∙ ap (λ n. text_of (opening ++ promise_lines n)) all)
     ∙ sym (with_the_end c.args.n)

@@ -13,7 +13,7 @@ range-dir-requires-clause-end_boundary t c =
 pub returns-in-Err-clause-err : goal.returns-in-Err-clause-err
 returns-in-Err-clause-err t c =
     let missing = absent c.get.result _ c.get.ensures (sym c.is_some.ensures ∙ c.if-is_some.false) in
-    let made = rw c.in_ok-from_str.ensures.ok at c.in_ok-insert.ensures.ok in
+    let made = rw c.in_ok-from_text.ensures at c.in_ok-insert.ensures.ok in
     c.remove.ensures
     ∙ ap (λ (m : NodeMap). map.remove m c.range-dir.result.now) (c.in-Err.ensures.err ∙ made)
     ∙ remove-insert c.args.rows.now c.range-dir.result.now (Dir c.in_ok-root_perms.field-0) missing

@@ -1,5 +1,4 @@
-use Rattle.std.proofs.Common.{◌∙◌}
-use Rattle.std.specs.String.{string_bytes}
+use Rattle.std.proofs.Common.{refl, ◌∙◌}
 use Rattle.cfa_walk.proofs.WaitLemmas.{wait_put, wait_removed}
 use Rattle.cfa_walk.proofs.states.set_wait.Goals as goal
 use Rattle.cfa_walk.proofs.states.set_wait.Goals.{in-None, in-Some+in_ok-insert-in-Some}
@@ -13,6 +12,6 @@ returns c = λ other.
           wait_removed m old c.taken-map.ensures w.as_str.result.now c.args.path w.as_str.ensures c.match-waits.map c.args.waits other
           w.in-None.is (w.map-is ∙ w.remove.ensures)
       | in-Some+in_ok-insert-in-Some w ↦
-          wait_put m old c.taken-map.ensures (string_bytes w.into_string.result) c.args.path w.into_string.ensures c.match-waits.map c.args.waits other
+          wait_put m old c.taken-map.ensures c.args.path c.args.path refl c.match-waits.map c.args.waits other
           w.in-Some.wait w.in-Some.is (w.map-is ∙ w.in_ok-insert-in-Some.ensures.ok)
     ]

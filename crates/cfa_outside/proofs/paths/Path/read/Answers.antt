@@ -6,5 +6,5 @@ use Rattle.cfa_outside.proofs.paths.Path.read.Goals as goal
 pub invariant_of-result : goal.invariant_of-result
 unfolding path_of
 invariant_of-result c =
-    let is : path_of c.args.text.now ≡ Some c.from_string.result = search rules in
-    path_again c.args.text.now c.from_string.result is
+    let is : path_of c.args.text.now ≡ Some c.in_ok-text.text = search rules in
+    path_again c.args.text.now c.in_ok-text.text is
