@@ -55,17 +55,6 @@ impl From<cfa_base::NoMemory> for EditErr {
     }
 }
 
-impl From<cfa_lines::NoMemory> for EditErr {
-    ghost use Rattle.cfa_edits.specs.declared.edits.EditErr.TheVariants.{NoMemory};
-    ghost use Rattle.std.specs.Prelude.{◌≡◌};
-
-    ghost from_gives = { λ _ e. e ≡ NoMemory };
-
-    fn from(_: cfa_lines::NoMemory) -> Self {
-        EditErr::NoMemory
-    }
-}
-
 impl From<AllocError> for EditErr {
     ghost use Rattle.cfa_edits.specs.declared.edits.EditErr.TheVariants.{NoMemory};
     ghost use Rattle.std.specs.Prelude.{◌≡◌};

@@ -38,6 +38,5 @@ pub fn join_lines(alloc: Global, lines: &Names) -> Result<Name, NoMemory>
 fn join(alloc: Global, lines: &Names) -> Result<Name, EditErr>
     ensures { IfOk result (λ text. text ≡ text_of lines.now) }
 {
-    let text = deck_of(alloc, lines)?.to_text(alloc)?;
-    Ok(Name::from_string(text.into_string()))
+    Ok(deck_of(alloc, lines)?.to_text(alloc)?)
 }

@@ -2,7 +2,7 @@
 ghost use Rattle.std.specs.Prelude.{◌≡◌, ℕ, List, [], ◌∷◌, ◌++◌, ◌+◌, ◌<◌, ◌≤◌, ◌^◌, length, map, IfOk, OnOk, OnErr, option_copied, slice_get, remove, insert, string_bytes, vec_len, vec_capacity};
 ghost use Rattle.cfa_lines.specs.Decks.{lines_of, parts_of, lines_of_parts, text_of, lines_at};
 
-use crate::{Name, NoMemory};
+use cfa_base::{Name, NoMemory};
 use std::alloc::Global;
 use std::marker::Model;
 

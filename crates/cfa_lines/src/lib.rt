@@ -2,7 +2,5 @@
 #![tactic(auto)]
 
 mod deck;
-mod texts;
 
 pub use deck::Deck;
-pub use texts::{Name, NoMemory};
