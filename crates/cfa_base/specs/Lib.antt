@@ -8,6 +8,7 @@ pub mod Patterns
 pub mod CompiledPatterns
 pub mod Scanned
 pub mod Decimals
+pub mod Octal
 pub mod Escapes
 pub mod Index
 pub mod IndexTables

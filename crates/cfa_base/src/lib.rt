@@ -7,6 +7,7 @@ mod escapes;
 mod index;
 mod keys;
 mod limits;
+mod octal;
 mod parts;
 mod patterns;
 mod places;
@@ -25,6 +26,7 @@ pub use limits::{
     LAST_MOMENT, MOST_COMBINATIONS, MOST_FILE_BYTES, MOST_INPUTS, MOST_SOURCE_BYTES,
     MOST_TEXT_BYTES,
 };
+pub use octal::are_octal_digits;
 pub use parts::Parts;
 pub use patterns::{How, Matcher, Pattern, PatternErr, Patterns};
 pub use places::{Place, PromiseId, is_before};

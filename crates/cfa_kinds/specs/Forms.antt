@@ -3,6 +3,7 @@ use Rattle.std.specs.Prelude.{ℕ, Bool, true, false, ◌||◌, ◌&&◌, ◌==�
 use Rattle.std.specs.List.{list_all}
 use Rattle.std.specs.Str.{bytes_eq, all_ascii_digits}
 use Rattle.std.specs.Str.Parse.{digits_value}
+use Rattle.cfa_base.specs.Octal.{is_octal_digit}
 use Rattle.cfa_kinds.specs.declared.kinds.Form.{Form}
 use Rattle.cfa_kinds.specs.declared.kinds.Form.TheVariants.{AnyText, Boolean, WholeNumber, ServicePolicy, LinkChoice, Digest, NoBackup, Mode, Minutes, Side, End, Occurrences, Character, FieldNumber, FieldOperation}
 
@@ -35,9 +36,6 @@ abbrev pub is_number_from : (least greatest : ℕ) → List ℕ → Bool
 is_number_from least greatest text =
     nat_le (length text) 10 && (all_ascii_digits text && (has_no_leading_zero text && (
     nat_le least (digits_value 10 text) && nat_le (digits_value 10 text) greatest)))
-
-abbrev pub is_octal_digit : ℕ → Bool
-is_octal_digit b = nat_le 48 b && nat_le b 55
 
 abbrev pub is_mode : List ℕ → Bool
 is_mode text = (length text == 3 || length text == 4) && list_all is_octal_digit text

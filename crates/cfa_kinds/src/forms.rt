@@ -1,11 +1,11 @@
 // The forms that a text of an attribute may be asked to have.
 ghost use Rattle.std.specs.Prelude.{◌≡◌, ◌<◌, ◌≤◌, ◌&&◌, IsTrue, length, nat_le, chars};
-ghost use Rattle.std.specs.List.{list_all};
 ghost use Rattle.std.specs.Str.{all_ascii_digits};
 ghost use Rattle.std.specs.Str.Parse.{digits_value};
-ghost use Rattle.cfa_kinds.specs.Forms.{is_boolean, is_service_policy, is_digits, is_whole_number, has_no_leading_zero, is_number_from, is_octal_digit, is_mode, has_form, minutes_written};
+ghost use Rattle.cfa_kinds.specs.Forms.{is_boolean, is_service_policy, is_digits, is_whole_number, has_no_leading_zero, is_number_from, is_mode, has_form, minutes_written};
 
 use crate::kinds::Form;
+use cfa_base::{are_digits, are_octal_digits};
 
 #[tactic(auto, unfolding(crate::specs::Forms::is_boolean))]
 fn is_boolean(text: &str) -> bool
@@ -21,21 +21,10 @@ fn is_service_policy(text: &str) -> bool
     matches!(text, "start" | "stop" | "enable" | "disable" | "restart")
 }
 
-fn are_ascii_digits(text: &[u8]) -> bool
-    ensures { result ≡ all_ascii_digits text.now }
-{
-    for byte in text {
-        if !byte.is_ascii_digit() {
-            return false;
-        }
-    }
-    true
-}
-
 fn is_digits(text: &[u8]) -> bool
     ensures { result ≡ is_digits text.now }
 {
-    matches!(text.len(), 1..=18) && are_ascii_digits(text)
+    matches!(text.len(), 1..=18) && are_digits(text)
 }
 
 fn is_whole_number(text: &[u8]) -> bool
@@ -75,21 +64,9 @@ fn is_number_from(least: u64, greatest: u64, text: &str) -> bool
     ensures { result ≡ is_number_from least greatest text.now }
 {
     text.len() <= 10
-        && are_ascii_digits(text.as_bytes())
+        && are_digits(text.as_bytes())
         && has_no_leading_zero(text.as_bytes())
         && lies_between(least, greatest, text)
-}
-
-fn is_octal_digit(byte: u8) -> bool
-    ensures { result ≡ is_octal_digit byte }
-{
-    matches!(byte, b'0'..=b'7')
-}
-
-fn are_octal_digits(text: &[u8]) -> bool
-    ensures { result ≡ list_all is_octal_digit text.now }
-{
-    text.iter().all(|byte| is_octal_digit(*byte))
 }
 
 fn is_mode(text: &[u8]) -> bool

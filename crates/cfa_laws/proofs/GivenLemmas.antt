@@ -11,7 +11,8 @@ use Rattle.std.proofs.lemmas.List.Elements.{All-nil, All-cons, All-append}
 use Rattle.std.proofs.Math.Nat.{pow-le-pow_right}
 use Rattle.cfa_base.specs.declared.limits.TheConstants.{MOST_FILE_BYTES}
 use Rattle.cfa_tree.specs.Tree.{ValueTree, BlockTree}
-use Rattle.cfa_kinds.specs.Forms.{is_octal_digit, is_mode}
+use Rattle.cfa_base.specs.Octal.{is_octal_digit}
+use Rattle.cfa_kinds.specs.Forms.{is_mode}
 use Rattle.cfa_vars.specs.Named.{thing_at}
 use Rattle.cfa_vars.specs.Expansion.{Chosen}
 use Rattle.cfa_outside.specs.Paths.{path_of}

@@ -7,7 +7,8 @@ use Rattle.std.proofs.lemmas.Bool.Decides.{nat_tests}
 use Rattle.std.proofs.lemmas.Int.Digits.{digits_value-lt}
 use Rattle.std.proofs.lemmas.Str.Parse.{without_leading_plus_none}
 use Rattle.std.proofs.Math.Nat.{pow-le-pow_right}
-use Rattle.cfa_kinds.specs.Forms.{is_octal_digit, is_mode}
+use Rattle.cfa_base.specs.Octal.{is_octal_digit}
+use Rattle.cfa_kinds.specs.Forms.{is_mode}
 use Rattle.cfa_resolve.specs.lemmas.Octal.{octal_digits}
 
 not_plus : (b : ℕ) → is_octal_digit b ≡ true → b ≡ 43 → ⊥

@@ -5,8 +5,8 @@ use Rattle.std.proofs.lemmas.Bool.Decides.{nat_tests}
 use Rattle.std.specs.Prelude.{nat_le}
 use Rattle.std.specs.List.{list_all}
 use Rattle.cfa_base.specs.Lacking.{Lacks}
+use Rattle.cfa_base.specs.Octal.{is_octal_digit}
 use Rattle.cfa_rows.specs.lemmas.Cuts.{Lacks-from_test, Lacks-cons}
-use Rattle.cfa_tables.specs.Fields.{is_octal_digit}
 use Rattle.cfa_tables.specs.Tables.{mode_text, octal_digit, IsMode}
 
 pub mode_length : (mode : ℕ) → length (mode_text mode) ≡ 4

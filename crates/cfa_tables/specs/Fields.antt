@@ -1,5 +1,5 @@
--- Of the code alone: a line of four fields, with a space between them, and octal digits.
-use Rattle.std.specs.Prelude.{◌≡◌, ℕ, List, Bool, ◌&&◌, nat_le}
+-- Of the code alone: a line of four fields, with a space between them.
+use Rattle.std.specs.Prelude.{◌≡◌, ℕ, List}
 use Rattle.cfa_base.specs.Lacking.{Lacks}
 use Rattle.cfa_rows.specs.Rows.{◌then◌}
 
@@ -13,6 +13,3 @@ pub record IsFourFields (line first second third fourth : List ℕ) : Type 0 whe
 -- no four fields are the line
 abbrev pub HasFewerFields : List ℕ → Type 0
 HasFewerFields line = (first second third fourth : List ℕ) → IsFourFields line first second third fourth → ⊥
-
-abbrev pub is_octal_digit : ℕ → Bool
-is_octal_digit b = nat_le 48 b && nat_le b 55

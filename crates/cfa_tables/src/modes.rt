@@ -1,23 +1,9 @@
 // Modes in octal digits.
 ghost use Rattle.std.specs.Prelude.{◌≡◌, ◌++◌, OnOk};
-ghost use Rattle.std.specs.List.{list_all};
 ghost use Rattle.cfa_rows.specs.Rows.{Reads};
-ghost use Rattle.cfa_tables.specs.Fields.{is_octal_digit};
 ghost use Rattle.cfa_tables.specs.Tables.{IsMode, mode_text, octal_digit};
 
-use cfa_base::{Bytes, NoMemory};
-
-fn is_octal_digit(byte: u8) -> bool
-    ensures { result ≡ is_octal_digit byte }
-{
-    matches!(byte, b'0'..=b'7')
-}
-
-fn are_octal_digits(text: &[u8]) -> bool
-    ensures { result ≡ list_all is_octal_digit text.now }
-{
-    text.iter().all(|byte| is_octal_digit(*byte))
-}
+use cfa_base::{Bytes, NoMemory, are_octal_digits};
 
 /// The mode that a text is in four octal digits.
 pub fn read_mode(field: &[u8]) -> Option<u16>

@@ -5,8 +5,8 @@ use Rattle.std.specs.List.{list_all}
 use Rattle.std.specs.Str.Parse.{AllDigits}
 use Rattle.std.proofs.lemmas.Bool.{and_parts}
 use Rattle.std.proofs.lemmas.Bool.Decides.{nat_tests}
-use Rattle.cfa_kinds.specs.Forms.{is_octal_digit}
 use Rattle.cfa_resolve.specs.KeyTexts.{octal_digit}
+use Rattle.cfa_base.specs.Octal.{is_octal_digit}
 
 octal_value : (b : ℕ) → is_octal_digit b ≡ true → digit_value b < 8
 octal_value b h = grind (arith, nat_tests)
