@@ -72,6 +72,16 @@ impl Name {
     }
 }
 
+/// An equal text of its own, where there is one.
+pub fn copy_name(alloc: Global, name: Option<&Name>) -> Result<Option<Name>, NoMemory>
+    ensures { IfOk result (λ n. n ≡ option_copied name.entry) }
+{
+    match name {
+        Some(name) => Ok(Some(name.copy(alloc)?)),
+        None => Ok(None),
+    }
+}
+
 /// A list of texts, in order.
 #[derive(Debug, Drop)]
 pub struct Names {

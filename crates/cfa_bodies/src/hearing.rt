@@ -5,7 +5,7 @@ ghost use Rattle.cfa_vars.specs.Named.{thing_at};
 ghost use Rattle.cfa_bodies.specs.Bodies.{said_in, all_said, is_many, is_over, first_unresolved, heard};
 
 use crate::sayings::{Said, Sayings, thing_at};
-use cfa_base::{MOST_COMBINATIONS, Name, NoMemory};
+use cfa_base::{MOST_COMBINATIONS, Name, NoMemory, copy_name};
 use std::alloc::Global;
 use std::marker::Model;
 
@@ -140,15 +140,6 @@ fn first_unresolved(bodies: &[(Name, Sayings)]) -> Option<&Option<Name>>
     None
 }
 
-fn copy_name(alloc: Global, name: &Option<Name>) -> Result<Option<Name>, NoMemory>
-    ensures { IfOk result (λ n. n ≡ name.now) }
-{
-    match name {
-        Some(name) => Ok(Some(name.copy(alloc)?)),
-        None => Ok(None),
-    }
-}
-
 /// What is heard: something unresolved before a list that is too long, and that before a text that is.
 #[tactic(auto, unfolding(crate::specs::Bodies::heard))]
 pub fn hear(alloc: Global, bodies: &Bodies) -> Result<Heard, NoMemory>
@@ -156,7 +147,7 @@ pub fn hear(alloc: Global, bodies: &Bodies) -> Result<Heard, NoMemory>
 {
     let items = bodies.items.as_slice();
     if let Some(name) = first_unresolved(items) {
-        return Ok(Heard::Lacks(copy_name(alloc, name)?));
+        return Ok(Heard::Lacks(copy_name(alloc, name.as_ref())?));
     }
     if is_any_many(items) {
         return Ok(Heard::TooMany);

@@ -1,5 +1,5 @@
 // What the expressions of a classes promise say.
-ghost use Rattle.std.specs.Prelude.{◌≡◌, IfOk, map, option_copied};
+ghost use Rattle.std.specs.Prelude.{◌≡◌, IfOk, map};
 ghost use Rattle.cfa_base.specs.Patterns.{SizeRefusal};
 ghost use Rattle.cfa_classes.specs.Raised.{greater_in};
 ghost use Rattle.cfa_functions.specs.Builds.{IsBuilt, pattern_of_call, refused_in};
@@ -17,7 +17,7 @@ ghost use Rattle.cfa_defines.specs.SeenContexts.{variables_of, status_of, value_
 use crate::combining::held_list;
 use crate::maybes::first_maybe;
 use crate::saying::{Join, Said};
-use cfa_base::{Name, NoMemory, Patterns};
+use cfa_base::{Name, NoMemory, Patterns, copy_name};
 use cfa_classes::{ExprErr, Status, Statuses, read_expr, value};
 use cfa_functions::{Answer, CallErr, ValueText, call, referred_list, text_of_value};
 use cfa_tree::{Promise, Value};
@@ -34,15 +34,6 @@ pub(crate) struct Context<'a> {
     pub local: &'a Statuses,
 }
 
-fn copied(alloc: Global, name: Option<&Name>) -> Result<Option<Name>, NoMemory>
-    ensures { IfOk result (λ n. n ≡ option_copied name.entry) }
-{
-    match name {
-        Some(name) => Ok(Some(name.copy(alloc)?)),
-        None => Ok(None),
-    }
-}
-
 // What a class text says.
 fn text_said(
     alloc: Global,
@@ -55,7 +46,7 @@ fn text_said(
 {
     match read_expr(alloc, content) {
         Ok(expr) => {
-            let maybe = copied(alloc, first_maybe(&expr, global, local))?;
+            let maybe = copy_name(alloc, first_maybe(&expr, global, local))?;
             Ok(Said::Says(value(&expr, global, local), maybe))
         }
         Err(ExprErr::BadExpression) => Ok(Said::NoExpression),

@@ -5,7 +5,7 @@ ghost use Rattle.cfa_edits.specs.Scripts.{AreEdits};
 ghost use Rattle.cfa_scripts.specs.EditScripts.{edit_in, edits_among, unresolved_or, first_unresolved, first_handed, first_bad, concluded};
 
 use crate::contributing::Contribution;
-use cfa_base::{Name, NoMemory, Parts};
+use cfa_base::{Name, NoMemory, Parts, copy_name};
 use cfa_edits::{Edit, Script};
 use std::alloc::Global;
 
@@ -95,15 +95,6 @@ fn edits_among(alloc: Global, contributions: Vec<Contribution>) -> Result<Vec<Ed
     Ok(edits)
 }
 
-fn copy_name(alloc: Global, name: &Option<Name>) -> Result<Option<Name>, NoMemory>
-    ensures { IfOk result (λ n. n ≡ name.now) }
-{
-    match name {
-        Some(name) => Ok(Some(name.copy(alloc)?)),
-        None => Ok(None),
-    }
-}
-
 /// What contributions come to: one that is unresolved goes before all, then the first that is too many or too long, and then
 /// the first that can't be made.
 #[tactic(auto, unfolding(crate::specs::EditScripts::concluded))]
@@ -115,7 +106,7 @@ pub(crate) fn conclude(
     ensures { IfOk result (λ s. s ≡ concluded contributions) }
 {
     if let Some(name) = first_unresolved(contributions.as_slice()) {
-        return Ok(Scripted::Unresolved(copy_name(alloc, name)?));
+        return Ok(Scripted::Unresolved(copy_name(alloc, name.as_ref())?));
     }
     if let Some(handed) = first_handed(contributions.as_slice()) {
         return Ok(handed);
