@@ -8,8 +8,8 @@ ghost use Rattle.cfa_acts.specs.Settling.{keeps_content};
 
 use crate::Act;
 use crate::edits::keeps_content;
-use crate::same::{are_same_names, is_same_name, is_same_path};
-use cfa_base::{Bytes, Name, Names, NoMemory};
+use crate::same::is_same_path;
+use cfa_base::{Bytes, Name, Names, NoMemory, are_same_names, is_same_name};
 use cfa_edits::Script;
 use cfa_outside::Path;
 use std::alloc::Global;

@@ -6,10 +6,9 @@ ghost use Rattle.cfa_acts.specs.Acts.{decision};
 ghost use Rattle.cfa_acts.specs.Settling.{leaves, keeps_content, puts_text};
 ghost use Rattle.cfa_acts.specs.Seeing.{Sees, IsWhole, edit_refusal, line_decision, edit_decision};
 
-use crate::same::are_same_names;
 use crate::seeing::{SeeErr, see_bytes, see_look};
 use crate::{Act, Decision, Reason};
-use cfa_base::{Bytes, MOST_FILE_BYTES, Name, Names, NoMemory};
+use cfa_base::{Bytes, MOST_FILE_BYTES, Name, Names, NoMemory, are_same_names};
 use cfa_edits::{EditErr, Script, join_lines, split_lines};
 use cfa_outside::{Change, Look, Path, Site};
 use std::alloc::Global;

@@ -21,4 +21,4 @@ pub use laws::{
     has_script, kept_where_post_holds, needed_change_fits, needed_change_keeps_post,
     needed_change_makes_post, settles_as_lines,
 };
-pub use same::{are_same_acts, are_same_names, is_same_name};
+pub use same::are_same_acts;

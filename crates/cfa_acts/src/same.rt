@@ -1,19 +1,12 @@
-// Which names, paths and acts are the same.
+// Which paths and acts are the same.
 ghost use Rattle.std.specs.Prelude.{◌≡◌};
 ghost use Rattle.std.specs.Cmp.Lexicographic.{pointwise};
 ghost use Rattle.std.specs.Str.{bytes_eq};
 ghost use Rattle.cfa_acts.specs.Same.{is_same_mode, is_same_flag, is_same};
 
 use crate::Act;
-use cfa_base::Name;
+use cfa_base::{are_same_names, is_same_name};
 use cfa_outside::Path;
-
-/// Whether the names have equal texts.
-pub fn is_same_name(name: &Name, other: &Name) -> bool
-    ensures { result ≡ bytes_eq name.now other.now }
-{
-    name.as_str() == other.as_str()
-}
 
 /// Whether the paths have equal texts.
 pub fn is_same_path(path: &Path, other: &Path) -> bool
@@ -36,21 +29,6 @@ fn is_same_flag(flag: bool, other: bool) -> bool
     ensures { result ≡ is_same_flag flag other }
 {
     if flag { other } else { !other }
-}
-
-/// Whether the lists have equal texts.
-pub fn are_same_names(names: &[Name], others: &[Name]) -> bool
-    ensures { result ≡ pointwise bytes_eq names.now others.now }
-{
-    if names.len() != others.len() {
-        return false;
-    }
-    for (i, name) in names.iter().enumerate() {
-        if !is_same_name(name, &others[i]) {
-            return false;
-        }
-    }
-    true
 }
 
 fn is_same(act: &Act, other: &Act) -> bool

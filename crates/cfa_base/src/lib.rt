@@ -31,7 +31,7 @@ pub use parts::Parts;
 pub use patterns::{How, Matcher, Pattern, PatternErr, Patterns};
 pub use places::{Place, PromiseId, is_before};
 pub use text_maps::TextMap;
-pub use texts::{Name, Names, copy_name};
+pub use texts::{Name, Names, are_same_names, copy_name, is_same_name};
 pub use tokens::Kind;
 pub use want_of_memory::NoMemory;
 pub use words::{is_name, is_word, is_word_byte, word_len};

@@ -1,6 +1,8 @@
 // Texts, and lists of texts.
-ghost use Rattle.std.specs.Prelude.{◌≡◌, List, ℕ, [], ◌∷◌, ◌++◌, IfOk, OnOk, OnErr, option_copied, slice_get};
 ghost use Rattle.std.specs.Rc.{rc_str_bytes};
+ghost use Rattle.std.specs.Prelude.{◌≡◌, ◌↔◌, IsTrue, List, ℕ, [], ◌∷◌, ◌++◌, IfOk, OnOk, OnErr, option_copied, slice_get};
+ghost use Rattle.std.specs.Cmp.Lexicographic.{pointwise};
+ghost use Rattle.std.specs.Str.{bytes_eq};
 ghost use Rattle.std.specs.String.{string_bytes};
 
 use crate::NoMemory;
@@ -70,6 +72,13 @@ impl Name {
         let text = self.text.clone()?;
         Ok(Name { text })
     }
+}
+
+/// Whether the names have equal texts.
+pub fn is_same_name(name: &Name, other: &Name) -> bool
+    ensures { result ≡ bytes_eq name.now other.now }
+{
+    name.as_str() == other.as_str()
 }
 
 /// An equal text of its own, where there is one.
@@ -144,4 +153,25 @@ impl Names {
         }
         Ok(Names { items })
     }
+    /// Whether the other list has equal texts.
+    pub fn equals(&self, other: &Names) -> bool
+        ensures { IsTrue result ↔ (self.now ≡ other.now) }
+    {
+        are_same_names(self.as_slice(), other.as_slice())
+    }
+}
+
+/// Whether the lists have equal texts.
+pub fn are_same_names(names: &[Name], others: &[Name]) -> bool
+    ensures { result ≡ pointwise bytes_eq names.now others.now }
+{
+    if names.len() != others.len() {
+        return false;
+    }
+    for (i, name) in names.iter().enumerate() {
+        if !is_same_name(name, &others[i]) {
+            return false;
+        }
+    }
+    true
 }

@@ -85,7 +85,7 @@ impl Script {
         ensures { IfOk result (λ yes. IsTrue yes ↔ (edited self.now lines.now ≡ Ok lines.now)) }
     {
         match self.apply(alloc, lines) {
-            Ok(left) => Ok(are_equal(&left, lines)),
+            Ok(left) => Ok(left.equals(lines)),
             Err(EditErr::NoAnchor) => Ok(false),
             Err(EditErr::FieldCount) => Ok(false),
             Err(EditErr::NoMemory) => Err(NoMemory),
@@ -97,23 +97,6 @@ impl Script {
 pub fn texts_tell_scripts()
     ensures { TextsTellScripts }
 {}
-
-// Whether two lists have equal texts.
-fn are_equal(lines: &Names, others: &Names) -> bool
-    ensures { IsTrue result ↔ (lines.now ≡ others.now) }
-{
-    let left = lines.as_slice();
-    let right = others.as_slice();
-    if left.len() != right.len() {
-        return false;
-    }
-    for (i, line) in left.iter().enumerate() {
-        if line.as_str() != right[i].as_str() {
-            return false;
-        }
-    }
-    true
-}
 
 // Edits the lines of a deck, one edit after the other.
 fn edit_deck(alloc: Global, deck: &mut Deck, edits: &[Edit]) -> Result<(), EditErr>

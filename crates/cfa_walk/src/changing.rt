@@ -4,8 +4,7 @@ ghost use Rattle.std.specs.Option.{option_or};
 ghost use Rattle.cfa_vars.specs.Named.{thing_at};
 ghost use Rattle.cfa_walk.specs.Later.{IsRaised};
 
-use cfa_acts::{are_same_names, is_same_name};
-use cfa_base::{Name, NoMemory, PromiseId};
+use cfa_base::{Name, NoMemory, PromiseId, are_same_names, is_same_name};
 use cfa_classes::Status;
 use cfa_outcomes::Environment;
 use cfa_vars::{Datum, Scope};
