@@ -1,7 +1,6 @@
 // What searches many texts for one pattern.
-ghost use Rattle.std.specs.Prelude.{◌≡◌, ℕ, List, true, false, IfOk};
+ghost use Rattle.std.specs.Prelude.{◌≡◌, IfOk};
 ghost use Rattle.cfa_base.specs.Patterns.{matches_in, replaced};
-ghost use Rattle.regex.specs.Strings.{IsLiteral};
 
 use crate::{How, Name, NoMemory};
 use regex::{Regex, Template};
@@ -50,35 +49,9 @@ impl<'p> Matcher<'p> {
     {
         let value = Template::literal(alloc, with.as_str())?;
         if all {
-            self.replace_all(alloc, text, &value)
+            Ok(Name::from_string(self.inner.replace_all(alloc, text, &value)?)?)
         } else {
-            self.replace_first(alloc, text, &value)
+            Ok(Name::from_string(self.inner.replace(alloc, text, &value)?)?)
         }
-    }
-
-    fn replace_all(
-        &mut self,
-        alloc: Global,
-        text: &str,
-        template: &Template,
-    ) -> Result<Name, NoMemory>
-        ensures value { (value : List ℕ) → IsLiteral template.now value
-            → IfOk result (λ name. name ≡ replaced self.old text.now value true) }
-        ensures same { self.new ≡ self.old }
-    {
-        Ok(Name::from_string(self.inner.replace_all(alloc, text, template)?)?)
-    }
-
-    fn replace_first(
-        &mut self,
-        alloc: Global,
-        text: &str,
-        template: &Template,
-    ) -> Result<Name, NoMemory>
-        ensures value { (value : List ℕ) → IsLiteral template.now value
-            → IfOk result (λ name. name ≡ replaced self.old text.now value false) }
-        ensures same { self.new ≡ self.old }
-    {
-        Ok(Name::from_string(self.inner.replace(alloc, text, template)?)?)
     }
 }
