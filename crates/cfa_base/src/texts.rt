@@ -1,6 +1,6 @@
 // Texts, and lists of texts.
 ghost use Rattle.std.specs.Rc.{rc_str_bytes};
-ghost use Rattle.std.specs.Prelude.{◌≡◌, ◌↔◌, IsTrue, List, ℕ, [], ◌∷◌, ◌++◌, IfOk, OnOk, OnErr, option_copied, slice_get};
+ghost use Rattle.std.specs.Prelude.{◌≡◌, ◌↔◌, IsTrue, List, ℕ, [], ◌∷◌, ◌++◌, IfOk, OnOk, OnErr, map, option_copied, slice_get};
 ghost use Rattle.std.specs.Cmp.Lexicographic.{pointwise};
 ghost use Rattle.std.specs.Str.{bytes_eq};
 ghost use Rattle.std.specs.String.{string_bytes};
@@ -118,6 +118,17 @@ impl Names {
         ensures { result ≡ items.items }
     {
         Names { items }
+    }
+
+    /// The list of copies of these texts.
+    pub fn from_texts(alloc: Global, texts: &[&str]) -> Result<Names, NoMemory>
+        ensures { IfOk result (λ names. names ≡ map (λ text. text.now) texts.now) }
+    {
+        let mut names = Names::new(alloc);
+        for text in texts {
+            names.push(Name::from_text(alloc, text)?)?;
+        }
+        Ok(names)
     }
 
     /// The texts, without taking memory.

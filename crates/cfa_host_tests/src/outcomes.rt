@@ -51,11 +51,7 @@ fn marks_instances(rt: HostRuntime) -> Result<(), Fail> {
 }
 
 fn environment_of(alloc: Global, classes: &[&str]) -> Result<Environment, NoMemory> {
-    let mut names = Names::new(alloc);
-    for class in classes {
-        names.push(Name::from_text(alloc, class)?)?;
-    }
-    Environment::new(alloc, &names)
+    Environment::new(alloc, &Names::from_texts(alloc, classes)?)
 }
 
 fn raise(

@@ -149,11 +149,7 @@ fn set(alloc: Global, scope: &mut Scope, word: &str, datum: Datum) -> Result<(),
 }
 
 fn list_of(alloc: Global, texts: &[&str]) -> Result<Datum, NoMemory> {
-    let mut items = Names::new(alloc);
-    for text in texts {
-        items.push(Name::from_text(alloc, text)?)?;
-    }
-    Ok(Datum::List(items))
+    Ok(Datum::List(Names::from_texts(alloc, texts)?))
 }
 
 // A list of so many items.

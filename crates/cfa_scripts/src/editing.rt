@@ -145,21 +145,11 @@ fn parts_of<'t>(alloc: Global, text: &'t str) -> Result<Vec<&'t str>, AllocError
     text.split('\n').collect(alloc)
 }
 
-fn names_of(alloc: Global, texts: &[&str]) -> Result<Names, NoMemory>
-    ensures { IfOk result (λ names. names ≡ map (λ text. text.now) texts.now) }
-{
-    let mut names = Names::new(alloc);
-    for text in texts {
-        names.push(Name::from_text(alloc, text)?)?;
-    }
-    Ok(names)
-}
-
 fn block_of(alloc: Global, promiser: &str) -> Result<Names, NoMemory>
     ensures { IfOk result (λ block. block ≡ block_of promiser.now) }
 {
     let parts = parts_of(alloc, promiser)?;
-    names_of(alloc, &parts)
+    Names::from_texts(alloc, &parts)
 }
 
 fn spot_for(anchor: Option<Pattern>, is_before: bool, is_first: bool) -> Spot

@@ -63,11 +63,7 @@ fn long_text(alloc: Global) -> Result<Name, NoMemory> {
 }
 
 fn list_of(alloc: Global, texts: &[&str]) -> Result<Datum, NoMemory> {
-    let mut items = Names::new(alloc);
-    for text in texts {
-        items.push(Name::from_text(alloc, text)?)?;
-    }
-    Ok(Datum::List(items))
+    Ok(Datum::List(Names::from_texts(alloc, texts)?))
 }
 
 // The list l of p and q, the empty lists e and lb, x, and big, which has 65,535 bytes.
