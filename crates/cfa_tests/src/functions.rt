@@ -200,6 +200,26 @@ const ROWS: [(&str, &str, &str, &str); 48] = [
     ("strcmp", "t$(big)bc", "", "unresolved"),
 ];
 
+fn answer_in(
+    alloc: Global,
+    bundles: &Bundles,
+    function: &str,
+    first: &str,
+    second: &str,
+    builder: &mut Builder,
+) -> Result<Answer, CallErr> {
+    let name = Name::from_text(alloc, function)?;
+    let arguments = arguments(alloc, first, second)?;
+    call(
+        alloc,
+        &name,
+        arguments.as_slice(),
+        &bundles.scopes(),
+        &[],
+        builder,
+    )
+}
+
 fn check(
     rt: &impl Abort,
     alloc: Global,
@@ -207,20 +227,11 @@ fn check(
     row: &(&str, &str, &str, &str),
 ) -> Result<(), CallErr> {
     let (function, first, second, told) = *row;
-    let name = Name::from_text(alloc, function)?;
-    let arguments = arguments(alloc, first, second)?;
     let mut builder = Builder {
         refuses: false,
         count: 0,
     };
-    let answer = call(
-        alloc,
-        &name,
-        arguments.as_slice(),
-        &bundles.scopes(),
-        &[],
-        &mut builder,
-    )?;
+    let answer = answer_in(alloc, bundles, function, first, second, &mut builder)?;
     assert!(rt; is_told(&answer, told), "{function} {first} {second}");
     Ok(())
 }
@@ -249,20 +260,11 @@ fn check_refused(
     bundles: &Bundles,
     text: &str,
 ) -> Result<(), Fail> {
-    let name = Name::from_text(alloc, "regcmp")?;
-    let arguments = arguments(alloc, "t$(x)", text)?;
     let mut builder = Builder {
         refuses: true,
         count: 0,
     };
-    let answer = call(
-        alloc,
-        &name,
-        arguments.as_slice(),
-        &bundles.scopes(),
-        &[],
-        &mut builder,
-    );
+    let answer = answer_in(alloc, bundles, "regcmp", "t$(x)", text, &mut builder);
     assert!(rt; is_refused(&answer, "v"));
     assert!(rt; builder.count == 1);
     Ok(())
