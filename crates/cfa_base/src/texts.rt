@@ -81,7 +81,7 @@ pub fn is_same_name(name: &Name, other: &Name) -> bool
     name.as_str() == other.as_str()
 }
 
-/// An equal text of its own, where there is one.
+/// The same text, where there is one.
 pub fn copy_name(alloc: Global, name: Option<&Name>) -> Result<Option<Name>, NoMemory>
     ensures { IfOk result (λ n. n ≡ option_copied name.entry) }
 {
@@ -164,6 +164,7 @@ impl Names {
         }
         Ok(Names { items })
     }
+
     /// Whether the other list has equal texts.
     pub fn equals(&self, other: &Names) -> bool
         ensures { IsTrue result ↔ (self.now ≡ other.now) }

@@ -1,8 +1,7 @@
 -- How many items a list gives, by what stands between its brackets.
-use Rattle.std.proofs.Common.{◌≡◌, ◌∙◌, ap, map}
+use Rattle.std.proofs.Common.{◌≡◌, ◌∙◌, ap, map, nat_lt}
 use Rattle.std.specs.declared.alloc.Global.{Global}
 use Rattle.std.specs.declared.vec.Vec.{Vec}
-use Rattle.std.proofs.Common.{nat_lt}
 use Rattle.cfa_base.specs.declared.limits.TheConstants.{MOST_COMBINATIONS}
 use Rattle.cfa_base.specs.declared.places.Place.{Place}
 use Rattle.cfa_tree.specs.declared.values.Value.{Value, List as Listed}

@@ -2,9 +2,8 @@
 -- nothing as a whole where a name that it reads refers to nothing, where it has too many combinations or its list too many
 -- items, or where a text or call in one of them is too long. A combination sets nothing where a call is unresolved or a number
 -- is none.
-use Rattle.std.specs.Prelude.{ℕ, Bool, true, false, ◌||◌, List, [], length, nat_lt, ◌==◌, Option, Some, None, if◌then◌else◌}
+use Rattle.std.specs.Prelude.{ℕ, Bool, true, false, ◌||◌, List, [], length, nat_lt, ◌==◌, Option, Some, None, if◌then◌else◌, codes}
 use Rattle.std.specs.List.{list_any, filter_map}
-use Rattle.std.specs.Prelude.{codes}
 use Rattle.cfa_base.specs.declared.limits.TheConstants.{MOST_COMBINATIONS}
 use Rattle.cfa_tree.specs.Tree.{ValueTree, AttributeTree, PromiseTree}
 use Rattle.cfa_kinds.specs.declared.kinds.PromiseType.{PromiseType}

@@ -1,13 +1,11 @@
 -- The characters of a line, where a value stands for one of its fields, are the fields with the value set, joined.
 use Rattle.std.proofs.Common.{◌≡◌, ℕ, ◌+◌, ◌-◌, ◌<◌, ◌≤◌, true, false, List, [], ◌∷◌, ◌++◌, length, map, Some, None, refl, sym, ap, ◌∙◌, arith, ⊎_elim, zero, suc}
-use Rattle.std.specs.Prelude.{◌==◌, if◌then◌else◌, slice_set, encode_utf8, encode_utf8_all}
-use Rattle.std.specs.List.{slice_split, onto_first, flat_map}
+use Rattle.std.specs.Prelude.{◌==◌, if◌then◌else◌, slice_set, encode_utf8, encode_utf8_all, nat_lt}
+use Rattle.std.specs.List.{slice_split, onto_first, flat_map, count_by}
 use Rattle.std.proofs.lemmas.Bool.{cases_Bool, cond-true, cond-false, lt-ltb, le-ltb, eqb-true, eq-eqb}
 use Rattle.std.proofs.lemmas.Bool.Decides.{nat_tests}
 use Rattle.std.proofs.lemmas.List.{append_assoc, length-map}
-use Rattle.std.specs.List.{count_by}
 use Rattle.std.specs.Str.{chars}
-use Rattle.std.specs.Prelude.{nat_lt}
 use Rattle.std.proofs.lemmas.List.Splits.{length-slice_split}
 use Rattle.cfa_edits.specs.Edits.{fields_of, joined_fields, with_field}
 use Rattle.cfa_edits.specs.Steps.{written_from}

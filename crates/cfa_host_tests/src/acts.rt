@@ -58,7 +58,7 @@ fn site_of(alloc: Global, failing_call: u32) -> Result<MemorySite, Fail> {
             enabled,
             restarts,
         };
-        world.services.insert(String::from_str(alloc, name)?, row)?;
+        world.services.insert(Name::from_text(alloc, name)?, row)?;
     }
     Ok(MemorySite::new(alloc, world, vec![in alloc; failing_call]?, None)?)
 }

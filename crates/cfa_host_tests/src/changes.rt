@@ -13,7 +13,7 @@ fn add_service(alloc: Global, world: &mut World, name: &str) -> Result<(), Fail>
         enabled: false,
         restarts: 2,
     };
-    world.services.insert(String::from_str(alloc, name)?, row)?;
+    world.services.insert(Name::from_text(alloc, name)?, row)?;
     Ok(())
 }
 

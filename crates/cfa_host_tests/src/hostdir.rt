@@ -41,9 +41,7 @@ fn memory_host(alloc: Global) -> Result<MemorySite, Fail> {
         enabled: true,
         restarts: 0,
     };
-    world
-        .services
-        .insert(String::from_str(alloc, "sshd")?, row)?;
+    world.services.insert(Name::from_text(alloc, "sshd")?, row)?;
     Ok(MemorySite::new(alloc, world, Vec::new(alloc), None)?)
 }
 

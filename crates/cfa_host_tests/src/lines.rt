@@ -44,6 +44,6 @@ fn lines_go_in_and_out(rt: HostRuntime) -> Result<(), Fail> {
     deck.rewind();
     assert!(rt; deck.at() == Some("x"));
     let text = deck.to_text(rt.alloc())?;
-    assert!(rt; text.into_string().as_str() == "x\nb\n");
+    assert!(rt; text.as_str() == "x\nb\n");
     Ok(())
 }

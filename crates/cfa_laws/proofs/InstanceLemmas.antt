@@ -25,8 +25,7 @@ use Rattle.cfa_bodies.specs.Bodies.{Bodies, bodies_of, said_in, text_in, items_i
 use Rattle.cfa_defines.specs.declared.combining.Combined.{Combined}
 use Rattle.cfa_defines.specs.declared.combining.Combined.TheVariants.{Lacks as lacks, TooMany as too_many, TooLong as too_long, Found as found}
 use Rattle.cfa_defines.specs.OwnTexts.{combined, own_reads}
-use Rattle.cfa_served.specs.Served.{body_of, minutes_named, minutes_of}
-use Rattle.cfa_served.specs.Served.{minutes_in as minutes_in_body, or_one}
+use Rattle.cfa_served.specs.Served.{body_of, minutes_named, minutes_of, minutes_in as minutes_in_body, or_one}
 use Rattle.cfa_scripts.specs.declared.scripting.Scripted.{Scripted}
 use Rattle.cfa_scripts.specs.declared.scripting.Scripted.TheVariants.{Script as a_script, Unresolved as no_script, TooMany as script_many, TooLong as script_long, BadPattern as bad_pattern, BadValue as bad_value}
 use Rattle.cfa_resolve.specs.declared.instances.Instance.{Instance}

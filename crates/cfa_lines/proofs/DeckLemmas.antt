@@ -4,7 +4,7 @@ use Rattle.std.proofs.Common.{◌≡◌, ℕ, ◌+◌, ◌-◌, ◌<◌, List, [
 use Rattle.std.specs.List.{remove, flat_map}
 use Rattle.std.proofs.lemmas.List.{reverse-append, append_assoc, append-nil}
 use Rattle.std.proofs.lemmas.Grind.{common_steps, flat_map-append}
-use Rattle.cfa_lines.specs.Decks.{lines_of_parts, parts_of, lines_of, ended, text_of}
+use Rattle.cfa_lines.specs.Decks.{lines_of_parts, lines_of, text_of}
 use Rattle.cfa_lines.specs.lemmas.Removed.{remove_at}
 
 -- the last of the lines behind the place is the one at it

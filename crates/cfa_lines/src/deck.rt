@@ -54,7 +54,7 @@ impl Deck {
             text.push_str(line.as_str())?;
             text.push_str("\n")?;
         }
-        Ok(Name::from_string(text))
+        Ok(Name::from_string(text)?)
     }
 
     /// The line at the place, without taking memory. `None` at the end.

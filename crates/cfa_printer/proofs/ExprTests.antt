@@ -3,7 +3,7 @@ use Rattle.std.proofs.Common.{◌≡◌, refl, sym, ◌∙◌, ap, ℕ, suc, ◌
 use Rattle.std.specs.declared.alloc.Global.{Global}
 use Rattle.std.specs.declared.vec.Vec.{Vec}
 use Rattle.std.proofs.lemmas.List.{drop_all}
-use Rattle.cfa_tree.specs.declared.expressions.Expr.{Expr, Class, Not', And, And', Or, Or', Row_of-Expr, roll-out-Expr}
+use Rattle.cfa_tree.specs.declared.expressions.Expr.{Expr, Class, Not', And, And', Or, Or', roll-out-Expr}
 use Rattle.cfa_tree.specs.declared.expressions.Expr as declared
 use denote.Hole.Carrier
 use Rattle.cfa_tree.specs.Plain.{plain_expr}

@@ -7,21 +7,20 @@ use Rattle.cfa_classes.specs.declared.levels.Status.TheVariants.{No}
 use Rattle.cfa_kinds.specs.declared.kinds.PromiseType.{PromiseType}
 use Rattle.cfa_kinds.specs.declared.kinds.PromiseType.TheVariants as promises
 use Rattle.cfa_vars.specs.declared.scoping.Datum.TheVariants.{Text as text_of, List as list_of}
-use Rattle.cfa_vars.specs.Scopes.{Table}
+use Rattle.cfa_vars.specs.Scopes.{Table, look, key_of}
 use Rattle.cfa_acts.specs.declared.acts.Act.TheVariants.{Create, MakeDir, Delete, Content, Copy, Perms, Bust}
 use Rattle.cfa_acts.specs.declared.acts.Reason.TheVariants as reasons
 use Rattle.cfa_resolve.specs.declared.instances.Instance.{Instance}
 use Rattle.cfa_resolve.specs.declared.instances.Work.{Work}
 use Rattle.cfa_resolve.specs.declared.instances.Work.TheVariants.{Acts, Report}
-use Rattle.cfa_resolve.specs.Instances.{Reached}
-use Rattle.cfa_resolve.specs.Resolution.{resolution}
+use Rattle.cfa_resolve.specs.Instances.{Reached, made_instance}
+use Rattle.cfa_resolve.specs.Resolution.{resolution, made}
 use Rattle.cfa_tree.specs.lemmas.Written.{here, named, quoted, says}
 use Rattle.std.specs.Fmt.{digits}
 use Rattle.cfa_base.specs.Escapes.{escaped, escape_of}
 use Rattle.cfa_kinds.specs.Kinds.{files_attribute, outcome_attribute, methods_attribute, services_attribute, delete_attribute, copy_from_attribute, perms_attribute, classes_body_attribute, action_attribute}
 use Rattle.cfa_kinds.specs.Forms.{is_boolean}
 use Rattle.cfa_vars.specs.References.{reference_at, pieces, list_reference_of}
-use Rattle.cfa_vars.specs.Scopes.{look, key_of}
 use Rattle.cfa_vars.specs.Expansion.{expanded, scalar}
 use Rattle.cfa_vars.specs.Choices.{are_too_many}
 use Rattle.cfa_functions.specs.Calls.{list_given}
@@ -32,8 +31,6 @@ use Rattle.cfa_defines.specs.OwnTexts.{own_reads, combined}
 use Rattle.cfa_bodies.specs.Bodies.{datum_given, bodies_of, heard}
 use Rattle.cfa_resolve.specs.FileActs.{file_acts, service_act, outcome_classes}
 use Rattle.cfa_resolve.specs.KeyTexts.{mode_text, key_text}
-use Rattle.cfa_resolve.specs.Instances.{made_instance}
-use Rattle.cfa_resolve.specs.Resolution.{made}
 
 -- ---- a policy of bodies
 

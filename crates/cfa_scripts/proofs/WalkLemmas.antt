@@ -1,6 +1,5 @@
 -- Walks of edit bundles, one step more.
-use Rattle.std.proofs.Common.{◌≡◌, ◌≤◌, ◌<◌, ◌+◌, ◌∙◌, ℕ, List, [], ◌∷◌, ◌++◌, length, get_or, map, drop, Option, Some, None, ap, sym, subst, refl, arith}
-use Rattle.std.proofs.Common.{inl, inr}
+use Rattle.std.proofs.Common.{◌≡◌, ◌≤◌, ◌<◌, ◌+◌, ◌∙◌, ℕ, List, [], ◌∷◌, ◌++◌, length, get_or, map, drop, Option, Some, None, ap, sym, subst, refl, arith, inl, inr}
 use Rattle.std.proofs.lemmas.List.{drop_more}
 use Rattle.cfa_base.specs.Patterns.{SizeRefusal, refuses}
 use Rattle.cfa_base.specs.Shown.{Shown, HasFailed}
@@ -11,7 +10,7 @@ use Rattle.cfa_kinds.specs.declared.kinds.PromiseType.TheVariants as promises
 use Rattle.cfa_scripts.specs.declared.numbering.Numbered.{Numbered as Held}
 use Rattle.cfa_scripts.specs.declared.walking.Walk.{Walk}
 use Rattle.cfa_scripts.specs.Numbered.{Numbered}
-use Rattle.cfa_scripts.specs.EditBundles.{Around, statuses_at, guard_under, kept_by, guarded, reach, walked_from}
+use Rattle.cfa_scripts.specs.EditBundles.{Around, statuses_at, guard_under, kept_by, guarded, reach, walked_from, with_each, with_origin, raised_after}
 use Rattle.cfa_scripts.specs.ScriptBuilds.{BuiltAt, BuiltAlong}
 use Rattle.cfa_scripts.specs.Walking.{seen_numbered}
 use Rattle.cfa_vars.specs.declared.scoping.Datum.{Datum}
@@ -20,7 +19,6 @@ use Rattle.cfa_vars.specs.Scopes.{Table}
 use Rattle.cfa_classes.specs.Raised.{raised}
 use Rattle.cfa_scripts.specs.declared.raising.HandedRaise.{HandedRaise}
 use Rattle.cfa_scripts.specs.declared.walking.Inside.{Inside}
-use Rattle.cfa_scripts.specs.EditBundles.{with_each, with_origin, raised_after}
 
 pub with_each_push : (table : Table) (name : List ℕ) (values : List Datum) (more : Datum) → with_each table name (values ++ more ∷ []) ≡ put (with_each table name values) name more
 with_each_push table name [] more = refl

@@ -7,7 +7,7 @@ ghost use Rattle.cfa_tree.specs.Plain.{plain_block};
 ghost use Rattle.cfa_served.specs.Served.{if_body, if_bundle, bundle_of, body_of};
 ghost use Rattle.cfa_served.specs.Indexed.{AnswersPlaces, IsIndex, is_name, is_wanted, table_of};
 
-use cfa_base::{NoMemory, TextMap};
+use cfa_base::{Name, NoMemory, TextMap};
 use cfa_kinds::{BodyType, body_word};
 use cfa_tree::{Block, Body, Bundle};
 use std::alloc::Global;
@@ -67,7 +67,7 @@ fn note_place(
     if places.get(name).is_some() {
         return Ok(());
     }
-    places.insert(String::from_str(alloc, name)?, place)
+    places.insert(Name::from_text(alloc, name)?, place)
 }
 
 // The first places of the names of the blocks that are wanted.

@@ -27,8 +27,8 @@ fn bytes_are_kept(rt: HostRuntime) -> Result<(), Fail> {
 #[test]
 fn maps_are_kept(rt: HostRuntime) -> Result<(), Fail> {
     let mut rows = TextMap::new(rt.alloc());
-    rows.insert(String::from_str(rt.alloc(), "a/b")?, 1u8)?;
-    let front = String::from_str(rt.alloc(), "a/")?;
+    rows.insert(Name::from_text(rt.alloc(), "a/b")?, 1u8)?;
+    let front = Name::from_text(rt.alloc(), "a/")?;
     assert!(rt; rows.has_front(&front));
     rows.remove("a/b");
     assert!(rt; rows.get("a/b").is_none());

@@ -1,6 +1,6 @@
 -- The names of several texts, the lists among them, and the choices of their items.
 use Rattle.std.proofs.Common.{◌≡◌, ◌<◌, ◌≤◌, ◌+◌, ◌*◌, ◌==◌, ℕ, suc, zero, min, Bool, true, false, ◌||◌, cond, eqb, nat_lt, List, [], ◌∷◌, ◌++◌, length, map, drop, get_or, find, is_none, Option, Some, None, refl, arith, ⊎_elim, ap, sym, ◌∙◌}
-use Rattle.std.specs.List.{cons_option, flat_map, list_any}
+use Rattle.std.specs.List.{cons_option, flat_map, list_any, slice_get}
 use Rattle.std.specs.Str.{bytes_eq}
 use Rattle.std.proofs.lemmas.List.{append-nil, append_assoc, length-append, length-map, map-append, map-id, drop_more}
 use Rattle.std.proofs.lemmas.List.Concat.{flat_map-append}
@@ -10,7 +10,6 @@ use Rattle.std.proofs.lemmas.Bool.{false≢true, cases_lt, le-ltb}
 use Rattle.std.proofs.lemmas.Bool.Decides.{nat_tests}
 use Rattle.std.proofs.Math.Nat.{mul_assoc}
 use Rattle.std.proofs.lemmas.Option.{slice_get-map, slice_get_within, get_or_from_slice_get}
-use Rattle.std.specs.List.{slice_get}
 use Rattle.std.specs.Option.{option_map}
 use denote.Ref.{Bor}
 use Rattle.indexmap.specs.IndexMap.{insert_entry, insert_all}

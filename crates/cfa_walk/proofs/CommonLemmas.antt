@@ -1,7 +1,6 @@
 -- Promises of common bundles, and common bundles one after the other.
-use Rattle.std.proofs.Common.{◌≡◌, ◌∙◌, ℕ, ◌+◌, ◌<◌, length, take, drop, get_or, map, Bool, true, false, cond, List, [], ◌∷◌, ◌++◌, IsTrue, refl, ap, sym, subst}
+use Rattle.std.proofs.Common.{◌≡◌, ◌∙◌, ℕ, ◌+◌, ◌<◌, length, take, drop, get_or, map, Bool, true, false, cond, List, [], ◌∷◌, ◌++◌, IsTrue, refl, ap, sym, subst, rules}
 use Rattle.std.specs.Prelude.{not, All, Result, Err}
-use Rattle.std.proofs.Common.{rules}
 use Rattle.std.proofs.lemmas.Bool.{false≢true}
 use Rattle.std.proofs.lemmas.List.{map-append, take-append-drop}
 use Rattle.std.proofs.lemmas.List.Elements.{All-get_or, filter-append}

@@ -9,5 +9,5 @@ pub returns : goal.returns
 returns c =
     let none = ap is_some (sym c.get.ensures) ∙ copied_some c.get.result ∙ sym c.is_some.ensures ∙ c.if-is_some.false in
     on_ok_weaker c.insert.result
-    (λ is. place_put c.args.places.now c.insert.new.self c.args.name.now c.args.place none (is ∙ ap (λ key. finite.insert c.args.places.now key c.args.place) c.in_ok-from_str.ensures.ok))
+    (λ is. place_put c.args.places.now c.insert.new.self c.args.name.now c.args.place none (is ∙ ap (λ key. finite.insert c.args.places.now key c.args.place) c.in_ok-from_text.ensures))
     c.insert.ensures.ok

@@ -1,7 +1,6 @@
 use Rattle.std.proofs.Common.{rules, ◌≡◌, ◌++◌, ◌∷◌, [], length}
 use Rattle.cfa_base.proofs.IndexLemmas.{pair_answers_push}
-use Rattle.cfa_base.specs.IndexTables.{Notes}
-use Rattle.cfa_base.specs.IndexTables.{pair_noted}
+use Rattle.cfa_base.specs.IndexTables.{Notes, pair_noted}
 use Rattle.cfa_base.specs.Index.{same_pair}
 use Rattle.cfa_base.proofs.index.PairIndex.add.Goals as goal
 
