@@ -17,6 +17,6 @@ returns-clause-value c =
     let text = c.args.text.now in
     let with = c.args.with.now in
     let plain = rw c.as_str.ensures at c.in_ok-value.ensures in
-    rw c.if-all.false (c.in_ok-from_string-else-all.ensures ∙ (rw c.self.invariant.same at c.in_ok-replace.ensures.value)
+    rw c.if-all.false (c.in_ok-from_string-2.ensures ∙ (rw c.self.invariant.same at c.in_ok-replace.ensures.value)
     ∙ replaced_as_built _ _ _ c.self.invariant.built text (λ k. (c.type_inv.text k).fits) c.in_ok-value.value.pieces.items _ with plain false
     ∙ ap (λ p. replaced p text with false) c.self.view_is)
