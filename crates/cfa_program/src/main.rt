@@ -1,22 +1,11 @@
-//! The agent: runs, shows and checks policies, and audits journals, by the words of its command line.
+//! The agent: runs, shows and checks policies, and audits journals, by the words of its command line, on the real host.
 #![tactic(auto)]
 
-mod agent;
-mod auditing;
-mod ends;
-mod laws;
-mod performing;
-mod preparing;
-#[cfg(test)]
-mod tests;
-mod work;
-
-use agent::agent_main;
 use cfa_base::{Name, NoMemory};
 use cfa_hostdir::{HostInputs, HostSink, HostSite};
+use cfa_main::{agent_main, stop_status};
 use cfa_output::Stop;
 use cfa_outside::RegexPatterns;
-use ends::stop_status;
 use std::alloc::Global;
 use std::env;
 use std::process::ExitCode;

@@ -1,0 +1,15 @@
+use Rattle.cfa_main.proofs.LawLemmas.{one_thing}
+use Rattle.cfa_main.proofs.laws.a_call_does_one_thing.Goals as goal
+
+pub returns : goal.returns
+returns c = one_thing (record {
+  tree_one = c.a_file_has_one_answer.ensures.tree;
+  file_line = c.a_file_has_one_answer.ensures.line;
+  file_both = c.a_file_has_one_answer.ensures.never_both;
+  policy_tree = c.a_policy_has_one_answer.ensures.tree;
+  policy_line = c.a_policy_has_one_answer.ensures.line;
+  policy_both = c.a_policy_has_one_answer.ensures.never_both;
+  journal_one = c.one_journal.ensures.one;
+  journal_both = c.one_journal.ensures.never_both;
+  journal_bad = c.one_journal.ensures.one_bad;
+})
