@@ -11,7 +11,7 @@ use cfa_kinds::PromiseType;
 use cfa_outside::RegexPatterns;
 use cfa_schema::Checked;
 use cfa_tree::{Attribute, Promise};
-use cfa_vars::{Datum, Scope, Scopes};
+use cfa_vars::{Datum, Scope, Scopes, SharedScopes};
 use std::alloc::Global;
 use std::test::Fail;
 
@@ -125,10 +125,11 @@ enum Ask {
 // Whether a promise does what is asked, in the scope of the tests of `resolve`.
 fn does(alloc: Global, ask: Ask, promise: &Promise, own: &Scope) -> Result<bool, Fail> {
     let own_name = Name::from_text(alloc, "main")?;
+    let shared = SharedScopes::new(alloc);
     let scopes = Scopes {
         own,
         own_name: &own_name,
-        shared: &[],
+        shared: &shared,
     };
     match ask {
         Ask::SetsEach => sets_each(alloc, promise, &scopes),

@@ -5,7 +5,7 @@ use cfa_outside::{MemoryInputs, RegexPatterns};
 use cfa_resolve::{Instance, ResolveErr, Resolved, View, is_acting, resolve};
 use cfa_schema::Checked;
 use cfa_sources::read_policy;
-use cfa_vars::{Datum, Scope, Scopes};
+use cfa_vars::{Datum, Scope, Scopes, SharedScopes};
 use std::alloc::Global;
 use std::process::Abort;
 use std::test::Fail;
@@ -231,11 +231,12 @@ fn resolve_in(
         return None;
     }
     let statuses = Statuses::new(alloc);
+    let shared = SharedScopes::new(alloc);
     let view = View {
         scopes: Scopes {
             own,
             own_name: &id.bundle,
-            shared: &[],
+            shared: &shared,
         },
         statuses: &statuses,
         path: &id.bundle,

@@ -7,7 +7,7 @@ use crate::contributing::Contribution;
 use cfa_base::{Name, Parts, TextMap};
 use cfa_classes::Statuses;
 use cfa_schema::Checked;
-use cfa_vars::{Scope, Scopes};
+use cfa_vars::{Scope, Scopes, SharedScopes};
 use std::alloc::Global;
 
 /// What promises of an edit bundle left: its variables, its classes, and the global classes that these go back to.
@@ -33,7 +33,7 @@ pub(crate) struct Walk {
 pub(crate) struct Around<'a> {
     pub checked: &'a Checked,
     pub bundle: &'a Name,
-    pub shared: &'a [(Name, Scope)],
+    pub shared: &'a SharedScopes,
     pub statuses: &'a Statuses,
 }
 

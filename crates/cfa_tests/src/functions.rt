@@ -4,7 +4,7 @@ ghost use Rattle.std.specs.Prelude.{None};
 use cfa_base::{How, Name, Names, NoMemory, Pattern, PatternErr, Patterns, Place};
 use cfa_functions::{Answer, CallErr, ValueList, call, list_of_value};
 use cfa_tree::Value;
-use cfa_vars::{Datum, Scope, Scopes};
+use cfa_vars::{Datum, Scope, Scopes, SharedScopes};
 use std::alloc::Global;
 use std::process::Abort;
 use std::test::Fail;
@@ -37,7 +37,7 @@ impl Patterns for Builder {
 struct Bundles {
     own: Scope,
     own_name: Name,
-    shared: Vec<(Name, Scope)>,
+    shared: SharedScopes,
 }
 
 impl Bundles {
@@ -45,7 +45,7 @@ impl Bundles {
         Scopes {
             own: &self.own,
             own_name: &self.own_name,
-            shared: self.shared.as_slice(),
+            shared: &self.shared,
         }
     }
 }
@@ -79,15 +79,10 @@ fn own_scope(alloc: Global) -> Result<Scope, NoMemory> {
 }
 
 fn two_bundles(alloc: Global) -> Result<Bundles, NoMemory> {
-    let mut other = Scope::new(alloc);
-    set(
-        alloc,
-        &mut other,
-        "x",
-        Datum::Text(Name::from_text(alloc, "w")?),
-    )?;
-    let mut shared = Vec::new(alloc);
-    shared.push((Name::from_text(alloc, "b")?, other))?;
+    let mut shared = SharedScopes::new(alloc);
+    shared.begin(alloc, &Name::from_text(alloc, "b")?)?;
+    let text = Name::from_text(alloc, "w")?;
+    shared.set_at(0, Name::from_text(alloc, "x")?, Datum::Text(text))?;
     Ok(Bundles {
         own: own_scope(alloc)?,
         own_name: Name::from_text(alloc, "main")?,

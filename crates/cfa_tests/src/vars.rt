@@ -1,8 +1,8 @@
 // Worked rows: what texts expand to, and the combinations that their lists give.
 use cfa_base::{Name, Names, NoMemory};
 use cfa_vars::{
-    Choice, ChoiceList, Choices, Datum, Expanded, Scope, Scopes, Variable, combinations, expand,
-    first_reference, list_key, look_up, split_name,
+    Choice, ChoiceList, Choices, Datum, Expanded, Scope, Scopes, SharedScopes, Variable,
+    combinations, expand, first_reference, list_key, look_up, split_name,
 };
 use std::alloc::Global;
 use std::process::Abort;
@@ -13,7 +13,7 @@ use std::test::Fail;
 struct Bundles {
     own: Scope,
     own_name: Name,
-    shared: Vec<(Name, Scope)>,
+    shared: SharedScopes,
 }
 
 fn set_text(alloc: Global, scope: &mut Scope, word: &str, text: &str) -> Result<(), NoMemory> {
@@ -42,10 +42,10 @@ fn set_long(alloc: Global, scope: &mut Scope, size: u32) -> Result<(), NoMemory>
 
 // In `b` only x is set, to `w`.
 fn beside_b(alloc: Global, own: Scope) -> Result<Bundles, NoMemory> {
-    let mut other = Scope::new(alloc);
-    set_text(alloc, &mut other, "x", "w")?;
-    let mut shared = Vec::new(alloc);
-    shared.push((Name::from_text(alloc, "b")?, other))?;
+    let mut shared = SharedScopes::new(alloc);
+    shared.begin(alloc, &Name::from_text(alloc, "b")?)?;
+    let text = Name::from_text(alloc, "w")?;
+    shared.set_at(0, Name::from_text(alloc, "x")?, Datum::Text(text))?;
     Ok(Bundles {
         own,
         own_name: Name::from_text(alloc, "main")?,
@@ -58,7 +58,7 @@ impl Bundles {
         Scopes {
             own: &self.own,
             own_name: &self.own_name,
-            shared: self.shared.as_slice(),
+            shared: &self.shared,
         }
     }
 }

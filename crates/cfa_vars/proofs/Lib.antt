@@ -1,4 +1,5 @@
 pub mod NamedLemmas
+pub mod SharedLemmas
 pub mod NameLemmas
 pub mod ReferenceLemmas
 pub mod ExpansionLemmas

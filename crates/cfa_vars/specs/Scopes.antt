@@ -10,9 +10,7 @@ use Rattle.cfa_vars.specs.declared.looking.Variable.TheVariants.{Text as seen_te
 use Rattle.cfa_base.specs.Lexing.{is_name}
 use Rattle.cfa_vars.specs.References.{is_qualified, bundle_part, word_part}
 use Rattle.cfa_vars.specs.Named.{thing_at}
-
-abbrev pub Table : Type 0
-Table = List (List ℕ × Datum)
+pub use Rattle.cfa_vars.specs.Tables.{Table}
 
 -- what a text can refer to: its own scope with the name of its bundle, which is empty in a body, and the scopes of
 -- other bundles

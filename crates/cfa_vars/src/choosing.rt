@@ -281,7 +281,7 @@ fn choose(alloc: Global, lists: &Lists<'_>) -> Result<ChoiceList, NoMemory>
 /// reference, texts in the order given and each from left to right; each list variable counts once, under its key
 /// (`list_key`), however it is referred to. The first list is outermost. Texts without a list have the one empty
 /// combination, and texts with an empty list have none. `Unresolved` goes before `TooMany`. The time is linear in the
-/// texts and in the combinations, besides a pass over the shared scopes for each qualified name.
+/// texts and in the combinations, besides a logarithm of the shared scopes for each qualified name.
 #[tactic(auto, unfolding(crate::specs::Choices::choices_of))]
 pub fn combinations(alloc: Global, texts: &[Name], scopes: &Scopes<'_>) -> Result<Choices, NoMemory>
     ensures { IfOk result (λ c. c ≡ choices_of (in_scope scopes.now) texts.now) }

@@ -119,7 +119,7 @@ fn fill(
 /// key counts. What is put in is not read again. A name stands for nothing, and is then told as `Unresolved`, where it
 /// refers to no variable that is set (`look_up`), or to a list of which no item is chosen. A `$` that begins no
 /// reference stays, and so does each `@`. `Unresolved` goes before `TooLong`. The time is linear in the text and in
-/// what is put in, besides a pass over the shared scopes for each qualified name and over `choice` for each list.
+/// what is put in, besides a logarithm of the shared scopes for each qualified name and a pass over `choice` for each list.
 #[tactic(auto, unfolding(crate::specs::Expansion::expanded))]
 pub fn expand(
     alloc: Global,

@@ -7,9 +7,11 @@ mod expanding;
 mod looking;
 mod references;
 mod scoping;
+mod sharing;
 
 pub use choosing::{Choice, ChoiceList, Choices, combinations, first_unset_in};
 pub use expanding::{Expanded, expand};
 pub use looking::{Scopes, Variable, constant, list_key, look_up};
 pub use references::{Reference, closing, first_reference, list_reference, split_name};
 pub use scoping::{Datum, Scope};
+pub use sharing::SharedScopes;

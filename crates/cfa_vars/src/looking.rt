@@ -4,17 +4,17 @@ ghost use Rattle.cfa_vars.specs.Named.{thing_at};
 ghost use Rattle.cfa_vars.specs.Scopes.{in_scope, datum_of, constant, is_own, look_in, look, key_of};
 
 use crate::references::split_name;
-use crate::{Datum, Scope};
+use crate::{Datum, Scope, SharedScopes};
 use cfa_base::{Name, Names, is_name};
 
 /// What a text can refer to: the scope of its own bundle with the bundle's name, and the scopes of other bundles, each
-/// under its bundle's name. For the texts of a body `own` holds its parameters and `own_name` is empty. Where two
-/// scopes have one name, the first counts, and one that has the own name doesn't count.
+/// under its bundle's name. For the texts of a body `own` holds its parameters and `own_name` is empty. A shared scope that
+/// has the own name doesn't count.
 #[derive(Clone, Copy)]
 pub struct Scopes<'a> {
     pub own: &'a Scope,
     pub own_name: &'a Name,
-    pub shared: &'a [(Name, Scope)],
+    pub shared: &'a SharedScopes,
 }
 
 /// What a name refers to.
@@ -37,17 +37,6 @@ fn find_in<'a>(scope: &'a Scope, word: &str) -> Option<Variable<'a>>
     ensures { option_map datum_of result ≡ thing_at scope.now word.now }
 {
     Some(seen(scope.find(word)?))
-}
-
-fn find_shared<'a>(shared: &'a [(Name, Scope)], bundle: &str) -> Option<&'a Scope>
-    ensures { option_copied result ≡ thing_at shared.now bundle.now }
-{
-    for scope in shared {
-        if bundle == scope.0.as_str() {
-            return Some(&scope.1);
-        }
-    }
-    None
 }
 
 /// What a word of the bundle `const` stands for: `n` the newline, `t` the tab, `dollar` a `$`. It has no others.
@@ -77,13 +66,12 @@ fn look_in<'a>(scopes: &Scopes<'a>, bundle: &str, word: &str) -> Option<Variable
     if is_own(scopes, bundle) {
         return find_in(scopes.own, word);
     }
-    find_in(find_shared(scopes.shared, bundle)?, word)
+    find_in(scopes.shared.get(bundle)?, word)
 }
 
 /// What a name refers to, without taking memory. A word is a variable of the own scope; `const.n`, `const.t` and
 /// `const.dollar` are the newline, the tab and `$`; another `bundle.word` is a variable of that bundle, the own one
-/// included. `None` where the text is no name or no such variable was set. The look-up goes through the list of shared
-/// scopes from the front.
+/// included. `None` where the text is no name or no such variable was set.
 #[tactic(auto, unfolding(crate::specs::Scopes::look))]
 pub fn look_up<'a>(scopes: &Scopes<'a>, name: &str) -> Option<Variable<'a>>
     ensures { option_map datum_of result ≡ look (in_scope scopes.now) name.now }

@@ -102,18 +102,18 @@ set_here : (path variable : List ℕ) (datum : Datum) (h : History) → scope_in
 set_here path variable datum h = rw (same_text path, scope_in) refl
 
 module _ (s : Setting) (st : State) (h : History) (keeps : Keeps s st h) where
-  names_kept : map first st.shared.items ≡ shared_names s.policy
+  names_kept : map first st.shared ≡ shared_names s.policy
   unfolding shared_in
   names_kept = ap (map first) keeps.1.1.1.0 ∙ names_of_pairs (scope_in h) (shared_names s.policy)
 
-  pub shared_found : (place : ℕ) (name : List ℕ) → slice_get (map first st.shared.items) place ≡ Some name → slice_get (shared_names s.policy) place ≡ Some name
+  pub shared_found : (place : ℕ) (name : List ℕ) → slice_get (map first st.shared) place ≡ Some name → slice_get (shared_names s.policy) place ≡ Some name
   shared_found place name found = ap (λ names. slice_get names place) (sym names_kept) ∙ found
 
-  pub shared_missing : (name : List ℕ) → is_listed (map first st.shared.items) name ≡ false → is_listed (shared_names s.policy) name ≡ false
+  pub shared_missing : (name : List ℕ) → is_listed (map first st.shared) name ≡ false → is_listed (shared_names s.policy) name ≡ false
   shared_missing name missing = ap (λ names. is_listed names name) (sym names_kept) ∙ missing
 
   -- the scope at a place
-  table_at : (place : ℕ) (path : List ℕ) → slice_get (shared_names s.policy) place ≡ Some path → slice_get st.shared.items place ≡ Some (path, scope_in h path)
+  table_at : (place : ℕ) (path : List ℕ) → slice_get (shared_names s.policy) place ≡ Some path → slice_get st.shared place ≡ Some (path, scope_in h path)
   unfolding shared_in
   table_at place path at =
       ap (λ scopes. slice_get scopes place) keeps.1.1.1.0 ∙ slice_get-map (with_its (scope_in h)) (shared_names s.policy) place
@@ -122,7 +122,7 @@ module _ (s : Setting) (st : State) (h : History) (keeps : Keeps s st h) where
   -- one of them is another after an event, and the others aren't
   shared_changed : (event : Event) (place : ℕ) (path : List ℕ) (scopes : List (List ℕ × Table)) → slice_get (shared_names s.policy) place ≡ Some path →
       ((name : List ℕ) → bytes_eq path name ≡ false → scope_in (event ∷ h) name ≡ scope_in h name) →
-      scopes ≡ slice_set st.shared.items place (with_its (scope_in (event ∷ h)) path) → scopes ≡ shared_in s.policy (event ∷ h)
+      scopes ≡ slice_set st.shared place (with_its (scope_in (event ∷ h)) path) → scopes ≡ shared_in s.policy (event ∷ h)
   unfolding shared_in
   shared_changed event place path scopes at others is =
       is ∙ ap (λ items. slice_set items place (with_its (scope_in (event ∷ h)) path)) keeps.1.1.1.0
@@ -131,7 +131,7 @@ module _ (s : Setting) (st : State) (h : History) (keeps : Keeps s st h) where
 -- ---- what it may refer to
 
 scope_is : (s : Setting) (st : State) (h : History) (place : Option ℕ) (own : Table) (path : List ℕ) → Keeps s st h → OwnScope s.policy place own path h →
-    scope_at st.shared.items place own ≡ scope_in h path
+    scope_at st.shared place own ≡ scope_in h path
 scope_is s st h None own path keeps scope = scope.0
 scope_is s st h (Some place) own path keeps scope = ap (λ found. unwrap_or (option_map second found) own) (table_at s st h keeps place path scope)
 
@@ -139,14 +139,14 @@ abbrev in_scopes : Table → List ℕ → List (List ℕ × Table) → InScope
 in_scopes own own_name shared = record { own = own; own_name = own_name; shared = shared }
 
 pub scopes_are : (s : Setting) (st : State) (a : Activation) (h : History) (own : Table) (shared : List (List ℕ × Table)) → Stands s st a h →
-    own ≡ scope_at st.shared.items a.place a.own → shared ≡ st.shared.items → in_scopes own a.bundle shared ≡ scopes_in s h (home_of a)
+    own ≡ scope_at st.shared a.place a.own → shared ≡ st.shared → in_scopes own a.bundle shared ≡ scopes_in s h (home_of a)
 scopes_are s st a h own shared stands is_own is_shared =
     ap (λ t. in_scopes t a.bundle shared) (is_own ∙ scope_is s st h a.place a.own a.path stands.0 stands.1.1.1.1)
     ∙ ap (in_scopes (scope_in h a.path) a.bundle) (is_shared ∙ stands.0.1.1.1.0)
 
-pub scopes_found : (st : State) (a : Activation) (own : Table) (shared : List (List ℕ × Table)) → own ≡ scope_at st.shared.items a.place a.own → shared ≡ st.shared.items →
+pub scopes_found : (st : State) (a : Activation) (own : Table) (shared : List (List ℕ × Table)) → own ≡ scope_at st.shared a.place a.own → shared ≡ st.shared →
     in_scopes own a.bundle shared ≡ scopes_now st a
-scopes_found st a own shared is_own is_shared = ap (λ t. in_scopes t a.bundle shared) is_own ∙ ap (in_scopes (scope_at st.shared.items a.place a.own) a.bundle) is_shared
+scopes_found st a own shared is_own is_shared = ap (λ t. in_scopes t a.bundle shared) is_own ∙ ap (in_scopes (scope_at st.shared a.place a.own) a.bundle) is_shared
 
 module _ (s : Setting) (st : State) (a : Activation) (h : History) where
   pub guard_is : (guard : ExprTree) (global local : StatusMap) → Stands s st a h → global ≡ st.environment.statuses → local ≡ a.local.statuses →
@@ -187,16 +187,16 @@ stands_set_own s st a h variable datum own none is stands =
     )
 
 pub stands_set_shared : (s : Setting) (st : State) (a : Activation) (h : History) (variable : List ℕ) (datum : Datum) (place : ℕ) (shared : Vec (Name × Scope) Global) → a.place ≡ Some place →
-    ((path : List ℕ) (table : Table) → slice_get st.shared.items place ≡ Some (path, table) → shared.items ≡ slice_set st.shared.items place (path, put table variable datum)) →
+    ((path : List ℕ) (table : Table) → slice_get st.shared place ≡ Some (path, table) → shared ≡ slice_set st.shared place (path, put table variable datum)) →
     Stands s st a h → Stands s (record st { shared = shared }) a (Set a.path variable datum ∷ h)
 stands_set_shared s st a h variable datum place shared at is stands =
     let keeps = stands.0 in
     let k : History = Set a.path variable datum ∷ h in
     let found = shared_at s.policy a.place place a.own a.path h at stands.1.1.1.1 in
     let now = is a.path (scope_in h a.path) (table_at s st h keeps place a.path found) in
-    let set = ap (λ t. slice_set st.shared.items place (a.path, t)) (sym (set_here a.path variable datum h)) in
+    let set = ap (λ t. slice_set st.shared place (a.path, t)) (sym (set_here a.path variable datum h)) in
     let counts = counts_same s st h k refl (λ _. refl) refl refl refl keeps.1.1.1.1 in (
-      (keeps.0, (keeps.1.0, (keeps.1.1.0, (shared_changed s st h keeps (Set a.path variable datum) place a.path shared.items found (other_set a.path variable datum h) (now ∙ set), counts)))),
+      (keeps.0, (keeps.1.0, (keeps.1.1.0, (shared_changed s st h keeps (Set a.path variable datum) place a.path shared found (other_set a.path variable datum h) (now ∙ set), counts)))),
       (stands.1.0, (stands.1.1.0, (stands.1.1.1.0, is_shared_at s.policy a.place place a.own a.path k at found))),
     )
 
@@ -219,7 +219,7 @@ module _ (s : Setting) (h : History) (path variable : List ℕ) (datum : Datum) 
         | false ↦ λ other_path. refl
       ] refl
 
-pub stands_again : (s : Setting) (st : State) (a : Activation) (h : History) (variable : List ℕ) (datum : Datum) → thing_at (scope_at st.shared.items a.place a.own) variable ≡ Some datum →
+pub stands_again : (s : Setting) (st : State) (a : Activation) (h : History) (variable : List ℕ) (datum : Datum) → thing_at (scope_at st.shared a.place a.own) variable ≡ Some datum →
     Stands s st a h → Stands s st a (Set a.path variable datum ∷ h)
 unfolding shared_in
 stands_again s st a h variable datum holds stands =
@@ -233,10 +233,10 @@ stands_again s st a h variable datum holds stands =
       (stands.1.0, (stands.1.1.0, (stands.1.1.1.0, own_scope_same s.policy a.place a.own a.path h k (scope_again s h a.path variable datum held a.path) stands.1.1.1.1))),
     )
 
-pub never_past : (s : Setting) (st : State) (a : Activation) (h : History) (place : ℕ) → a.place ≡ Some place → length st.shared.items ≤ place → Stands s st a h → ⊥
+pub never_past : (s : Setting) (st : State) (a : Activation) (h : History) (place : ℕ) → a.place ≡ Some place → length st.shared ≤ place → Stands s st a h → ⊥
 never_past s st a h place at past stands =
     let found = table_at s st h stands.0 place a.path (shared_at s.policy a.place place a.own a.path h at stands.1.1.1.1) in
-    let within_it = slice_get_within st.shared.items place (a.path, scope_in h a.path) found in
+    let within_it = slice_get_within st.shared place (a.path, scope_in h a.path) found in
     omega arith
 
 -- ---- an activation that begins
@@ -272,7 +272,7 @@ stands_called s st a h path given is none fresh keeps own = (
 )
 
 pub stands_common : (s : Setting) (st : State) (a : Activation) (h : History) (name : List ℕ) (place : ℕ) → a.path ≡ name → a.place ≡ Some place → IsFresh a →
-    slice_get (map first st.shared.items) place ≡ Some name → Keeps s st h → IsUntouched h name → Stands s st a h
+    slice_get (map first st.shared) place ≡ Some name → Keeps s st h → IsUntouched h name → Stands s st a h
 stands_common s st a h name place is at fresh found keeps untouched = (
   keeps,
   (
@@ -288,14 +288,14 @@ stands_common s st a h name place is at fresh found keeps untouched = (
 )
 
 pub stands_begun : (s : Setting) (st st' : State) (a : Activation) (h : History) (name : List ℕ) (place : ℕ) → a.path ≡ name → a.place ≡ Some place → IsFresh a →
-    slice_get (map first st.shared.items) place ≡ Some name → st'.environment ≡ st.environment → st'.left ≡ st.left → st'.calls ≡ st.calls → st'.log ≡ st.log →
-    ((path : List ℕ) (table : Table) → slice_get st.shared.items place ≡ Some (path, table) → st'.shared.items ≡ slice_set st.shared.items place (path, [])) →
+    slice_get (map first st.shared) place ≡ Some name → st'.environment ≡ st.environment → st'.left ≡ st.left → st'.calls ≡ st.calls → st'.log ≡ st.log →
+    ((path : List ℕ) (table : Table) → slice_get st.shared place ≡ Some (path, table) → st'.shared ≡ slice_set st.shared place (path, [])) →
     Keeps s st h → Stands s st' a (Begun name [] ∷ h)
 stands_begun s st st' a h name place is at fresh found environment left calls log cleared keeps =
     let k : History = Begun name [] ∷ h in
     let found = shared_found s st h keeps place name found in
     let now = cleared name (scope_in h name) (table_at s st h keeps place name found) in
-    let empty = ap (λ t. slice_set st.shared.items place (name, t)) (sym (begun_here name [] h name (same_text name))) in
+    let empty = ap (λ t. slice_set st.shared place (name, t)) (sym (begun_here name [] h name (same_text name))) in
     let counts = counts_same s st h k refl (λ _. refl) refl refl refl keeps.1.1.1.1 in (
       (
         λ class. ap (λ e. status_of e class) environment ∙ keeps.0 class,
@@ -304,7 +304,7 @@ stands_begun s st st' a h name place is at fresh found environment left calls lo
           (
             λ path text. ap (λ e. mark_of e path text) environment ∙ keeps.1.1.0 path text,
             (
-              shared_changed s st h keeps (Begun name []) place name st'.shared.items found (other_begun name [] h) (now ∙ empty),
+              shared_changed s st h keeps (Begun name []) place name st'.shared found (other_begun name [] h) (now ∙ empty),
               (
                 ap (λ n. n + visits_in k) left ∙ counts.0,
                 (

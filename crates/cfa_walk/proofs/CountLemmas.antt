@@ -232,13 +232,13 @@ all_at policy p scopes statuses path resolved is id named =
 
 -- what its texts may refer to now is what they may by the history
 pub scopes_stand : (st : State) (a : Activation) → (s : Setting) (h : History) → Stands s st a h → scopes_now st a ≡ scopes_in s h (home_of a)
-scopes_stand st a = λ s h stands. scopes_are s st a h (scope_at st.shared.items a.place a.own) st.shared.items stands refl refl
+scopes_stand st a = λ s h stands. scopes_are s st a h (scope_at st.shared a.place a.own) st.shared stands refl refl
 
 -- counting changes nothing that is read of a state
 pub counted_later : (st st' : State) (a : Activation) (waits : Option Wait) (left : ℕ) (unsettled : List Unsettled) →
     st' ≡ record st { left = left; log = logged_blames (filter_map (blame_edit (source_of st.environment)) unsettled) st.log } → AreLater st st' a (record a { waits = waits })
 counted_later st st' a waits left unsettled notes = record {
-  state = later_by st st' (ap (λ (x : State). x.changes) notes) (ap (λ (x : State). x.environment.statuses) notes) (ap (λ (x : State). x.shared.items) notes);
+  state = later_by st st' (ap (λ (x : State). x.changes) notes) (ap (λ (x : State). x.environment.statuses) notes) (ap (λ (x : State). x.shared) notes);
   here = here_by a (record a { waits = waits }) refl refl refl refl refl refl;
 }
 

@@ -242,7 +242,7 @@ log_first s false = tt
 
 pub keeps_first : (s : Setting) (st : State) → ((class : List ℕ) → status_of st.environment class ≡ from_start s class) →
     ((class : List ℕ) → source_of st.environment class ≡ None) → ((path text : List ℕ) → mark_of st.environment path text ≡ No) →
-    st.shared.items ≡ map (λ name. (name, [])) (shared_names s.policy) → st.left ≡ most_visits → st.calls ≡ None → (is_logged : Bool) → st.log ≡ first_log is_logged → Keeps s st []
+    st.shared ≡ map (λ name. (name, [])) (shared_names s.policy) → st.left ≡ most_visits → st.calls ≡ None → (is_logged : Bool) → st.log ≡ first_log is_logged → Keeps s st []
 unfolding shared_in
 keeps_first s st statuses sources marks shared left none is_logged log = (
   λ class. statuses class ∙ sym (greater_No (from_start s class)),

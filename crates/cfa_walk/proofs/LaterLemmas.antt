@@ -37,7 +37,7 @@ not_same x y one same = omega arith
 -- ---- states
 
 -- nothing that is counted has changed
-pub later_by : (st st' : State) → st'.changes ≡ st.changes → st'.environment.statuses ≡ st.environment.statuses → st'.shared.items ≡ st.shared.items → IsLater st st'
+pub later_by : (st st' : State) → st'.changes ≡ st.changes → st'.environment.statuses ≡ st.environment.statuses → st'.shared ≡ st.shared → IsLater st st'
 later_by st st' count statuses shared = record { count = no_more st.changes st'.changes (sym count); statuses = λ _. statuses; shared = λ _. shared }
 
 pub later_same : (st : State) → IsLater st st
@@ -133,11 +133,11 @@ module _ (st st' : State) (a a' : Activation) (later : AreLater st st' a a') (sa
     resolution_same : resolution_now policy p st' a' ≡ resolution_now policy p st a
     resolution_same =
         ap (λ (x : List (List ℕ × Table)). resolved_by x a'.place a'.own a'.bundle st'.environment.statuses a'.path) (later.state.shared same)
-        ∙ (ap (λ (x : Option ℕ). resolved_by st.shared.items x a'.own a'.bundle st'.environment.statuses a'.path) later.here.place
-        ∙ (ap (λ (x : Table). resolved_by st.shared.items a.place x a'.bundle st'.environment.statuses a'.path) (later.here.own same_here)
-        ∙ (ap (λ (x : List ℕ). resolved_by st.shared.items a.place a.own x st'.environment.statuses a'.path) later.here.bundle
-        ∙ (ap (λ (x : Raised). resolved_by st.shared.items a.place a.own a.bundle x a'.path) (later.state.statuses same)
-        ∙ ap (λ (x : List ℕ). resolved_by st.shared.items a.place a.own a.bundle st.environment.statuses x) later.here.path))))
+        ∙ (ap (λ (x : Option ℕ). resolved_by st.shared x a'.own a'.bundle st'.environment.statuses a'.path) later.here.place
+        ∙ (ap (λ (x : Table). resolved_by st.shared a.place x a'.bundle st'.environment.statuses a'.path) (later.here.own same_here)
+        ∙ (ap (λ (x : List ℕ). resolved_by st.shared a.place a.own x st'.environment.statuses a'.path) later.here.bundle
+        ∙ (ap (λ (x : Raised). resolved_by st.shared a.place a.own a.bundle x a'.path) (later.state.statuses same)
+        ∙ ap (λ (x : List ℕ). resolved_by st.shared a.place a.own a.bundle st.environment.statuses x) later.here.path))))
 
 module _ (st st' : State) (a a' : Activation) (later : AreLater st st' a a') (m : Moment) (past : IsPast m st a) where
   still_past : IsPast m st' a'

@@ -50,7 +50,7 @@ Keeps s st h =
     ((class : List ℕ) → status_of st.environment class ≡ global_status s h class)
     × (((class : List ℕ) → source_of st.environment class ≡ global_source h class)
     × (((path text : List ℕ) → mark_of st.environment path text ≡ mark_in h path text)
-    × ((st.shared.items ≡ shared_in s.policy h)
+    × ((st.shared ≡ shared_in s.policy h)
     × ((st.left + visits_in h ≡ most_visits)
     × (KeepsWaits s st.calls h × KeepsLog s st.log h)))))
 

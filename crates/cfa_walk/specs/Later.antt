@@ -13,7 +13,7 @@ use Rattle.cfa_walk.specs.declared.states.State.{State}
 pub record IsLater (st st' : State) : Type 0 where
   pub count : st.changes ≤ st'.changes
   pub statuses : st'.changes ≡ st.changes → st'.environment.statuses ≡ st.environment.statuses
-  pub shared : st'.changes ≡ st.changes → st'.shared.items ≡ st.shared.items
+  pub shared : st'.changes ≡ st.changes → st'.shared ≡ st.shared
 
 -- the same activation later
 pub record IsLaterHere (a a' : Activation) : Type 0 where

@@ -30,7 +30,7 @@ abbrev pub guard_now : Numbered → State → Activation → Status
 guard_now p st a = guard_value p.promise.guard st.environment.statuses a.local.statuses
 
 abbrev pub scopes_now : State → Activation → InScope
-scopes_now st a = record { own = scope_at st.shared.items a.place a.own; own_name = a.bundle; shared = st.shared.items }
+scopes_now st a = record { own = scope_at st.shared a.place a.own; own_name = a.bundle; shared = st.shared }
 
 abbrev pub reached_now : PolicyTree → Numbered → State → Activation → Reached
 reached_now policy p st a = reached_at policy p.id (scopes_now st a) (status_in st.environment.statuses) a.path (p.type, p.promise)

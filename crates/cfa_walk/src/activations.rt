@@ -46,13 +46,13 @@ pub(crate) struct Activation {
 // The scope of an activation.
 fn own_scope<'a>(state: &'a State, activation: &'a Activation) -> &'a Scope
     ensures { result.now
-        ≡ scope_at state.now.shared.items activation.now.place activation.now.own }
+        ≡ scope_at state.now.shared activation.now.place activation.now.own }
 {
     match activation.place {
         None => &activation.own,
-        Some(place) => match state.shared.get(place) {
+        Some(place) => match state.shared.at(place) {
             None => &activation.own,
-            Some(entry) => &entry.1,
+            Some(scope) => scope,
         },
     }
 }
@@ -66,24 +66,8 @@ pub(crate) fn scopes_of<'a>(state: &'a State, activation: &'a Activation) -> Sco
     Scopes {
         own: own_scope(state, activation),
         own_name: &activation.bundle,
-        shared: state.shared.as_slice(),
+        shared: &state.shared,
     }
-}
-
-// Sets a variable of the scope at a place.
-fn set_shared(
-    shared: &mut Vec<(Name, Scope)>,
-    place: usize,
-    name: Name,
-    datum: Datum,
-) -> Result<(), NoMemory>
-    requires { place < length shared.old.items }
-    ensures { OnOk result ((path : List ℕ) (table : Table)
-        → slice_get shared.old.items place ≡ Some (path, table)
-        → shared.new.items ≡ slice_set shared.old.items place (path, put table name datum)) }
-{
-    shared[place].1.set(name, datum)?;
-    Ok(())
 }
 
 /// Sets a variable of an activation.
@@ -110,7 +94,7 @@ pub(crate) fn set_variable(
         Some(place) => {
             if place < state.shared.len() {
                 state.changes = one_more(state.changes)?;
-                set_shared(&mut state.shared, place, name, datum)?;
+                state.shared.set_at(place, name, datum)?;
             } else {
                 activation.changes = one_more(activation.changes)?;
                 activation.own.set(name, datum)?;
@@ -161,7 +145,7 @@ impl Activation {
             → is_listed (shared_names s.policy) bundle.now ≡ false) }
         ensures same { IfOk result (λ made. made ≡ None → state.new ≡ state.old) }
     {
-        match state.place_of(bundle) {
+        match state.shared.place_of(bundle) {
             None => Ok(None),
             Some(place) => {
                 let path = bundle.copy(alloc)?;
@@ -185,7 +169,7 @@ impl Activation {
             → (s : Setting) (h : History) → Keeps s state.now h
             → is_listed (shared_names s.policy) bundle.now ≡ false) }
     {
-        match state.place_of(bundle) {
+        match state.shared.place_of(bundle) {
             None => Ok(None),
             Some(place) => {
                 let path = bundle.copy(alloc)?;

@@ -16,7 +16,7 @@ mod passing;
 mod register;
 mod remembering;
 mod scenes;
-mod shared_names;
+mod shared_scopes;
 mod states;
 mod tellers;
 mod visiting;

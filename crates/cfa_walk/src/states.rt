@@ -18,7 +18,7 @@ ghost use Rattle.cfa_walk.specs.Walks.{blame_edit};
 use crate::activations::inner_path;
 use crate::changing::{is_raised, one_more};
 use crate::logs::{Log, blame_for};
-use crate::shared_names::shared_names;
+use crate::shared_scopes::shared_scopes;
 use crate::waits::{Wait, copy_wait, wait_on};
 use crate::walks::Blame;
 use cfa_base::{Name, Names, NoMemory, PromiseId, TextMap};
@@ -26,7 +26,7 @@ use cfa_classes::Status;
 use cfa_outcomes::Environment;
 use cfa_resolve::{Instance, Unsettled, Work};
 use cfa_schema::Checked;
-use cfa_vars::Scope;
+use cfa_vars::SharedScopes;
 use std::alloc::Global;
 
 /// The most visits that a run counts.
@@ -38,22 +38,11 @@ pub const MOST_VISITS: u64 = 1000000;
 #[derive(Drop)]
 pub(crate) struct State {
     pub environment: Environment,
-    pub shared: Vec<(Name, Scope)>,
+    pub shared: SharedScopes,
     pub left: u64,
     pub calls: Option<TextMap<Wait>>,
     pub log: Option<Log>,
     pub changes: u64,
-}
-
-// An empty scope under each name.
-fn empty_scopes(alloc: Global, names: &Names) -> Result<Vec<(Name, Scope)>, NoMemory>
-    ensures { IfOk result (λ scopes. scopes.items ≡ map (λ name. (name, [])) names.now) }
-{
-    let mut scopes = Vec::new(alloc);
-    for name in names.as_slice() {
-        scopes.push((name.copy(alloc)?, Scope::new(alloc)))?;
-    }
-    Ok(scopes)
 }
 
 fn first_log(alloc: Global, is_logged: bool) -> Option<Log>
@@ -169,10 +158,9 @@ impl State {
             Keeps (record { policy = tree_of checked.now; classes = classes.now }) state []) }
         ensures log { IfOk result (λ state. state.log ≡ first_log is_logged) }
     {
-        let names = shared_names(alloc, checked)?;
         Ok(State {
             environment: Environment::new(alloc, classes)?,
-            shared: empty_scopes(alloc, &names)?,
+            shared: shared_scopes(alloc, checked)?,
             left: MOST_VISITS,
             calls: None,
             log: first_log(alloc, is_logged),
@@ -278,30 +266,15 @@ impl State {
 
     /// Makes the shared scope at a place empty.
     pub fn clear_scope(&mut self, alloc: Global, place: usize)
-        requires { place < length self.old.shared.items }
+        requires { place < length self.old.shared }
         ensures environment { self.new.environment ≡ self.old.environment }
         ensures left { self.new.left ≡ self.old.left }
         ensures calls { self.new.calls ≡ self.old.calls }
         ensures log { self.new.log ≡ self.old.log }
         ensures shared { (path : List ℕ) (table : Table)
-            → slice_get self.old.shared.items place ≡ Some (path, table)
-            → self.new.shared.items ≡ slice_set self.old.shared.items place (path, []) }
+            → slice_get self.old.shared place ≡ Some (path, table)
+            → self.new.shared ≡ slice_set self.old.shared place (path, []) }
     {
-        self.shared[place].1 = Scope::new(alloc);
-    }
-
-    /// The place of a shared scope.
-    pub fn place_of(&self, name: &Name) -> Option<usize>
-        ensures found { IfSome result (λ place.
-            slice_get (map first self.now.shared.items) place ≡ Some name.now) }
-        ensures missing { result ≡ None
-            → is_listed (map first self.now.shared.items) name.now ≡ false }
-    {
-        for (place, entry) in self.shared.as_slice().iter().enumerate() {
-            if entry.0.as_str() == name.as_str() {
-                return Some(place);
-            }
-        }
-        None
+        self.shared.clear_at(alloc, place);
     }
 }

@@ -1,5 +1,5 @@
 -- The fields of an edit lack each separator other than a plus sign, and so do the texts of edits each other than a colon too.
-use Rattle.std.proofs.Common.{◌≢◌, ℕ, ◌≤◌, true, false, List, [], ◌∷◌, map, codes, refl, arith, All}
+use Rattle.std.proofs.Common.{◌≡◌, ◌≢◌, ℕ, ◌≤◌, true, false, List, [], ◌∷◌, map, codes, refl, arith, All}
 use Rattle.std.specs.Prelude.{encode_utf8}
 use Rattle.std.specs.Fmt.{decimal}
 use Rattle.std.proofs.lemmas.List.Elements.{All-nil, All-cons, All-head, All-tail}

@@ -13,4 +13,4 @@ pub returns-then-count-clause-later : goal.returns-then-count-clause-later
 returns-then-count-clause-later c =
     let left = c.count.ensures.left c.if-count.true in
     later_by c.args.state.now c.count.new.self
-    (ap (λ (x : State). x.changes) left) (ap (λ (x : State). x.environment.statuses) left) (ap (λ (x : State). x.shared.items) left)
+    (ap (λ (x : State). x.changes) left) (ap (λ (x : State). x.environment.statuses) left) (ap (λ (x : State). x.shared) left)

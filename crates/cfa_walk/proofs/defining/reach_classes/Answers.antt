@@ -31,5 +31,5 @@ returns-clause-later g c =
     let left = c.count.ensures.left counts in
     are_then st c.count.new.self c.raise_each.new.state a a c.raise_each.new.activation
     (with_state st c.count.new.self a (later_by st c.count.new.self
-    (ap (λ (x : State). x.changes) left) (ap (λ (x : State). x.environment.statuses) left) (ap (λ (x : State). x.shared.items) left)))
+    (ap (λ (x : State). x.changes) left) (ap (λ (x : State). x.environment.statuses) left) (ap (λ (x : State). x.shared) left)))
     c.in_ok-raise_each.ensures.later

@@ -26,5 +26,5 @@ returns-clause-later c =
     (with_state st c.log_own.new.state a (later_by st c.log_own.new.state
     (ap (λ (x : State). x.changes) notes ∙ ap (λ (x : State). x.changes) left)
     (ap (λ (x : State). x.environment.statuses) notes ∙ ap (λ (x : State). x.environment.statuses) left)
-    (ap (λ (x : State). x.shared.items) notes ∙ ap (λ (x : State). x.shared.items) left)))
+    (ap (λ (x : State). x.shared) notes ∙ ap (λ (x : State). x.shared) left)))
     c.in_ok-set_each.ensures.later
