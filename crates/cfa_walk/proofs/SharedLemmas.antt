@@ -5,8 +5,7 @@ use Rattle.std.specs.List.{list_any, Contains}
 use Rattle.std.specs.Str.{bytes_eq}
 use Rattle.std.proofs.lemmas.Bool.{false≢true, or_parts, or_left, or_right}
 use Rattle.std.proofs.lemmas.List.Folds.{list_any-append, list_any_at}
-use Rattle.std.proofs.lemmas.List.{take_all}
-use Rattle.std.proofs.lemmas.Option.{slice_get-map, slice_get_read}
+use Rattle.std.proofs.lemmas.List.{map-append}
 use Rattle.cfa_base.specs.lemmas.EqualTexts.{same_text, is_text, texts_turned}
 use Rattle.cfa_tree.specs.declared.blocks.Bundle.{Bundle}
 use Rattle.cfa_tree.specs.declared.blocks.Block.TheVariants.{Bundle as a_bundle}
@@ -15,6 +14,8 @@ use Rattle.cfa_tree.specs.Tree.{BlockTree, PolicyTree}
 use Rattle.cfa_served.specs.Control.{sequence_of}
 use Rattle.cfa_served.specs.Served.{common_bundles_of}
 use Rattle.cfa_base.specs.Index.{is_listed}
+use Rattle.cfa_vars.specs.Shared.{begun, begun_each}
+use Rattle.cfa_vars.specs.Tables.{Table}
 use Rattle.cfa_walk.specs.Kept.{first}
 use Rattle.cfa_walk.specs.Numbered.{name_of}
 use Rattle.cfa_walk.specs.Views.{joined_once, shared_names}
@@ -27,14 +28,6 @@ listed_map f (x ∷ xs) name = ap (λ b. bytes_eq (f x) name || b) (listed_map f
 
 abbrev pub held_name : Bor Bundle → List ℕ
 held_name bundle = bundle.now.name.name
-
-pub joined_one : (before after : List (List ℕ)) (name : List ℕ) (left rest : List (List ℕ)) → left ≡ name ∷ rest →
-    after ≡ (if is_listed before name then before else before ++ name ∷ []) → joined_once after rest ≡ joined_once before left
-joined_one before after name left rest e is = ap (λ names. joined_once names rest) is ∙ ap (joined_once before) (sym e)
-
-pub joined-append : (names more others : List (List ℕ)) → joined_once names (more ++ others) ≡ joined_once (joined_once names more) others
-joined-append names [] others = refl
-joined-append names (name ∷ more) others = joined-append (if is_listed names name then names else names ++ name ∷ []) more others
 
 pub names_held : (bundles : List (Bor Bundle)) → map name_of (map (λ bundle. plain_block (a_bundle bundle.now)) bundles) ≡ map held_name bundles
 names_held [] = refl
@@ -108,18 +101,39 @@ pub names_of_pairs : {T : Type 0} (f : List ℕ → T) (names : List (List ℕ))
 names_of_pairs f [] = refl
 names_of_pairs f (name ∷ names) = ap (λ rest. name ∷ rest) (names_of_pairs f names)
 
-pub place_found : {T : Type 0} (pairs items : List (List ℕ × T)) (place : ℕ) (pair : List ℕ × T) (name : List ℕ) → items ≡ pairs → place < length items → pair ≡ get_or items place pair →
-    bytes_eq pair.0 name ≡ true → slice_get (map first pairs) place ≡ Some name
-place_found pairs items place pair name same behind at is =
-    ap (λ ps. slice_get (map first ps) place) (sym same) ∙ slice_get-map first items place
-    ∙ ap (option_map first) (slice_get_read items (length items) place pair refl behind at)
-    ∙ ap Some (is_text pair.0 name is)
+-- ---- scopes in which nothing is set
 
-pub place_missing : {T : Type 0} (pairs items : List (List ℕ × T)) (place : ℕ) (name : List ℕ) → items ≡ pairs → length items ≤ place →
-    list_any (λ pair. bytes_eq pair.0 name) (take place items) ≡ false → is_listed (map first pairs) name ≡ false
-place_missing pairs items place name same past none =
-    ap (λ ps. is_listed (map first ps) name) (sym same) ∙ listed_map first items name
-    ∙ ap (list_any (λ pair. bytes_eq pair.0 name)) (sym (take_all place items past)) ∙ none
+abbrev bare : List (List ℕ) → List (List ℕ × Table)
+bare names = map (λ name. (name, [])) names
+
+begun_bare : (names : List (List ℕ)) (name : List ℕ) → begun (bare names) name ≡ bare (if is_listed names name then names else names ++ name ∷ [])
+begun_bare names name =
+    ap (λ listed. if listed then bare names else bare names ++ (name, []) ∷ []) (ap (λ ns. is_listed ns name) (names_of_pairs (λ _. []) names))
+    ∙ by (is_listed names name) where
+      by : (b : Bool) → (if b then bare names else bare names ++ (name, []) ∷ []) ≡ bare (if b then names else names ++ name ∷ [])
+      by true = refl
+      by false = sym (map-append (λ n. (n, [])) names (name ∷ []))
+
+begun_joined : (names more : List (List ℕ)) → begun_each (bare names) more ≡ bare (joined_once names more)
+begun_joined names [] = refl
+begun_joined names (name ∷ more) =
+    ap (λ scopes. begun_each scopes more) (begun_bare names name)
+    ∙ begun_joined (if is_listed names name then names else names ++ name ∷ []) more
+
+begun-append : (scopes : List (List ℕ × Table)) (names more : List (List ℕ)) → begun_each scopes (names ++ more) ≡ begun_each (begun_each scopes names) more
+begun-append scopes [] more = refl
+begun-append scopes (name ∷ names) more = begun-append (begun scopes name) names more
+
+-- the scopes of common bundles, and then those of the sequence
+pub shared_begun_are : (policy : PolicyTree) → begun_each (begun_each [] (map name_of (common_bundles_of policy))) (sequence_of policy) ≡ bare (shared_names policy)
+unfolding shared_names
+shared_begun_are policy =
+    sym (begun-append [] (map name_of (common_bundles_of policy)) (sequence_of policy))
+    ∙ begun_joined [] (map name_of (common_bundles_of policy) ++ sequence_of policy)
+
+-- one more of a list
+pub begun_one : (before after : List (List ℕ × Table)) (name : List ℕ) (left rest : List (List ℕ)) → left ≡ name ∷ rest → after ≡ begun before name → begun_each after rest ≡ begun_each before left
+begun_one before after name left rest e is = ap (λ scopes. begun_each scopes rest) is ∙ ap (begun_each before) (sym e)
 
 -- ---- which names are shared
 

@@ -1,10 +1,9 @@
 // What is kept of an activation of a bundle.
-ghost use Rattle.std.specs.Prelude.{◌≡◌, ◌<◌, [], ◌∷◌, IfOk, OnOk, IfSome, Some, None, List, ℕ, map, length, slice_get, slice_set, option_map, option_copied, false};
+ghost use Rattle.std.specs.Prelude.{◌≡◌, ◌<◌, [], ◌∷◌, IfOk, OnOk, IfSome, Some, None, List, option_map, option_copied, false};
 ghost use Rattle.cfa_classes.specs.declared.levels.Status.TheVariants.{Yes as yes};
 ghost use Rattle.cfa_tree.specs.Plain.{plain_expr};
 ghost use Rattle.cfa_vars.specs.declared.scoping.Datum.{Datum};
-ghost use Rattle.cfa_vars.specs.Named.{put};
-ghost use Rattle.cfa_vars.specs.Scopes.{Table, in_scope};
+ghost use Rattle.cfa_vars.specs.Scopes.{in_scope};
 ghost use Rattle.cfa_resolve.specs.declared.instances.Instance.{Instance};
 ghost use Rattle.cfa_base.specs.Index.{is_listed};
 ghost use Rattle.cfa_walk.specs.declared.states.State.{State};

@@ -1,17 +1,16 @@
 // What is kept of the history of a run while it is made.
-ghost use Rattle.std.specs.Prelude.{◌≡◌, [], ◌∷◌, ◌≤◌, ◌<◌, ◌-◌, ◌&&◌, IfOk, OnOk, IfSome, IsTrue, Some, None, List, ℕ, map, length, slice_get, slice_set, false, if◌then◌else◌, option_copied};
+ghost use Rattle.std.specs.Prelude.{◌≡◌, [], ◌∷◌, ◌≤◌, ◌<◌, ◌-◌, ◌&&◌, IfOk, OnOk, IsTrue, Some, None, List, ℕ, map, length, slice_get, slice_set, false, if◌then◌else◌, option_copied};
 ghost use Rattle.std.specs.FinMap as finite;
 ghost use Rattle.std.specs.List.{filter_map};
 ghost use Rattle.std.specs.Str.{bytes_eq};
 ghost use Rattle.cfa_schema.specs.Seen.{tree_of};
 ghost use Rattle.cfa_vars.specs.Scopes.{Table};
-ghost use Rattle.cfa_base.specs.Index.{is_listed};
 ghost use Rattle.cfa_walk.specs.History.{History, Raised, Listed, everywhere};
 ghost use Rattle.cfa_outcomes.specs.Environments.{mark_of, source_of};
-ghost use Rattle.cfa_walk.specs.Kept.{Keeps, first, wait_at};
+ghost use Rattle.cfa_walk.specs.Kept.{Keeps, wait_at};
 ghost use Rattle.cfa_walk.specs.Later.{IsLater};
 ghost use Rattle.cfa_walk.specs.Logs.{first_log, logged_blames, logged_visit};
-ghost use Rattle.cfa_walk.specs.Views.{Setting, shared_names};
+ghost use Rattle.cfa_walk.specs.Views.{Setting};
 ghost use Rattle.cfa_walk.specs.Waits.{is_call, is_call_to, is_unvisited, waits_in};
 ghost use Rattle.cfa_walk.specs.Walks.{blame_edit};
 
