@@ -1,8 +1,6 @@
 -- What an activation's own events make of what is kept of it, and what is kept of one that begins.
 use Rattle.std.proofs.Common.{◌≡◌, ◌≢◌, ℕ, ◌+◌, ◌≤◌, true, false, cond, List, [], ◌∷◌, length, map, Option, Some, None, refl, sym, ap, subst, ◌∙◌, arith}
 use Rattle.std.specs.Prelude.{◌&&◌, option_and_then, slice_get, slice_set, option_map, unwrap_or}
-use Rattle.std.specs.declared.alloc.Global.{Global}
-use Rattle.std.specs.declared.vec.Vec.{Vec}
 use Rattle.std.specs.Option.{option_or}
 use Rattle.std.specs.Str.{bytes_eq}
 use Rattle.std.proofs.Math.Path.{fun_ext}
@@ -18,7 +16,6 @@ use Rattle.cfa_outcomes.specs.Environments.{EnvironmentMaps, status_of, source_o
 use Rattle.cfa_outcomes.specs.declared.outcomes.Outcome.TheVariants.{Kept}
 use Rattle.cfa_tree.specs.Tree.{ExprTree}
 use Rattle.cfa_vars.specs.declared.scoping.Datum.{Datum}
-use Rattle.cfa_vars.specs.declared.scoping.Scope.{Scope}
 use Rattle.cfa_vars.specs.Named.{put, thing_at}
 use Rattle.cfa_vars.specs.Scopes.{Table, InScope}
 use Rattle.cfa_base.specs.Index.{is_listed}
@@ -186,7 +183,7 @@ stands_set_own s st a h variable datum own none is stands =
       ),
     )
 
-pub stands_set_shared : (s : Setting) (st : State) (a : Activation) (h : History) (variable : List ℕ) (datum : Datum) (place : ℕ) (shared : Vec (Name × Scope) Global) → a.place ≡ Some place →
+pub stands_set_shared : (s : Setting) (st : State) (a : Activation) (h : History) (variable : List ℕ) (datum : Datum) (place : ℕ) (shared : List (List ℕ × Table)) → a.place ≡ Some place →
     ((path : List ℕ) (table : Table) → slice_get st.shared place ≡ Some (path, table) → shared ≡ slice_set st.shared place (path, put table variable datum)) →
     Stands s st a h → Stands s (record st { shared = shared }) a (Set a.path variable datum ∷ h)
 stands_set_shared s st a h variable datum place shared at is stands =
