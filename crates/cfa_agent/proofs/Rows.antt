@@ -19,7 +19,8 @@ use Rattle.cfa_served.specs.Served.{body_of, bundle_of, common_bundles_of, minut
 use Rattle.cfa_defines.specs.OwnTexts.{own_reads, combined}
 use Rattle.cfa_bodies.specs.Bodies.{datum_given, bodies_of, heard}
 use Rattle.cfa_resolve.specs.FileActs.{file_acts, service_act, outcome_classes}
-use Rattle.cfa_resolve.specs.KeyTexts.{mode_text, key_text}
+use Rattle.cfa_base.specs.Octal.{mode_text}
+use Rattle.cfa_resolve.specs.KeyTexts.{key_text}
 use Rattle.cfa_resolve.specs.Instances.{made_instance}
 use Rattle.cfa_resolve.specs.Resolution.{resolution, made}
 use Rattle.cfa_tree.specs.lemmas.Written.{promise, section, a_bundle, created}

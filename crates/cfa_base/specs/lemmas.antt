@@ -7,6 +7,7 @@ pub mod Escapes
 pub mod Firsts
 pub mod Fronts
 pub mod Lists
+pub mod Modes
 pub mod Order
 pub mod Options
 pub mod Results

@@ -26,7 +26,7 @@ pub use limits::{
     LAST_MOMENT, MOST_COMBINATIONS, MOST_FILE_BYTES, MOST_INPUTS, MOST_SOURCE_BYTES,
     MOST_TEXT_BYTES,
 };
-pub use octal::are_octal_digits;
+pub use octal::{are_octal_digits, octal_digit};
 pub use parts::Parts;
 pub use patterns::{How, Matcher, Pattern, PatternErr, Patterns};
 pub use places::{Place, PromiseId, is_before};
@@ -34,4 +34,4 @@ pub use text_maps::TextMap;
 pub use texts::{Name, Names, are_same_names, copy_name, is_same_name};
 pub use tokens::Kind;
 pub use want_of_memory::NoMemory;
-pub use words::{is_name, is_word, is_word_byte, word_len};
+pub use words::{closing_bracket, is_name, is_word, is_word_byte, word_len};

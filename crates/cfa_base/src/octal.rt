@@ -1,7 +1,7 @@
 // Octal digits.
-ghost use Rattle.std.specs.Prelude.{◌≡◌};
+ghost use Rattle.std.specs.Prelude.{◌≡◌, ◌<◌};
 ghost use Rattle.std.specs.List.{list_all};
-ghost use Rattle.cfa_base.specs.Octal.{is_octal_digit};
+ghost use Rattle.cfa_base.specs.Octal.{is_octal_digit, octal_digit};
 
 fn is_octal_digit(byte: u8) -> bool
     ensures { result ≡ is_octal_digit byte }
@@ -14,4 +14,12 @@ pub fn are_octal_digits(text: &[u8]) -> bool
     ensures { result ≡ list_all is_octal_digit text.now }
 {
     text.iter().all(|byte| is_octal_digit(*byte))
+}
+
+/// The last octal digit of a number.
+pub fn octal_digit(number: u16) -> u8
+    ensures value { result ≡ octal_digit number }
+    ensures ascii { result < 128 }
+{
+    b'0' + (number % 8) as u8
 }

@@ -1,7 +1,7 @@
 // Words and names, as tokens, references and class texts have them.
 ghost use Rattle.std.specs.Prelude.{◌≡◌, length};
 ghost use Rattle.std.specs.List.{list_all, position_or_len, take_while};
-ghost use Rattle.cfa_base.specs.Lexing.{is_word_byte, is_word, is_dot, is_name};
+ghost use Rattle.cfa_base.specs.Lexing.{is_word_byte, is_word, is_dot, is_name, closing_of};
 
 /// Whether a byte is an ASCII letter, a digit or an underscore.
 pub fn is_word_byte(byte: u8) -> bool
@@ -43,4 +43,15 @@ pub fn is_name(text: &[u8]) -> bool
 {
     let dot = len_before_dot(text);
     is_word(text) || (dot < text.len() && is_word(&text[..dot]) && is_word(&text[dot + 1..]))
+}
+
+/// The bracket that closes an opening one: `)` for `(` and `}` for `{`.
+pub fn closing_bracket(opening: u8) -> Option<u8>
+    ensures { result ≡ closing_of opening }
+{
+    match opening {
+        b'(' => Some(b')'),
+        b'{' => Some(b'}'),
+        _ => None,
+    }
 }

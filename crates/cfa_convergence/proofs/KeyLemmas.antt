@@ -1,13 +1,14 @@
 -- The key text of an instance tells its acts: none of its parts holds a semicolon, and the words of acts tell their kinds.
-use Rattle.std.proofs.Common.{◌≡◌, ◌≢◌, ℕ, ◌+◌, ◌*◌, ◌/◌, ◌%◌, ◌<◌, Bool, true, false, List, [], ◌∷◌, ◌++◌, length, map, get_or, drop, codes, Option, Some, None, refl, sym, ap, ap₂, subst, ◌∙◌, append_assoc, append-nil, arith, All}
+use Rattle.std.proofs.Common.{◌≡◌, ◌≢◌, ℕ, ◌+◌, ◌*◌, ◌%◌, Bool, true, false, List, [], ◌∷◌, ◌++◌, length, map, get_or, drop, codes, Option, Some, None, refl, sym, ap, ap₂, subst, ◌∙◌, append_assoc, append-nil, arith, All}
 use Rattle.std.specs.Prelude.{◌==◌}
-use Rattle.std.specs.Fmt.{decimal, digit_glyph}
+use Rattle.std.specs.Fmt.{decimal}
 use Rattle.std.specs.List.{join_with_byte, flat_map, list_all}
 use Rattle.std.proofs.lemmas.Bool.{ne_eqb, cond-false}
-use Rattle.std.proofs.lemmas.Bool.Decides.{nat_tests}
 use Rattle.std.proofs.lemmas.List.Elements.{All-nil, All-cons, All-head, All-tail, All-append}
 use Rattle.cfa_base.specs.declared.places.PromiseId.{PromiseId}
 use Rattle.cfa_base.specs.Escapes.{escaped, is_field_byte}
+use Rattle.cfa_base.specs.Octal.{octal_digit}
+use Rattle.cfa_base.specs.lemmas.Modes.{mode_length, mode-lacks, mode_tells}
 use Rattle.cfa_base.specs.lemmas.Escapes.{escaped-cut, at_end, at_byte}
 use Rattle.cfa_edits.specs.Laws.{TextsTellScripts}
 use Rattle.cfa_edits.specs.Scripts.{AreEdits, edit_text, script_text}
@@ -19,8 +20,7 @@ use Rattle.cfa_acts.specs.declared.acts.Reason.TheVariants.{BadPath, Missing, Ob
 use Rattle.cfa_acts.specs.Reasons.{code_of}
 use Rattle.cfa_resolve.specs.declared.instances.Work.{Work}
 use Rattle.cfa_resolve.specs.declared.instances.Work.TheVariants.{Acts, Call, Report}
-use Rattle.cfa_resolve.specs.KeyTexts.{fields_after, octal_digit, mode_text, mode_field, names_field, yes_or_no, act_text, work_text, classes_text, key_text}
-use Rattle.cfa_resolve.specs.lemmas.Octal.{octal_is}
+use Rattle.cfa_resolve.specs.KeyTexts.{fields_after, mode_field, names_field, yes_or_no, act_text, work_text, classes_text, key_text}
 use Rattle.cfa_laws.specs.Keys.{IsMode, IsGiven, AreGiven, IsPlainId}
 use Rattle.cfa_convergence.specs.Keys.{AreAlike, KeysTellWorks}
 use Rattle.cfa_base.specs.Lacking.{Lacks}
@@ -50,35 +50,18 @@ flags_tell false true e = absurd (clash 2 3 refl (ap length e))
 
 -- ---- modes
 
-glyphs_tell : (d e : ℕ) → digit_glyph false d ≡ digit_glyph false e → d ≡ e
-glyphs_tell d e same = grind (arith, nat_tests)
-
-digits_tell : (m n : ℕ) → m < 4096 → n < 4096 → m / 512 % 8 ≡ n / 512 % 8 → m / 64 % 8 ≡ n / 64 % 8 → m / 8 % 8 ≡ n / 8 % 8 → m % 8 ≡ n % 8 → m ≡ n
-digits_tell m n small small' a b c d = omega arith
-
 modes_tell : (m n : Option ℕ) → IsMode m → IsMode n → mode_field m ≡ mode_field n → m ≡ n
-unfolding mode_text
 modes_tell None None is is' e = refl
-modes_tell None (Some n) is is' e = absurd (clash 1 4 refl (ap length e))
-modes_tell (Some m) None is is' e = absurd (clash 4 1 refl (ap length e))
-modes_tell (Some m) (Some n) is is' e =
-    let a : digit_glyph false (m / 512 % 8) ≡ digit_glyph false (n / 512 % 8) = cc in
-    let b : digit_glyph false (m / 64 % 8) ≡ digit_glyph false (n / 64 % 8) = cc in
-    let c : digit_glyph false (m / 8 % 8) ≡ digit_glyph false (n / 8 % 8) = cc in
-    let d : digit_glyph false (m % 8) ≡ digit_glyph false (n % 8) = cc in
-    ap Some (digits_tell m n is is' (glyphs_tell (m / 512 % 8) (n / 512 % 8) a) (glyphs_tell (m / 64 % 8) (n / 64 % 8) b) (glyphs_tell (m / 8 % 8) (n / 8 % 8) c) (glyphs_tell (m % 8) (n % 8) d))
+modes_tell None (Some n) is is' e = absurd (clash 1 4 refl (ap length e ∙ mode_length n))
+modes_tell (Some m) None is is' e = absurd (clash 4 1 refl (sym (mode_length m) ∙ ap length e))
+modes_tell (Some m) (Some n) is is' e = ap Some (mode_tells m n is is' e)
 
 octal_differs : (c n : ℕ) → IsSeparator c → octal_digit n ≢ c
-octal_differs c n s e = s.no_digit (n % 8) (omega arith) (sym (octal_is n) ∙ e)
+octal_differs c n s = s.no_digit (n % 8) (omega arith)
 
 lacks_mode : (c : ℕ) (m : Option ℕ) → IsSeparator c → 42 ≢ c → Lacks c (mode_field m)
-unfolding mode_text
 lacks_mode c None s ne = All-cons (λ b. b ≢ c) 42 [] ne (All-nil (λ b. b ≢ c))
-lacks_mode c (Some m) s ne =
-    All-cons (λ b. b ≢ c) (octal_digit (m / 512)) (octal_digit (m / 64) ∷ octal_digit (m / 8) ∷ octal_digit m ∷ []) (octal_differs c (m / 512) s)
-    (All-cons (λ b. b ≢ c) (octal_digit (m / 64)) (octal_digit (m / 8) ∷ octal_digit m ∷ []) (octal_differs c (m / 64) s)
-    (All-cons (λ b. b ≢ c) (octal_digit (m / 8)) (octal_digit m ∷ []) (octal_differs c (m / 8) s)
-    (All-cons (λ b. b ≢ c) (octal_digit m) [] (octal_differs c m s) (All-nil (λ b. b ≢ c)))))
+lacks_mode c (Some m) s ne = mode-lacks c m (λ n. octal_differs c n s)
 
 -- ---- lists of names
 

@@ -1,12 +1,14 @@
 -- The key text of an instance is one line: what stands in it is fields, numbers, fixed words and canonified names, besides the bundle
 -- of the promise and the name of a bundle that is called.
-use Rattle.std.proofs.Common.{◌≡◌, ◌≢◌, ℕ, ◌+◌, ◌/◌, ◌%◌, ◌<◌, ◌^◌, Bool, true, false, List, [], ◌∷◌, ◌++◌, length, map, codes, Option, Some, None, refl, sym, ◌∙◌, arith}
+use Rattle.std.proofs.Common.{◌≡◌, ◌≢◌, ℕ, ◌<◌, ◌^◌, Bool, true, false, List, [], ◌∷◌, ◌++◌, length, map, codes, Option, Some, None, refl, arith}
 use Rattle.std.specs.Prelude.{All, ◌==◌}
 use Rattle.std.specs.Fmt.{decimal}
 use Rattle.std.specs.List.{join_with_byte, flat_map}
 use Rattle.std.proofs.lemmas.List.Elements.{All-head, All-tail}
 use Rattle.cfa_base.specs.declared.places.PromiseId.{PromiseId}
 use Rattle.cfa_base.specs.Escapes.{escaped}
+use Rattle.cfa_base.specs.Octal.{octal_digit}
+use Rattle.cfa_base.specs.lemmas.Modes.{mode-lacks}
 use Rattle.cfa_vars.specs.declared.scoping.Datum.{Datum}
 use Rattle.cfa_vars.specs.declared.scoping.Datum.TheVariants.{Text as text_of, List as list_of}
 use Rattle.cfa_edits.specs.Scripts.{IsOneLine, AreEdits, edit_text, script_text}
@@ -20,8 +22,7 @@ use Rattle.cfa_acts.specs.declared.acts.Reason.TheVariants.{BadPath, Missing, Ob
 use Rattle.cfa_acts.specs.Reasons.{code_of}
 use Rattle.cfa_resolve.specs.declared.instances.Work.{Work}
 use Rattle.cfa_resolve.specs.declared.instances.Work.TheVariants.{Acts, Call, Report}
-use Rattle.cfa_resolve.specs.KeyTexts.{fields_after, octal_digit, mode_text, mode_field, names_field, yes_or_no, act_text, datum_text, work_text, classes_text, key_text}
-use Rattle.cfa_resolve.specs.lemmas.Octal.{octal_is}
+use Rattle.cfa_resolve.specs.KeyTexts.{fields_after, mode_field, names_field, yes_or_no, act_text, datum_text, work_text, classes_text, key_text}
 use Rattle.cfa_laws.specs.Keys.{IsGiven, AreGiven, IsPlainId}
 use Rattle.cfa_laws.proofs.LineLemmas.{no_text, led_line, both_lines, either_line, no_lines, one_more, joined_line, led_lines, field_line, field_lines, decimal_line}
 use Rattle.cfa_scripts.specs.lemmas.OneLine.{one_line}
@@ -47,16 +48,11 @@ script_line script are = lacks_joined 10 44 (map edit_text script) (λ e. omega 
 -- ---- acts
 
 octal_other : (n : ℕ) → octal_digit n ≢ 10
-octal_other n = λ e. let same : 48 + n % 8 ≡ 10 = sym (octal_is n) ∙ e in omega arith
+octal_other n e = omega arith
 
 mode_line : (mode : Option ℕ) → IsOneLine (mode_field mode)
-unfolding mode_text
 mode_line None = one_line (codes "*") refl
-mode_line (Some m) =
-    led_line (octal_digit (m / 512)) (octal_digit (m / 64) ∷ octal_digit (m / 8) ∷ octal_digit m ∷ []) (octal_other (m / 512))
-    (led_line (octal_digit (m / 64)) (octal_digit (m / 8) ∷ octal_digit m ∷ []) (octal_other (m / 64))
-    (led_line (octal_digit (m / 8)) (octal_digit m ∷ []) (octal_other (m / 8))
-    (led_line (octal_digit m) [] (octal_other m) no_text)))
+mode_line (Some m) = mode-lacks 10 m octal_other
 
 names_line : (names : List (List ℕ)) → IsOneLine (names_field names)
 names_line names =

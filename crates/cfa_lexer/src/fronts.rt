@@ -1,11 +1,11 @@
 // What stands at the front of some bytes.
 ghost use Rattle.std.specs.Prelude.{◌≡◌, ◌<◌, length, slice_index, false};
 ghost use Rattle.std.specs.List.{take_while};
-ghost use Rattle.cfa_base.specs.Lexing.{is_word_byte, closing_of, is_reference, closes};
+ghost use Rattle.cfa_base.specs.Lexing.{is_word_byte, is_reference, closes};
 ghost use Rattle.cfa_lexer.specs.Fronts.{gap_len, IsPassingLen, symbol_of, TellsFront};
 
 use crate::bytes::{is_quote, is_separator, len_before};
-use cfa_base::{Kind, is_name, is_word_byte, word_len};
+use cfa_base::{Kind, closing_bracket, is_name, is_word_byte, word_len};
 
 /// How many bytes the separator or the comment at the front has, 0 where there is none.
 pub fn gap_len(bytes: &[u8]) -> usize
@@ -37,17 +37,6 @@ fn closing_len(quote: u8, bytes: &[u8]) -> Option<usize>
         }
     }
     None
-}
-
-// The bracket that closes an opening one.
-fn closing_bracket(opening: u8) -> Option<u8>
-    ensures { result ≡ closing_of opening }
-{
-    match opening {
-        b'(' => Some(b')'),
-        b'{' => Some(b'}'),
-        _ => None,
-    }
 }
 
 // How many bytes the reference at the front has, behind whose sign nothing is known.

@@ -32,7 +32,8 @@ use Rattle.cfa_acts.specs.declared.acts.Reason.TheVariants as reasons
 use Rattle.cfa_resolve.specs.declared.instances.Work.{Work}
 use Rattle.cfa_resolve.specs.declared.instances.Work.TheVariants.{Acts}
 use Rattle.cfa_resolve.specs.FileActs.{file_acts, outcome_classes}
-use Rattle.cfa_resolve.specs.KeyTexts.{mode_text, key_text}
+use Rattle.cfa_base.specs.Octal.{mode_text}
+use Rattle.cfa_resolve.specs.KeyTexts.{key_text}
 use Rattle.cfa_resolve.specs.Instances.{Reached, made_instance, handed_instance}
 use Rattle.cfa_resolve.specs.Resolution.{resolution, made, instance_in}
 use Rattle.cfa_tree.specs.lemmas.Written.{here, named, quoted, says, items, section, promise as promised, a_body}

@@ -30,7 +30,8 @@ use Rattle.cfa_served.specs.Served.{body_of, minutes_of}
 use Rattle.cfa_defines.specs.OwnTexts.{own_reads, combined}
 use Rattle.cfa_bodies.specs.Bodies.{datum_given, bodies_of, heard}
 use Rattle.cfa_resolve.specs.FileActs.{file_acts, service_act, outcome_classes}
-use Rattle.cfa_resolve.specs.KeyTexts.{mode_text, key_text}
+use Rattle.cfa_base.specs.Octal.{mode_text}
+use Rattle.cfa_resolve.specs.KeyTexts.{key_text}
 
 -- ---- a policy of bodies
 

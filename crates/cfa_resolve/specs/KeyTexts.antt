@@ -1,11 +1,12 @@
 -- The key text of an instance: its bundle, a space and its number; `;` and the text of each act, or of its call or report; its
 -- classes for each outcome behind `;k=`, `;r=` and `;f=`, joined by commas; and its minutes behind `;e=`. Paths, names and
 -- texts are escaped fields. It tells the instance among those of its path.
-use Rattle.std.specs.Prelude.{ℕ, ◌/◌, ◌%◌, Bool, true, false, List, [], ◌∷◌, ◌++◌, codes, map, length, ◌==◌, Option, Some, None, if◌then◌else◌}
-use Rattle.std.specs.Fmt.{decimal, digit_glyph}
+use Rattle.std.specs.Prelude.{ℕ, Bool, true, false, List, [], ◌∷◌, ◌++◌, codes, map, length, ◌==◌, Option, Some, None, if◌then◌else◌}
+use Rattle.std.specs.Fmt.{decimal}
 use Rattle.std.specs.List.{join_with_byte, flat_map}
 use Rattle.cfa_base.specs.declared.places.PromiseId.{PromiseId}
 use Rattle.cfa_base.specs.Escapes.{escaped}
+use Rattle.cfa_base.specs.Octal.{mode_text}
 use Rattle.cfa_vars.specs.declared.scoping.Datum.{Datum}
 use Rattle.cfa_vars.specs.declared.scoping.Datum.TheVariants.{Text as text_of, List as list_of}
 use Rattle.cfa_acts.specs.declared.acts.Act.{Act}
@@ -18,14 +19,6 @@ use Rattle.cfa_resolve.specs.declared.instances.Work.TheVariants.{Acts, Call, Re
 -- a word, and fields with a space before each
 abbrev pub fields_after : List ℕ → List (List ℕ) → List ℕ
 fields_after first fields = first ++ flat_map (λ field. 32 ∷ field) fields
-
--- a digit of the mode, from its place
-abbrev pub octal_digit : ℕ → ℕ
-octal_digit n = digit_glyph false (n % 8)
-
--- a mode in 4 octal digits
-unfoldable pub mode_text : ℕ → List ℕ
-mode_text mode = octal_digit (mode / 512) ∷ octal_digit (mode / 64) ∷ octal_digit (mode / 8) ∷ octal_digit mode ∷ []
 
 -- an asterisk where it isn't given
 abbrev pub mode_field : Option ℕ → List ℕ

@@ -3,7 +3,7 @@ ghost use Rattle.std.specs.Prelude.{◌≡◌, ◌<◌, ◌==◌, ◌++◌, [], 
 ghost use Rattle.std.specs.List.{flat_map, join_with_byte};
 ghost use Rattle.std.specs.String.{string_bytes};
 ghost use Rattle.cfa_base.specs.Escapes.{escaped};
-ghost use Rattle.cfa_resolve.specs.KeyTexts.{fields_after, octal_digit, mode_text, mode_field, names_field, yes_or_no};
+ghost use Rattle.cfa_resolve.specs.KeyTexts.{fields_after, mode_field, names_field, yes_or_no};
 
 use cfa_base::{Name, NoMemory, escape};
 use std::alloc::Global;
@@ -71,13 +71,6 @@ pub(crate) fn names_field(alloc: Global, names: &[Name]) -> Result<Name, NoMemor
     join_by_commas(alloc, &fields)
 }
 
-fn octal_digit(number: u16) -> u8
-    ensures value { result ≡ octal_digit number }
-    ensures ascii { result < 128 }
-{
-    b'0' + (number % 8) as u8
-}
-
 fn push_digit(text: &mut String, number: u16) -> Result<(), NoMemory>
     ensures { OnOk result
         (string_bytes text.new ≡ string_bytes text.old ++ octal_digit number ∷ []) }
@@ -86,7 +79,7 @@ fn push_digit(text: &mut String, number: u16) -> Result<(), NoMemory>
     Ok(())
 }
 
-#[tactic(auto, unfolding(crate::specs::KeyTexts::mode_text))]
+#[tactic(auto, unfolding(cfa_base::specs::Octal::mode_text))]
 fn mode_text(alloc: Global, mode: u16) -> Result<Name, NoMemory>
     ensures { IfOk result (λ text. text ≡ mode_text mode) }
 {

@@ -1,38 +1,14 @@
 -- Modes in four octal digits.
-use Rattle.std.proofs.Common.{◌≡◌, ℕ, ◌+◌, ◌-◌, ◌*◌, ◌/◌, ◌<◌, ◌≤◌, List, [], ◌∷◌, true, length, get_or, refl, sym, ◌∙◌, arith}
+use Rattle.std.proofs.Common.{◌≡◌, ◌≢◌, ℕ, ◌+◌, ◌-◌, ◌*◌, ◌/◌, ◌<◌, ◌≤◌, List, [], ◌∷◌, true, length, get_or, refl, sym, ◌∙◌, arith}
 use Rattle.std.proofs.lemmas.Bool.{and_from, and_parts, leb-true}
 use Rattle.std.proofs.lemmas.Bool.Decides.{nat_tests}
 use Rattle.std.specs.Prelude.{nat_le}
 use Rattle.std.specs.List.{list_all}
-use Rattle.cfa_base.specs.Lacking.{Lacks}
-use Rattle.cfa_base.specs.Octal.{is_octal_digit}
-use Rattle.cfa_rows.specs.lemmas.Cuts.{Lacks-from_test, Lacks-cons}
-use Rattle.cfa_tables.specs.Tables.{mode_text, octal_digit, IsMode}
+use Rattle.cfa_base.specs.Octal.{is_octal_digit, octal_digit, mode_text}
+use Rattle.cfa_tables.specs.Tables.{IsMode}
 
-pub mode_length : (mode : ℕ) → length (mode_text mode) ≡ 4
-unfolding mode_text
-mode_length mode = refl
-
-octal-lacks : (byte n : ℕ) → byte < 48 → octal_digit n ≡ byte → ⊥
-octal-lacks byte n small e = omega arith
-
-pub mode-lacks : (byte mode : ℕ) → byte < 48 → Lacks byte (mode_text mode)
-unfolding mode_text
-mode-lacks byte mode small =
-    Lacks-cons byte (octal_digit (mode / 512)) (octal_digit (mode / 64) ∷ octal_digit (mode / 8) ∷ octal_digit mode ∷ []) (octal-lacks byte (mode / 512) small)
-    (Lacks-cons byte (octal_digit (mode / 64)) (octal_digit (mode / 8) ∷ octal_digit mode ∷ []) (octal-lacks byte (mode / 64) small)
-    (Lacks-cons byte (octal_digit (mode / 8)) (octal_digit mode ∷ []) (octal-lacks byte (mode / 8) small)
-    (Lacks-cons byte (octal_digit mode) [] (octal-lacks byte mode small)
-    (Lacks-from_test byte [] refl))))
-
-pub mode_tells : (m n : ℕ) → IsMode m → IsMode n → mode_text m ≡ mode_text n → m ≡ n
-unfolding mode_text
-mode_tells m n is is' e =
-    let first : octal_digit (m / 512) ≡ octal_digit (n / 512) = cc in
-    let second : octal_digit (m / 64) ≡ octal_digit (n / 64) = cc in
-    let third : octal_digit (m / 8) ≡ octal_digit (n / 8) = cc in
-    let fourth : octal_digit m ≡ octal_digit n = cc in
-    omega arith
+pub octal-lacks : (byte : ℕ) → byte < 48 → (n : ℕ) → octal_digit n ≢ byte
+octal-lacks byte small n e = omega arith
 
 octal-digit : (n : ℕ) → is_octal_digit (octal_digit n) ≡ true
 octal-digit n = grind (arith, nat_tests)

@@ -6,8 +6,10 @@ use Rattle.std.specs.Fmt.{decimal}
 use Rattle.std.specs.Prelude.{IsTrue, false}
 use Rattle.std.specs.declared.cmp.Ordering.TheVariants.{Less}
 use Rattle.cfa_base.specs.Escapes.{escaped}
+use Rattle.cfa_base.specs.Octal.{mode_text}
 use Rattle.cfa_base.specs.TextMaps.{text_cmp}
 use Rattle.cfa_base.specs.lemmas.Escapes.{escaped-avoids, fields_tell_texts}
+use Rattle.cfa_base.specs.lemmas.Modes.{mode-lacks, mode_tells}
 use Rattle.cfa_outside.specs.declared.worlds.Perms.{Perms}
 use Rattle.cfa_outside.specs.declared.worlds.ServiceRow.{ServiceRow}
 use Rattle.cfa_base.specs.Lacking.{Lacks}
@@ -18,9 +20,9 @@ use Rattle.cfa_rows.specs.lemmas.Keys.{key-lacks}
 use Rattle.cfa_rows.specs.lemmas.Numbers.{decimal-lacks}
 use Rattle.cfa_rows.specs.lemmas.Rows.{TellsRows}
 use Rattle.cfa_tables.specs.Fields.{IsFourFields}
-use Rattle.cfa_tables.specs.Tables.{service_text, perms_text, lock_text, running_text, enabled_text, mode_text, IsServiceRow, IsPermsRow, IsLockRow, Rises}
+use Rattle.cfa_tables.specs.Tables.{service_text, perms_text, lock_text, running_text, enabled_text, IsServiceRow, IsPermsRow, IsLockRow, Rises}
 use Rattle.cfa_tables.proofs.FieldLemmas.{running-lacks, enabled-lacks, running_tells, enabled_tells, same_fields, four_text}
-use Rattle.cfa_tables.proofs.ModeLemmas.{mode-lacks, mode_tells}
+use Rattle.cfa_tables.proofs.ModeLemmas.{octal-lacks}
 
 pub restarts_small : (n : ℕ) → n < 2 ^ 32 → n < 2 ^ 64
 restarts_small n small = omega arith
@@ -84,7 +86,7 @@ unfolding perms_text
 perms_fields row line e = record {
   whole = e;
   lacks_first = escaped-lacks_space row.0;
-  lacks_second = mode-lacks 32 row.1.mode (omega arith);
+  lacks_second = mode-lacks 32 row.1.mode (octal-lacks 32 (omega arith));
   lacks_third = escaped-lacks_space row.1.owner;
 }
 
@@ -96,7 +98,7 @@ perms-lacks : (row : List ℕ × Perms) → Lacks 10 (perms_text row)
 unfolding perms_text
 perms-lacks row =
     then-lacks (escaped row.0) (mode_text row.1.mode then escaped row.1.owner then escaped row.1.group) (escaped-lacks_newline row.0)
-    (then-lacks (mode_text row.1.mode) (escaped row.1.owner then escaped row.1.group) (mode-lacks 10 row.1.mode (omega arith))
+    (then-lacks (mode_text row.1.mode) (escaped row.1.owner then escaped row.1.group) (mode-lacks 10 row.1.mode (octal-lacks 10 (omega arith)))
     (then-lacks (escaped row.1.owner) (escaped row.1.group) (escaped-lacks_newline row.1.owner) (escaped-lacks_newline row.1.group)))
 
 same_perms : (row other : List ℕ × Perms) → row.0 ≡ other.0 → row.1.mode ≡ other.1.mode → row.1.owner ≡ other.1.owner → row.1.group ≡ other.1.group → row ≡ other

@@ -1,12 +1,13 @@
 -- The tables of a host: which services it has, which permissions its nodes, and when its locks were taken. A table is a
 -- file of rows, a line for each: its fields in their one written form with a space between them, the key first. The keys
 -- rise in the order of their bytes, before they are escaped.
-use Rattle.std.specs.Prelude.{◌≡◌, ℕ, ◌+◌, ◌/◌, ◌%◌, ◌^◌, ◌<◌, Bool, true, false, IsTrue, List, [], ◌∷◌, ◌++◌, length, codes, Option, Some, None, ⊤, ◌⊎◌}
+use Rattle.std.specs.Prelude.{◌≡◌, ℕ, ◌+◌, ◌^◌, ◌<◌, Bool, true, false, IsTrue, List, ◌++◌, length, codes, Option, Some, None, ⊤, ◌⊎◌}
 use Rattle.std.specs.Fmt.{decimal}
 use Rattle.std.specs.Str.{IsUtf8}
 use Rattle.std.specs.declared.cmp.Ordering.TheVariants.{Less}
 use Rattle.cfa_base.specs.Escapes.{escaped}
 use Rattle.cfa_base.specs.Keys.{is_key}
+use Rattle.cfa_base.specs.Octal.{mode_text}
 use Rattle.cfa_base.specs.TextMaps.{text_cmp}
 use Rattle.cfa_outside.specs.Paths.{path_of}
 use Rattle.cfa_outside.specs.declared.worlds.Perms.{Perms}
@@ -38,14 +39,6 @@ enabled_text false = codes "disabled"
 -- a mode has twelve bits
 abbrev pub IsMode : ℕ → Type 0
 IsMode mode = mode < 4096
-
--- the last octal digit of a number
-abbrev pub octal_digit : ℕ → ℕ
-octal_digit n = 48 + n % 8
-
--- a mode in four octal digits
-unfoldable pub mode_text : ℕ → List ℕ
-mode_text mode = octal_digit (mode / 512) ∷ octal_digit (mode / 64) ∷ octal_digit (mode / 8) ∷ octal_digit mode ∷ []
 
 -- Rows: the key, and what stands under it.
 

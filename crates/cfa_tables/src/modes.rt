@@ -1,9 +1,10 @@
 // Modes in octal digits.
 ghost use Rattle.std.specs.Prelude.{◌≡◌, ◌++◌, OnOk};
+ghost use Rattle.cfa_base.specs.Octal.{mode_text};
 ghost use Rattle.cfa_rows.specs.Rows.{Reads};
-ghost use Rattle.cfa_tables.specs.Tables.{IsMode, mode_text, octal_digit};
+ghost use Rattle.cfa_tables.specs.Tables.{IsMode};
 
-use cfa_base::{Bytes, NoMemory, are_octal_digits};
+use cfa_base::{Bytes, NoMemory, are_octal_digits, octal_digit};
 
 /// The mode that a text is in four octal digits.
 pub fn read_mode(field: &[u8]) -> Option<u16>
@@ -21,14 +22,8 @@ pub fn read_mode(field: &[u8]) -> Option<u16>
     Some(a * 512 + b * 64 + c * 8 + d)
 }
 
-fn octal_digit(number: u16) -> u8
-    ensures { result ≡ octal_digit number }
-{
-    b'0' + (number % 8) as u8
-}
-
 /// Adds the four octal digits of a mode at the end of bytes.
-#[tactic(auto, unfolding(crate::specs::Tables::mode_text))]
+#[tactic(auto, unfolding(cfa_base::specs::Octal::mode_text))]
 pub fn append_mode(bytes: &mut Bytes, mode: u16) -> Result<(), NoMemory>
     ensures { OnOk result (bytes.new ≡ bytes.old ++ mode_text mode) }
 {

@@ -12,6 +12,6 @@ mod sharing;
 pub use choosing::{Choice, ChoiceList, Choices, combinations, first_unset_in};
 pub use expanding::{Expanded, expand};
 pub use looking::{Scopes, Variable, constant, list_key, look_up};
-pub use references::{Reference, closing, first_reference, list_reference, split_name};
+pub use references::{Reference, first_reference, list_reference, split_name};
 pub use scoping::{Datum, Scope};
 pub use sharing::SharedScopes;

@@ -2,10 +2,10 @@
 ghost use Rattle.std.specs.Prelude.{◌≡◌, ◌+◌, ◌<◌, ℕ, true, false, [], ◌∷◌, ◌++◌, length, take, drop, map, Some, None, MatchOption, IfSome, IsTrue};
 ghost use Rattle.std.specs.List.{list_all, prefix_len, position_or_len};
 ghost use Rattle.std.specs.Option.{option_map, option_copied};
-ghost use Rattle.cfa_base.specs.Lexing.{is_name, is_name_byte, closing_of};
+ghost use Rattle.cfa_base.specs.Lexing.{is_name, is_name_byte};
 ghost use Rattle.cfa_vars.specs.References.{is_qualified, bundle_part, word_part, name_before, reference_at, literal, reference, pieces, list_reference_of};
 
-use cfa_base::{is_name, is_word_byte};
+use cfa_base::{closing_bracket, is_name, is_word_byte};
 
 fn is_name_byte(byte: u8) -> bool
     ensures { result ≡ is_name_byte byte }
@@ -35,17 +35,6 @@ fn name_bytes(text: &[u8]) -> usize
     text.len()
 }
 
-/// The bracket that closes a reference which this one opens: `)` for `(` and `}` for `{`.
-pub fn closing(bracket: u8) -> Option<u8>
-    ensures { result ≡ closing_of bracket }
-{
-    match bracket {
-        b'(' => Some(b')'),
-        b'{' => Some(b'}'),
-        _ => None,
-    }
-}
-
 // The length of the name that stands before a closing bracket.
 fn name_length(rest: &[u8], close: u8) -> Option<usize>
     requires { 0 < close }
@@ -68,7 +57,7 @@ fn reference_length(text: &[u8]) -> Option<usize>
     if text.len() < 2 || text[0] != b'$' {
         return None;
     }
-    let close = closing(text[1])?;
+    let close = closing_bracket(text[1])?;
     name_length(&text[2..], close)
 }
 
@@ -122,7 +111,7 @@ fn list_reference_length(text: &[u8]) -> Option<usize>
     if text.len() < 2 || text[0] != b'@' {
         return None;
     }
-    let close = closing(text[1])?;
+    let close = closing_bracket(text[1])?;
     let size = name_length(&text[2..], close)?;
     if size + 3 == text.len() {
         Some(size)

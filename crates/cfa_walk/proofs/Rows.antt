@@ -24,7 +24,8 @@ use Rattle.cfa_resolve.specs.declared.instances.Work.TheVariants.{Acts, Call, Re
 use Rattle.cfa_defines.specs.OwnTexts.{own_reads, combined}
 use Rattle.cfa_bodies.specs.Bodies.{datum_given, bodies_of, heard}
 use Rattle.cfa_resolve.specs.FileActs.{file_acts, service_act, outcome_classes}
-use Rattle.cfa_resolve.specs.KeyTexts.{mode_text, key_text}
+use Rattle.cfa_base.specs.Octal.{mode_text}
+use Rattle.cfa_resolve.specs.KeyTexts.{key_text}
 use Rattle.cfa_resolve.specs.Instances.{made_instance}
 use Rattle.cfa_resolve.specs.Resolution.{resolution, made}
 use Rattle.cfa_tree.specs.lemmas.Written.{here, quoted, says, items, under, promise, section, a_bundle, a_body, created}

@@ -1,11 +1,10 @@
--- The octal digits of a mode are digits in the radix 8, and where a mode is written they are the bytes from 48 on.
-use Rattle.std.proofs.Common.{◌≡◌, ◌<◌, ◌+◌, ◌%◌, ℕ, true, List, [], ◌∷◌, arith}
+-- The octal digits of a mode are digits in the radix 8.
+use Rattle.std.proofs.Common.{◌≡◌, ◌<◌, ℕ, true, List, [], ◌∷◌, arith}
 use Rattle.std.specs.Char.{digit_value}
 use Rattle.std.specs.List.{list_all}
 use Rattle.std.specs.Str.Parse.{AllDigits}
 use Rattle.std.proofs.lemmas.Bool.{and_parts}
 use Rattle.std.proofs.lemmas.Bool.Decides.{nat_tests}
-use Rattle.cfa_resolve.specs.KeyTexts.{octal_digit}
 use Rattle.cfa_base.specs.Octal.{is_octal_digit}
 
 octal_value : (b : ℕ) → is_octal_digit b ≡ true → digit_value b < 8
@@ -16,6 +15,3 @@ octal_digits [] h = tt
 octal_digits (b ∷ rest) h =
     let parts = and_parts (is_octal_digit b) (list_all is_octal_digit rest) h in
     (octal_value b parts.0, octal_digits rest parts.1)
-
-pub octal_is : (n : ℕ) → octal_digit n ≡ 48 + n % 8
-octal_is n = grind (arith, nat_tests)

@@ -2,7 +2,8 @@ use Rattle.std.proofs.Common.{ap, sym, ◌∙◌, length}
 use Rattle.std.proofs.lemmas.Bool.{both_ways}
 use Rattle.std.specs.List.{list_all}
 use Rattle.cfa_base.specs.Octal.{is_octal_digit}
-use Rattle.cfa_tables.proofs.ModeLemmas.{mode_length, mode-digits, mode_read, four_digits}
+use Rattle.cfa_base.specs.lemmas.Modes.{mode_length}
+use Rattle.cfa_tables.proofs.ModeLemmas.{mode-digits, mode_read, four_digits}
 use Rattle.cfa_tables.proofs.modes.read_mode.Goals as goal
 use Rattle.cfa_tables.proofs.modes.read_mode.Goals.{then-field-ne4-via-then-field-ne4, then-field-ne4-via-else-field-ne4+then-not-are_octal_digits}
 
