@@ -1,5 +1,5 @@
 -- A policy that was checked is known: the names of its bundles are words, and a value of `usebundle` names a bundle that is there.
-use Rattle.std.proofs.Common.{◌≡◌, ◌≢◌, ◌∙◌, ℕ, ◌+◌, ◌<◌, ◌≤◌, ◌^◌, Bool, true, false, List, [], ◌∷◌, ◌++◌, length, map, codes, All, Option, Some, None, inl, refl, ap, sym, subst, arith}
+use Rattle.std.proofs.Common.{◌≡◌, ◌≢◌, ◌∙◌, ℕ, ◌+◌, ◌<◌, ◌≤◌, ◌^◌, Bool, true, false, List, [], ◌∷◌, length, map, codes, All, Option, Some, None, refl, ap, sym, subst, arith}
 use Rattle.std.specs.Prelude.{IsTrue}
 use Rattle.std.specs.List.{AllByRecursion as Each, Contains, cons_option, filter_map, flat_map}
 use Rattle.std.specs.Str.{bytes_eq}
@@ -12,7 +12,7 @@ use Rattle.cfa_base.specs.declared.limits.TheConstants.{MOST_SOURCE_BYTES}
 use Rattle.cfa_base.specs.declared.places.Place.{Place}
 use Rattle.cfa_base.specs.declared.places.PromiseId.{PromiseId}
 use Rattle.cfa_base.specs.Lexing.{is_word_byte}
-use Rattle.cfa_base.specs.lemmas.Lists.{none_left, none_right, none_in, one_empty, each_append, all_flat, first_here, behind_one}
+use Rattle.cfa_base.specs.lemmas.Lists.{none_left, none_right, each_append, all_flat, first_here, behind_one}
 use Rattle.cfa_bodies.specs.Bodies.{name_given}
 use Rattle.cfa_tree.specs.Tree.{ValueTree, text, word, reference, list_reference, list, call, AttributeTree, PromiseTree, SectionTree, NamedTree, BlockTree, bundle, body, PolicyTree}
 use Rattle.cfa_kinds.specs.declared.kinds.BundleType.{BundleType}
@@ -22,19 +22,19 @@ use Rattle.cfa_kinds.specs.declared.kinds.Kind.{Kind}
 use Rattle.cfa_kinds.specs.declared.kinds.Kind.TheVariants as kinds
 use Rattle.cfa_kinds.specs.Kinds.{bundle_type, is_foreign_bundle_type, promise_type, promise_attribute, shared_attribute, vars_attribute, classes_attribute, outcome_attribute, files_attribute, methods_attribute, services_attribute, field_edits_attribute, insert_lines_attribute, replace_patterns_attribute}
 use Rattle.cfa_laws.specs.Keys.{IsPlain, IsPlainId, HasPlainCall}
-use Rattle.cfa_values.specs.Attributes.{value_of, attribute_by, attribute_refusals}
+use Rattle.cfa_values.specs.Attributes.{attribute_by, attribute_refusals}
 use Rattle.cfa_values.specs.Definitions.{BundleHead, bundle_named}
 use Rattle.cfa_values.specs.Scope.{in_bundle}
 use Rattle.cfa_values.specs.Values.{Setting, is_known, value_count, text_scope, named_by_text, method_refusals, repeated}
 use Rattle.cfa_served.specs.Checked.{worded_promises_of, ids_from, ids_in_block, promise_ids_of}
-use Rattle.cfa_served.specs.Control.{control_of}
 use Rattle.cfa_served.specs.lemmas.Promises.{second, seconds_in}
 use Rattle.cfa_schema.specs.Defined.{bundle_head, definitions_of}
 use Rattle.cfa_schema.specs.Laws.{Stands, in_promise, by_word, by_call, NamesBundle, by_name, by_text, NothingIsRefused, AgentBundleIsThere, IsWord, HasWordName, WordsLackNewlines, NamesAreWords, NamedBundleStands, CommonBundlesStand, CommonNamesAreWords, SequenceNamesAreWords, IsCounted, IdsAreCounted}
 use Rattle.cfa_served.specs.Served.{common_bundles_of}
 use Rattle.cfa_schema.specs.lemmas.Found.{word_bytes, found, given}
+use Rattle.cfa_schema.specs.lemmas.Passing.{block_passes, never_other}
 use Rattle.cfa_schema.specs.Sourced.{IsSourced}
-use Rattle.cfa_schema.specs.Valid.{Valid, refusals, repeated_bodies_after, body_name, bundle_name, default_refusals, block_refusals, bundle_by, other_type}
+use Rattle.cfa_schema.specs.Valid.{Valid, bundle_by}
 use Rattle.cfa_walk.specs.Numbered.{Numbered, numbered_as, numbered_from, numbered_in, name_of}
 use Rattle.cfa_walk.specs.lemmas.PlainNames.{plain_names}
 use Rattle.cfa_convergence.specs.Policies.{IsKnown, IsKnownCommon, HasKnown}
@@ -134,23 +134,8 @@ module _ (policy : PolicyTree) (valid : Valid policy) (sourced : IsSourced polic
   -- ---- promises
 
   -- a bundle of a valid policy has a type of the profile
-  block_passes : (block : BlockTree) → Contains policy block → block_refusals (definitions_of policy) block ≡ []
-  unfolding refusals
-  block_passes block has =
-      let names = repeated (filter_map bundle_name policy) in
-      let others = repeated_bodies_after [] (filter_map body_name policy) in
-      let default = default_refusals (definitions_of policy) (value_of (codes "bundlesequence") (control_of policy)) in
-      let blocks = flat_map (block_refusals (definitions_of policy)) policy in
-      let none : (names ++ (others ++ (default ++ blocks))) ≡ [] = none_in (refusals policy) (λ r c. valid.none_applies r (inl c)) in
-      one_empty (block_refusals (definitions_of policy)) policy block
-      (none_right default blocks (none_right others (default ++ blocks) (none_right names (others ++ (default ++ blocks)) none))) has
-
   type_given : (s : Setting) (type_name : NamedTree) (sections : List SectionTree) (type : Option BundleType) → bundle_by s type_name sections type ≡ [] → (within : BundleType) × (type ≡ Some within)
-  type_given s type_name sections None e = absurd (refused (is_foreign_bundle_type type_name.name) e)
-    where
-      refused : (b : Bool) → other_type b type_name.place ≡ [] → ⊥
-      refused true f = cc
-      refused false f = cc
+  type_given s type_name sections None e = absurd (never_other (is_foreign_bundle_type type_name.name) type_name.place e)
   type_given s type_name sections (Some within) e = (within, refl)
 
   module _ (type_name name : NamedTree) (params : List NamedTree) (sections : List SectionTree) (place : Place) (has : Contains policy (bundle type_name name params sections place)) where
@@ -160,7 +145,7 @@ module _ (policy : PolicyTree) (valid : Valid policy) (sourced : IsSourced polic
     typed : (within : BundleType) × (bundle_type type_name.name ≡ Some within)
     typed =
         type_given s type_name sections (bundle_type type_name.name)
-        (none_right (repeated params) (bundle_by s type_name sections (bundle_type type_name.name)) (block_passes (bundle type_name name params sections place) has))
+        (none_right (repeated params) (bundle_by s type_name sections (bundle_type type_name.name)) (block_passes policy (bundle type_name name params sections place) valid has))
 
     abbrev IsFit : List ℕ × PromiseTree → Type 0
     IsFit x = (type : PromiseType) → promise_type x.0 ≡ Some type → HasPlainCall x.1

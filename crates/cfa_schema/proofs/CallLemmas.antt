@@ -20,7 +20,7 @@ use Rattle.cfa_values.specs.Values.{repeated_after}
 use Rattle.cfa_values.specs.declared.refusals.Code.TheVariants.{Duplicate}
 use Rattle.cfa_schema.specs.Valid.{bundle_name, calls_in_block, calls_of, first_bundles_after}
 use Rattle.cfa_schema.specs.Laws.{EachBundleCalls}
-use Rattle.cfa_schema.proofs.FactLemmas.{names_pass}
+use Rattle.cfa_schema.specs.lemmas.Passing.{names_pass}
 use Rattle.cfa_schema.proofs.IdLemmas.{only_none}
 
 -- a name is new where it is none of the names

@@ -1,11 +1,11 @@
 -- What holds of the attributes of a valid policy: none of them is refused.
-use Rattle.std.proofs.Common.{◌≡◌, ◌∙◌, ℕ, Bool, true, false, not, List, [], ◌++◌, Option, Some, None, inl, refl, ap, sym, arith, map}
-use Rattle.std.specs.Prelude.{◌==◌, codes, if◌then◌else◌}
-use Rattle.std.specs.List.{Contains, flat_map, filter_map}
+use Rattle.std.proofs.Common.{◌≡◌, ◌∙◌, ℕ, Bool, true, false, not, List, [], ◌++◌, Option, Some, None, refl, ap, sym, arith, map}
+use Rattle.std.specs.Prelude.{◌==◌, if◌then◌else◌}
+use Rattle.std.specs.List.{Contains, flat_map}
 use Rattle.std.proofs.lemmas.Bool.Decides.{nat_tests}
 use Rattle.cfa_base.specs.declared.places.Place.{Place}
-use Rattle.cfa_base.specs.lemmas.Lists.{none_left, none_right, one_empty, none_in}
-use Rattle.cfa_tree.specs.Tree.{ValueTree, AttributeTree, PromiseTree, SectionTree, BlockTree, bundle, body, PolicyTree, values_in}
+use Rattle.cfa_base.specs.lemmas.Lists.{none_left, none_right, one_empty}
+use Rattle.cfa_tree.specs.Tree.{ValueTree, AttributeTree, PromiseTree, SectionTree, bundle, body, values_in}
 use Rattle.cfa_kinds.specs.declared.kinds.BundleType.{BundleType}
 use Rattle.cfa_kinds.specs.declared.kinds.BundleType.TheVariants as bundles
 use Rattle.cfa_kinds.specs.declared.kinds.PromiseType.{PromiseType}
@@ -18,32 +18,10 @@ use Rattle.cfa_values.specs.declared.refusals.Code.TheVariants.{WrongValue, Type
 use Rattle.cfa_values.specs.Refusals.{only_if}
 use Rattle.cfa_values.specs.Definitions.{BundleHead, BodyHead, bundle_named, body_named}
 use Rattle.cfa_values.specs.Values.{Setting, text_scope, value_count, item_refusals, body_found, body_refusals, bundle_found, is_type, edit_refusals, is_known, named_by_text, method_refusals, value_refusals, repeated}
-use Rattle.cfa_values.specs.Attributes.{attribute_name, attribute_by, attribute_refusals, attributes_refusals, value_of}
-use Rattle.cfa_served.specs.Control.{control_of}
-use Rattle.cfa_schema.specs.Defined.{definitions_of}
-use Rattle.cfa_schema.specs.Valid.{Valid, refusals, repeated_bodies_after, body_name, bundle_name, default_refusals, block_refusals, bundle_by, body_by, section_by, section_refusals, promise_refusals, promisee_refusals, is_wrong_promiser, lacks_choice, lacks_required, is_misnamed}
+use Rattle.cfa_values.specs.Attributes.{attribute_name, attribute_by, attribute_refusals, attributes_refusals}
+use Rattle.cfa_schema.specs.Valid.{bundle_by, body_by, section_by, section_refusals, promise_refusals, promisee_refusals, is_wrong_promiser, lacks_choice, lacks_required, is_misnamed}
 use Rattle.cfa_schema.specs.Laws.{in_promise, of_body, Names, by_word, by_call, NamesBundle, by_name, by_text, NothingIsRefused, NamedBodyIsThere, EditBundleIsThere, AgentBundleIsThere}
-
--- no bundle of a valid policy has the name of one before it
-pub names_pass : (policy : PolicyTree) → Valid policy → repeated (filter_map bundle_name policy) ≡ []
-unfolding refusals
-names_pass policy valid =
-    let others = repeated_bodies_after [] (filter_map body_name policy) in
-    let default = default_refusals (definitions_of policy) (value_of (codes "bundlesequence") (control_of policy)) in
-    let blocks = flat_map (block_refusals (definitions_of policy)) policy in
-    none_left (repeated (filter_map bundle_name policy)) (others ++ (default ++ blocks)) (none_in (refusals policy) (λ r c. valid.none_applies r (inl c)))
-
--- no block of a valid policy is refused
-pub block_passes : (policy : PolicyTree) (b : BlockTree) → Valid policy → Contains policy b → block_refusals (definitions_of policy) b ≡ []
-unfolding refusals
-block_passes policy b valid h =
-    let names = repeated (filter_map bundle_name policy) in
-    let others = repeated_bodies_after [] (filter_map body_name policy) in
-    let default = default_refusals (definitions_of policy) (value_of (codes "bundlesequence") (control_of policy)) in
-    let blocks = flat_map (block_refusals (definitions_of policy)) policy in
-    let none : (names ++ (others ++ (default ++ blocks))) ≡ [] = none_in (refusals policy) (λ r c. valid.none_applies r (inl c)) in
-    one_empty (block_refusals (definitions_of policy)) policy b
-    (none_right default blocks (none_right others (default ++ blocks) (none_right names (others ++ (default ++ blocks)) none))) h
+use Rattle.cfa_schema.specs.lemmas.Passing.{block_passes}
 
 by_type : {T Y : Type 0} (by : Option T → List Y) (found : Option T) (type : T) → found ≡ Some type → by found ≡ [] → by (Some type) ≡ []
 by_type by found type e h = sym (ap by e) ∙ h

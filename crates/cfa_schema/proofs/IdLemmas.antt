@@ -21,11 +21,11 @@ use Rattle.cfa_values.specs.declared.refusals.Code.TheVariants.{Duplicate}
 use Rattle.cfa_values.specs.Scope.{in_bundle}
 use Rattle.cfa_values.specs.Values.{Setting, repeated, repeated_after}
 use Rattle.cfa_served.specs.Checked.{id_at, promises_of, worded_promises_of, given_in_bundle, on_line, word_on_line, promise_of, worded_promise_of, typed, ids_from, ids_in_block, promise_ids_of}
-use Rattle.cfa_schema.specs.Valid.{Valid, bundle_name, bundle_by, section_by, section_refusals, block_refusals, other_type}
+use Rattle.cfa_schema.specs.Valid.{Valid, bundle_name, bundle_by, section_by, section_refusals, block_refusals}
 use Rattle.cfa_schema.specs.Defined.{definitions_of}
 use Rattle.cfa_schema.specs.Laws.{ListedIdsAreFound, FoundIdsAreListed}
 use Rattle.cfa_served.specs.lemmas.Promises.{second, second_is, seconds_in}
-use Rattle.cfa_schema.proofs.FactLemmas.{block_passes, names_pass}
+use Rattle.cfa_schema.specs.lemmas.Passing.{names_pass, block_passes, never_other}
 
 -- ---- an id that is found is in the list
 
@@ -200,11 +200,6 @@ all_stand before (bundle type_name named params sections place ∷ rest) e typed
     (any_both (bytes_eq (get_or (flat_map ids_in_block rest) k d).bundle) before named.name (new k d h)).1 (more k d h))
 all_stand before (body type_name named params attributes place ∷ rest) e typed =
     all_stand before rest e (All-tail AllTyped (body type_name named params attributes place) rest typed)
-
--- no other type stands in a valid policy
-never_other : (b : Bool) (place : Place) → other_type b place ≡ [] → ⊥
-never_other true place e = cc
-never_other false place e = cc
 
 section_typed : (s : Setting) (within : BundleType) (section : SectionTree) (found : Option PromiseType) → promise_type section.kind ≡ found → section_by s within section found ≡ [] →
     All HasType (worded_promises_of section)
