@@ -1,13 +1,11 @@
 -- A policy that was checked is known: the names of its bundles are words, and a value of `usebundle` names a bundle that is there.
-use Rattle.std.proofs.Common.{◌≡◌, ◌≢◌, ◌∙◌, ℕ, ◌+◌, ◌<◌, ◌≤◌, ◌^◌, Bool, true, false, List, [], ◌∷◌, length, map, codes, All, Option, Some, None, refl, ap, sym, subst, arith}
+use Rattle.std.proofs.Common.{◌≡◌, ◌≢◌, ◌∙◌, ℕ, ◌+◌, ◌<◌, ◌≤◌, ◌^◌, Bool, true, false, List, [], ◌∷◌, map, codes, All, Option, Some, None, refl, ap, sym, subst, arith}
 use Rattle.std.specs.Prelude.{IsTrue}
-use Rattle.std.specs.List.{AllByRecursion as Each, Contains, cons_option, filter_map, flat_map}
-use Rattle.std.specs.Str.{bytes_eq}
+use Rattle.std.specs.List.{AllByRecursion as Each, Contains, cons_option, flat_map}
 use Rattle.std.proofs.Math.Bool.{Bool-set}
 use Rattle.std.proofs.Math.Bridge.{le_prop}
 use Rattle.std.proofs.lemmas.Bool.{false≢true}
-use Rattle.std.proofs.lemmas.List.Elements.{All-cons, All-contains, All-contains_itself, All-head, All-nil, All-tail, All-weaker}
-use Rattle.std.proofs.lemmas.Slice.Eq.{bytes_eq-Decides}
+use Rattle.std.proofs.lemmas.List.Elements.{All-contains, All-head, All-nil, All-tail, All-weaker}
 use Rattle.cfa_base.specs.declared.limits.TheConstants.{MOST_SOURCE_BYTES}
 use Rattle.cfa_base.specs.declared.places.Place.{Place}
 use Rattle.cfa_base.specs.declared.places.PromiseId.{PromiseId}
@@ -23,15 +21,16 @@ use Rattle.cfa_kinds.specs.declared.kinds.Kind.TheVariants as kinds
 use Rattle.cfa_kinds.specs.Kinds.{bundle_type, is_foreign_bundle_type, promise_type, promise_attribute, shared_attribute, vars_attribute, classes_attribute, outcome_attribute, files_attribute, methods_attribute, services_attribute, field_edits_attribute, insert_lines_attribute, replace_patterns_attribute}
 use Rattle.cfa_laws.specs.Keys.{IsPlain, IsPlainId, HasPlainCall}
 use Rattle.cfa_values.specs.Attributes.{attribute_by, attribute_refusals}
-use Rattle.cfa_values.specs.Definitions.{BundleHead, bundle_named}
+use Rattle.cfa_values.specs.Definitions.{bundle_named}
 use Rattle.cfa_values.specs.Scope.{in_bundle}
 use Rattle.cfa_values.specs.Values.{Setting, is_known, value_count, text_scope, named_by_text, method_refusals, repeated}
 use Rattle.cfa_served.specs.Checked.{worded_promises_of, ids_from, ids_in_block, promise_ids_of}
 use Rattle.cfa_served.specs.lemmas.Promises.{second, seconds_in}
-use Rattle.cfa_schema.specs.Defined.{bundle_head, definitions_of}
+use Rattle.cfa_schema.specs.Defined.{definitions_of}
 use Rattle.cfa_schema.specs.Laws.{Stands, in_promise, by_word, by_call, NamesBundle, by_name, by_text, NothingIsRefused, AgentBundleIsThere, IsWord, HasWordName, WordsLackNewlines, NamesAreWords, NamedBundleStands, CommonBundlesStand, CommonNamesAreWords, SequenceNamesAreWords, IsCounted, IdsAreCounted}
 use Rattle.cfa_served.specs.Served.{common_bundles_of}
-use Rattle.cfa_schema.specs.lemmas.Found.{word_bytes, found, given}
+use Rattle.cfa_schema.specs.lemmas.BundleNames.{heads_are_words, head_is_word}
+use Rattle.cfa_schema.specs.lemmas.Found.{word_bytes, given}
 use Rattle.cfa_schema.specs.lemmas.Passing.{block_passes, never_other}
 use Rattle.cfa_schema.specs.Sourced.{IsSourced}
 use Rattle.cfa_schema.specs.Valid.{Valid, bundle_by}
@@ -49,37 +48,6 @@ word_lacks c none (b ∷ bs) is =
 
 plain_word : (name : List ℕ) → IsWord name → IsPlain name
 plain_word name is = record { no_semicolon = word_lacks 59 refl name is; no_newline = word_lacks 10 refl name is }
-
--- ---- bundles that are named
-
-abbrev HasWordHead : BundleHead → Type 0
-HasWordHead b = IsWord b.name
-
-abbrev IsWordBlock : BlockTree → Type 0
-IsWordBlock (bundle type_name name params sections place) = IsWord name.name
-IsWordBlock (body type_name name params attributes place) = Unit {0}
-
-words_in : (policy : PolicyTree) → NamesAreWords → IsSourced policy → All IsWordBlock policy
-words_in policy words sourced = All-weaker (Contains policy) IsWordBlock one policy (All-contains_itself policy)
-  where
-    one : (block : BlockTree) → Contains policy block → IsWordBlock block
-    one (bundle type_name name params sections place) has = words policy type_name name params sections place sourced has
-    one (body type_name name params attributes place) has = tt
-
-heads_are_words : (blocks : List BlockTree) → All IsWordBlock blocks → All HasWordHead (filter_map bundle_head blocks)
-heads_are_words [] h = All-nil HasWordHead
-heads_are_words (bundle type_name name params sections place ∷ rest) h =
-    All-cons HasWordHead (record { type = bundle_type type_name.name; name = name.name; params = length params; place = name.place }) (filter_map bundle_head rest)
-    (All-head IsWordBlock (bundle type_name name params sections place) rest h)
-    (heads_are_words rest (All-tail IsWordBlock (bundle type_name name params sections place) rest h))
-heads_are_words (body type_name name params attributes place ∷ rest) h =
-    heads_are_words rest (All-tail IsWordBlock (body type_name name params attributes place) rest h)
-
-named_is_word : (policy : PolicyTree) → NamesAreWords → IsSourced policy → (name : List ℕ) (b : BundleHead) → bundle_named (definitions_of policy) name ≡ Some b → IsWord name
-unfolding definitions_of
-named_is_word policy words sourced name b e =
-    let there = found (λ (other : BundleHead). bytes_eq name other.name) (filter_map bundle_head policy) b e in
-    subst IsWord (sym ((bytes_eq-Decides name b.name).0 there.passes)) (All-contains HasWordHead (filter_map bundle_head policy) b (heads_are_words policy (words_in policy words sourced)) there.there)
 
 -- ---- values of `usebundle`
 
@@ -118,7 +86,7 @@ module _ (policy : PolicyTree) (valid : Valid policy) (sourced : IsSourced polic
       there : (name : List ℕ) (count : ℕ) → NamesBundle a.value name count → All (λ (byte : ℕ). byte ≢ 10) name
       there name count names =
           let head = agent policy s table a name count valid stands kind names in
-          word_lacks 10 refl name (named_is_word policy words sourced name head.0 (ap (λ d. bundle_named d name) (sym defined) ∙ head.1))
+          word_lacks 10 refl name (head_is_word (definitions_of policy) (heads_are_words policy words sourced) name head.0 (ap (λ d. bundle_named d name) (sym defined) ∙ head.1))
 
       by_value : (value : ValueTree) → a.value ≡ value → All (λ (byte : ℕ). byte ≢ 10) (name_given value)
       by_value (text content place) e =

@@ -1,7 +1,7 @@
 -- The names that a policy serves, where it was read from its files.
 use Rattle.std.proofs.Common.{◌≡◌, ◌∙◌, ℕ, ◌+◌, ◌≤◌, Bool, true, false, List, [], ◌∷◌, ◌++◌, length, map, All, Option, Some, None, refl, ap, sym, subst, arith}
 use Rattle.std.specs.Prelude.{IsTrue, codes, find, if◌then◌else◌}
-use Rattle.std.specs.List.{AllByRecursion, Contains, filter_map, flat_map}
+use Rattle.std.specs.List.{AllByRecursion, Contains, flat_map}
 use Rattle.std.specs.Str.{bytes_eq}
 use Rattle.std.proofs.lemmas.Bool.{false≢true, and_parts}
 use Rattle.std.proofs.lemmas.Option.{none-some, option_and_then_some, same_Some}
@@ -14,18 +14,19 @@ use Rattle.cfa_base.specs.lemmas.Lists.{none_left, none_right, each_append, firs
 use Rattle.cfa_tree.specs.Tree.{ValueTree, list, AttributeTree, PromiseTree, SectionTree, NamedTree, BlockTree, bundle, body, PolicyTree, values_in}
 use Rattle.cfa_kinds.specs.declared.kinds.BodyType.TheVariants as bodies
 use Rattle.cfa_kinds.specs.declared.kinds.Kind.TheVariants as kinds
-use Rattle.cfa_kinds.specs.Kinds.{bundle_type, body_type, body_attribute, common_attribute}
+use Rattle.cfa_kinds.specs.Kinds.{body_type, body_attribute, common_attribute}
 use Rattle.cfa_values.specs.Scope.{in_body}
 use Rattle.cfa_values.specs.Definitions.{BundleHead, bundle_named}
 use Rattle.cfa_values.specs.Values.{Setting, known_items, known_item_refusals, name_in, repeated, in_sequence_refusals, sequence_item_refusals, sequence_refusals}
 use Rattle.cfa_values.specs.Attributes.{attribute_by, value_of}
 use Rattle.cfa_served.specs.Checked.{promises_of, ids_from, ids_in_block, promise_ids_of, promise_count, HasFew}
 use Rattle.cfa_served.specs.Control.{is_control, control_of, names_listed, names_given, sequence_of}
-use Rattle.cfa_schema.specs.Defined.{bundle_head, definitions_of}
+use Rattle.cfa_schema.specs.Defined.{definitions_of}
 use Rattle.cfa_served.specs.Served.{is_bundle_of, if_bundle, bundle_of, is_common, common_bundles_of}
 use Rattle.cfa_schema.specs.Sourced.{IsSourced}
 use Rattle.cfa_schema.specs.Valid.{Valid}
 use Rattle.cfa_schema.specs.Laws.{of_body, IsWord, HasWordName, WordsLackNewlines, NamesAreWords, ParamsAreWords, LinesAreCounts, LinesAreFew, PromisesAreFew, NamedBundleStands, CommonBundlesStand, NamedBundleIsWord, CommonNamesAreWords, SequenceNamesAreWords, IsCounted, IdsAreCounted}
+use Rattle.cfa_schema.specs.lemmas.BundleNames.{HasWordHead, heads_are_words, head_is_word}
 use Rattle.cfa_schema.specs.lemmas.Found.{word_bytes, IsFound, found, given}
 use Rattle.cfa_schema.proofs.FactLemmas.{nothing_is_refused}
 use Rattle.cfa_schema.proofs.SizeLemmas.{sourced_has_few}
@@ -139,9 +140,6 @@ common_names_are_words policy read =
 
 -- ---- the sequence
 
-abbrev HasWordHead : BundleHead → Type 0
-HasWordHead b = IsWord b.name
-
 -- an attribute of a control body that gives a value
 record Gives (policy : PolicyTree) (value : ValueTree) : Type 0 where
   type_name : NamedTree
@@ -206,21 +204,10 @@ names_bundles : body_attribute bodies.Common (codes "bundlesequence") ≡ Some k
 unfolding common_attribute
 names_bundles = refl
 
-heads_are_words : (policy : PolicyTree) → All (IsSoundBlock last_line) policy → All HasWordHead (filter_map bundle_head policy)
-heads_are_words [] h = All-nil HasWordHead
-heads_are_words (bundle type_name name params sections place ∷ rest) h =
-    All-cons HasWordHead (record { type = bundle_type type_name.name; name = name.name; params = length params; place = name.place }) (filter_map bundle_head rest)
-    (All-head (IsSoundBlock last_line) (bundle type_name name params sections place) rest h).name_is
-    (heads_are_words rest (All-tail (IsSoundBlock last_line) (bundle type_name name params sections place) rest h))
-heads_are_words (body type_name name params attributes place ∷ rest) h =
-    heads_are_words rest (All-tail (IsSoundBlock last_line) (body type_name name params attributes place) rest h)
-
 module _ (s : Setting) (sound : All HasWordHead s.definitions.bundles) where
   item_is_word : (n : NamedTree) (head : Option BundleHead) → bundle_named s.definitions n.name ≡ head → in_sequence_refusals head n.place ≡ [] → IsWord n.name
   item_is_word n None is e = cc
-  item_is_word n (Some b) is e =
-      let there = found (λ (other : BundleHead). bytes_eq n.name other.name) s.definitions.bundles b is in
-      subst IsWord (sym ((bytes_eq-Decides n.name b.name).0 there.passes)) (All-contains HasWordHead s.definitions.bundles b sound there.there)
+  item_is_word n (Some b) is e = head_is_word s.definitions sound n.name b is
 
   items_are_words : (items : List NamedTree) → flat_map (sequence_item_refusals s.definitions) items ≡ [] → All IsWord (map name_in items)
   items_are_words [] e = All-nil IsWord
@@ -239,7 +226,6 @@ module _ (s : Setting) (sound : All HasWordHead s.definitions.bundles) where
 
 given_are_words : (policy : PolicyTree) → Valid policy → IsSourced policy → (value : Option ValueTree) → value_of (codes "bundlesequence") (control_of policy) ≡ value →
     All IsWord (names_given (codes "main" ∷ []) value)
-unfolding definitions_of
 given_are_words policy valid read None e = All-cons IsWord (codes "main") [] refl (All-nil IsWord)
 given_are_words policy valid read (Some value) e =
     let g = gives policy value e in
@@ -247,7 +233,7 @@ given_are_words policy valid read (Some value) e =
     let none = nothing_is_refused policy s (body_attribute bodies.Common) g.a valid (of_body g.is_block (ap body_type g.is_common ∙ is_common_body) g.is_attribute) in
     let kind = ap (body_attribute bodies.Common) g.named ∙ names_bundles in
     let refused = sym (ap (attribute_by s g.a) kind) ∙ none in
-    listed_are_words s (heads_are_words policy (sourced_is_sound policy read)) value (ap (sequence_refusals s) (sym g.valued) ∙ refused)
+    listed_are_words s (heads_are_words policy names_are_words read) value (ap (sequence_refusals s) (sym g.valued) ∙ refused)
 
 pub sequence_names_are_words : SequenceNamesAreWords
 unfolding sequence_of

@@ -1,3 +1,4 @@
 -- Lemmas on these definitions that the proofs of the crates above cite. No contract names one.
+pub mod BundleNames
 pub mod Found
 pub mod Passing
