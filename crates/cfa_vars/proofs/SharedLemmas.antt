@@ -2,7 +2,7 @@
 use Rattle.std.proofs.Common.{◌≡◌, ◌<◌, if◌then◌else◌, ℕ, ◌+◌, zero, suc, Bool, true, false, cond, ◌||◌, List, [], ◌∷◌, ◌++◌, length, get_or, map, Option, Some, None, is_some, refl, sym, ap, subst, arith, ◌∙◌}
 use Rattle.std.proofs.lemmas.Bool.{false≢true, or_parts}
 use Rattle.std.proofs.lemmas.Iterator.Adapters.{position_from-zero}
-use Rattle.std.proofs.lemmas.List.{map-append, length-map}
+use Rattle.std.proofs.lemmas.List.{map-append, length-map, set-get_or}
 use Rattle.std.proofs.lemmas.Option.{slice_get-get_or, get_or_from_slice_get}
 use Rattle.std.proofs.lemmas.List.Quantifiers.{position-Some}
 use Rattle.std.proofs.Math.Seq.{map-set_same}
@@ -128,3 +128,11 @@ scope_set scopes seen place scope table change bundle before same within at is s
     ap (λ (ss : List (Text × Table)). slice_set ss place (scope.0, table)) same
     ∙ ap (λ t. slice_set seen place (scope.0, t)) is
     ∙ ap (λ (s : Text × Table). slice_set seen place (s.0, change s.1)) here
+
+-- the scope at a place was put back as it was
+pub scope_stays : (scopes seen : List (Text × Table)) (place : ℕ) (scope : Text × Table) (table : Table) → scopes ≡ seen → scope ≡ get_or scopes place scope → table ≡ scope.1 → slice_set scopes place (scope.0, table) ≡ seen
+scope_stays scopes seen place scope table same at is =
+    ap (λ t. slice_set scopes place (scope.0, t)) is
+    ∙ ap (λ (s : Text × Table). slice_set scopes place s) at
+    ∙ set-get_or scopes place scope
+    ∙ same

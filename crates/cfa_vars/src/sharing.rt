@@ -94,12 +94,13 @@ impl SharedScopes {
         }
     }
 
-    /// Sets a variable of the scope at a place.
+    /// Sets a variable of the scope at a place. After want of memory the scopes are as they were.
     pub fn set_at(&mut self, place: usize, name: Name, datum: Datum) -> Result<(), NoMemory>
         requires { place < length self.old }
-        ensures { OnOk result ((bundle : List ℕ) (table : Table)
+        ensures ok { OnOk result ((bundle : List ℕ) (table : Table)
             → slice_get self.old place ≡ Some (bundle, table)
             → self.new ≡ slice_set self.old place (bundle, put table name datum)) }
+        ensures err { OnErr result (self.new ≡ self.old) }
     {
         self.scopes[place].1.set(name, datum)
     }

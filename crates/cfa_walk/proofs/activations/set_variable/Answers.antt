@@ -14,7 +14,7 @@ pub returns-in_ok-set_at-in-Some-clause-stands :
     goal.returns-in_ok-set_at-in-Some-clause-stands
 returns-in_ok-set_at-in-Some-clause-stands c =
     λ s h stands.
-    stands_set_shared s c.args.state.now c.args.activation.now h c.args.name c.args.datum c.in-Some.place c.set_at.new.self c.in-Some.is c.in_ok-set_at-in-Some.ensures stands
+    stands_set_shared s c.args.state.now c.args.activation.now h c.args.name c.args.datum c.in-Some.place c.set_at.new.self c.in-Some.is c.in_ok-set_at-in-Some.ensures.ok stands
 
 pub returns-in_ok-set-in-Some-clause-stands : goal.returns-in_ok-set-in-Some-clause-stands
 returns-in_ok-set-in-Some-clause-stands c =
