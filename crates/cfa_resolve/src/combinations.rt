@@ -145,8 +145,8 @@ fn make(
     }
 }
 
-/// Whether a name is among these, without taking memory.
-pub fn is_listed(names: &[Name], name: &str) -> bool
+// Whether a name is among these.
+fn is_listed(names: &[Name], name: &str) -> bool
     ensures { result ≡ is_listed names.now name.now }
 {
     for other in names {

@@ -18,7 +18,6 @@ mod services;
 mod values;
 
 pub use cfa_scripts::Unsettled;
-pub use combinations::is_listed;
 pub use copies::{copy_datum, copy_id};
 pub use instances::{Acts, FoundPromise, Instance, ResolveErr, Resolved, View, Work};
 pub use laws::{instances_are_few, instances_are_named};
