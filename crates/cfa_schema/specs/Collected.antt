@@ -41,10 +41,6 @@ with_blocks definitions (b ∷ rest) = with_blocks (with_block definitions b) re
 abbrev pub seen_pattern : FoundPattern → KnownPattern
 seen_pattern p = record { how = p.how; text = p.text.now; place = p.place }
 
-abbrev pub one_or_none : {X : Type 0} → Option X → List X
-one_or_none None = []
-one_or_none (Some x) = x ∷ []
-
 -- how the promisers of a type of promises match, where they are patterns
 abbrev pub promiser_how : Option PromiseType → Option How
 promiser_how None = None

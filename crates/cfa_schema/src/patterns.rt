@@ -1,9 +1,9 @@
 // The patterns of a policy that are known before the run.
-ghost use Rattle.std.specs.Prelude.{◌≡◌, ◌++◌, IfErr, IfOk, OnOk, All, map, option_map};
+ghost use Rattle.std.specs.Prelude.{◌≡◌, ◌++◌, IfErr, IfOk, OnOk, All, map, option_map, option_to_list};
 ghost use Rattle.std.specs.List.{flat_map};
 ghost use Rattle.cfa_base.specs.Patterns.{SizeRefusal};
 ghost use Rattle.cfa_tree.specs.Plain.{plain_attribute, plain_block, plain_policy, plain_promise, plain_section, plain_value};
-ghost use Rattle.cfa_schema.specs.Collected.{one_or_none, promiser_how, pattern_of_promiser, seen_pattern, IfRefused, HasFirstBad, HasRefused, IsBad, IsRefusedAs};
+ghost use Rattle.cfa_schema.specs.Collected.{promiser_how, pattern_of_promiser, seen_pattern, IfRefused, HasFirstBad, HasRefused, IsBad, IsRefusedAs};
 ghost use Rattle.cfa_schema.specs.Errors.{refused_for_size};
 ghost use Rattle.cfa_kinds.specs.Kinds.{promise_type};
 ghost use Rattle.cfa_values.specs.Values.{known_named};
@@ -87,7 +87,7 @@ fn add_of_sections<'a>(
 }
 
 fn pattern_in(body_type: BodyType, attribute: &Attribute) -> Option<KnownPattern<'_>>
-    ensures { one_or_none (option_map seen_pattern result)
+    ensures { option_to_list (option_map seen_pattern result)
         ≡ pattern_in_attribute body_type (plain_attribute attribute.now) }
 {
     match body_attribute(body_type, attribute.name.as_str()) {
@@ -97,7 +97,7 @@ fn pattern_in(body_type: BodyType, attribute: &Attribute) -> Option<KnownPattern
 }
 
 fn known_pattern(value: &Value) -> Option<KnownPattern<'_>>
-    ensures { one_or_none (option_map seen_pattern result)
+    ensures { option_to_list (option_map seen_pattern result)
         ≡ pattern_named (known_named (plain_value value.now)) }
 {
     let item = known_item(value)?;
