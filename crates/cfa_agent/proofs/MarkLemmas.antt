@@ -14,9 +14,10 @@ use Rattle.std.proofs.lemmas.List.Folds.{find-append}
 use Rattle.std.proofs.lemmas.List.Splits.{slice_split_at}
 use Rattle.cfa_base.specs.declared.places.PromiseId.{PromiseId}
 use Rattle.cfa_base.specs.lemmas.Lists.{option_or-none}
+use Rattle.cfa_base.specs.lemmas.Numerals.{numerals}
 use Rattle.cfa_base.specs.Lacking.{Lacks}
 use Rattle.cfa_rows.specs.lemmas.Cuts.{Lacks-from_test}
-use Rattle.cfa_rows.specs.lemmas.Numbers.{decimal-lacks, numerals}
+use Rattle.cfa_rows.specs.lemmas.Numbers.{decimal-lacks}
 use Rattle.cfa_outside.specs.declared.sites.Call.{Call}
 use Rattle.cfa_outside.specs.declared.sites.Change.{Change}
 use Rattle.cfa_outside.specs.declared.sites.Change.TheVariants.{Append, PutLock}

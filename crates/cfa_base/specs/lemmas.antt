@@ -8,6 +8,7 @@ pub mod Firsts
 pub mod Fronts
 pub mod Lists
 pub mod Modes
+pub mod Numerals
 pub mod Order
 pub mod Options
 pub mod Results

@@ -12,7 +12,7 @@ use borrow.Author.Tests.{ltb-true}
 use Rattle.std.proofs.lemmas.List.{append_assoc, append-nil, take_more, flat_map_more}
 use Rattle.cfa_base.specs.Joined.{joined}
 use Rattle.cfa_base.specs.Decimals.{is_decimal}
-use Rattle.cfa_kinds.specs.lemmas.Digits.{numerals}
+use Rattle.cfa_base.specs.lemmas.Numerals.{numerals}
 use Rattle.cfa_functions.specs.Functions.{item_at}
 
 -- the first item stands without glue

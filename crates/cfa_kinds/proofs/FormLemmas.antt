@@ -6,9 +6,10 @@ use Rattle.std.proofs.lemmas.Str.Parse.{parse_digits, digits_value_short}
 use Rattle.std.specs.Prelude.{nat_le}
 use Rattle.std.proofs.lemmas.Bool.{and_parts}
 use Rattle.std.proofs.lemmas.Bool.Decides.{nat_tests}
+use Rattle.cfa_base.specs.lemmas.Numerals.{numerals}
 use Rattle.cfa_kinds.specs.declared.kinds.Form.TheVariants.{Minutes}
 use Rattle.cfa_kinds.specs.Forms.{has_form, has_no_leading_zero}
-use Rattle.cfa_kinds.specs.lemmas.Digits.{numerals, non_empty}
+use Rattle.cfa_kinds.specs.lemmas.Digits.{non_empty}
 
 -- at most ten digits, one at least, are always read
 pub always_read : {E : Type 0} (text : List ℕ) (e : E) → ParsesUnsigned 64 10 text (Err e) → all_ascii_digits text ≡ true → 0 < length text → length text ≤ 10 → ⊥

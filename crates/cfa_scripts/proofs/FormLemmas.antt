@@ -5,11 +5,12 @@ use Rattle.std.specs.Str.{all_ascii_digits}
 use Rattle.std.specs.Str.Parse.{digits_value, ParsesUnsigned}
 use Rattle.std.proofs.lemmas.Bool.{and_parts}
 use Rattle.std.proofs.lemmas.Str.Parse.{parse_digits}
+use Rattle.cfa_base.specs.lemmas.Numerals.{numerals}
 use Rattle.cfa_kinds.specs.declared.kinds.Form.TheVariants.{Character, FieldNumber, FieldOperation}
 use Rattle.cfa_bodies.specs.declared.sayings.Said.{Said}
 use Rattle.cfa_scripts.specs.EditPromises.{is_right_field, is_one_line, is_right}
 use Rattle.cfa_kinds.specs.Forms.{has_form, has_no_leading_zero}
-use Rattle.cfa_kinds.specs.lemmas.Digits.{numerals, non_empty}
+use Rattle.cfa_kinds.specs.lemmas.Digits.{non_empty}
 use Rattle.cfa_scripts.specs.lemmas.FieldNumbers.{number_bounds}
 
 -- a field's number is one where the field is right

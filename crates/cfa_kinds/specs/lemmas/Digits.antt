@@ -1,16 +1,12 @@
--- The number that decimal digits write: a text of digits tells it, and that of a number of minutes is at most those of a year.
+-- Texts of decimal digits: one without a leading zero isn't empty, and a number of minutes is at most those of a year.
 use Rattle.std.proofs.Common.{◌≡◌, ◌<◌, ◌≤◌, ℕ, true, List, [], ◌∷◌, length, arith}
 use Rattle.std.specs.Prelude.{nat_le}
 use Rattle.std.specs.Str.{all_ascii_digits}
 use Rattle.std.specs.Str.Parse.{digits_value}
 use Rattle.std.proofs.lemmas.Bool.{and_parts}
 use Rattle.std.proofs.lemmas.Bool.Decides.{nat_tests}
-use Rattle.std.proofs.lemmas.Str.Parse.{IsNumeralModel, numerals_by_value, tells_all_ascii_digits}
 use Rattle.cfa_kinds.specs.declared.kinds.Form.TheVariants.{Minutes}
 use Rattle.cfa_kinds.specs.Forms.{has_form, has_no_leading_zero}
-
-pub numerals : IsNumeralModel (λ ds. all_ascii_digits ds ≡ true) (digits_value 10)
-numerals = numerals_by_value (λ ds. all_ascii_digits ds ≡ true) tells_all_ascii_digits
 
 pub non_empty : (text : List ℕ) → has_no_leading_zero text ≡ true → 0 < length text
 non_empty [] e = cc

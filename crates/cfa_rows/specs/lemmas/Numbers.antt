@@ -4,19 +4,17 @@ use Rattle.std.proofs.lemmas.Bool.{both_ways, and_parts, and_from, cases_Bool, c
 use Rattle.std.proofs.lemmas.Bool.Decides.{nat_tests}
 use Rattle.std.proofs.lemmas.Fmt.{digits_decimal, decimal_digit, first_decimal, decimal_nonempty, decimal-digits_value, parse-decimal}
 use Rattle.std.proofs.lemmas.List.Elements.{All-nil, All-cons}
-use Rattle.std.proofs.lemmas.Str.Parse.{IsNumeralModel, numerals_by_value, tells_all_ascii_digits, parse_digits}
+use Rattle.std.proofs.lemmas.Str.Parse.{parse_digits}
 use Rattle.std.specs.Char.{is_ascii_digit}
 use Rattle.std.specs.Fmt.{decimal}
 use Rattle.std.specs.Result.{result_ok}
 use Rattle.std.specs.Str.{all_ascii_digits}
-use Rattle.std.specs.Str.Parse.{digits_value, ParsesUnsigned}
+use Rattle.std.specs.Str.Parse.{ParsesUnsigned}
 use Rattle.cfa_base.specs.Decimals.{is_decimal}
+use Rattle.cfa_base.specs.lemmas.Numerals.{numerals}
 use Rattle.cfa_base.specs.lemmas.Truths.{or_true}
 use Rattle.cfa_base.specs.Lacking.{Lacks}
 use Rattle.cfa_rows.specs.Rows.{Reads}
-
-pub numerals : IsNumeralModel (λ ds. all_ascii_digits ds ≡ true) (digits_value 10)
-numerals = numerals_by_value _ tells_all_ascii_digits
 
 digit_is_other : (byte b : ℕ) → is_ascii_digit byte ≡ false → is_ascii_digit b ≡ true → b ≡ byte → ⊥
 digit_is_other byte b other digit e = both_ways (is_ascii_digit byte) other (sym (ap is_ascii_digit e) ∙ digit)
