@@ -15,6 +15,7 @@ pub mod LocalLemmas
 pub mod SpareLemmas
 pub mod LastLemmas
 pub mod LaterLemmas
+pub mod ChangingLemmas
 pub mod ActivationLemmas
 pub mod RememberedLemmas
 pub mod QuietLemmas

@@ -1,5 +1,5 @@
 // What changes nothing that is read of an environment or a scope.
-ghost use Rattle.std.specs.Prelude.{◌≡◌, ◌+◌, IfOk, IsTrue, Some, option_copied};
+ghost use Rattle.std.specs.Prelude.{◌≡◌, ◌+◌, ◌↔◌, IfOk, IsTrue, Some, option_copied};
 ghost use Rattle.std.specs.Option.{option_or};
 ghost use Rattle.cfa_vars.specs.Named.{thing_at};
 ghost use Rattle.cfa_walk.specs.Later.{IsRaised};
@@ -19,7 +19,7 @@ pub(crate) fn one_more(changes: u64) -> Result<u64, NoMemory>
 // Whether a class with this source keeps it where it is raised by another.
 fn is_sourced(known: Option<&PromiseId>, source: &Option<PromiseId>) -> bool
     ensures { IsTrue result
-        → option_or (option_copied known.entry) source.now ≡ option_copied known.entry }
+        ↔ (option_or (option_copied known.entry) source.now ≡ option_copied known.entry) }
 {
     match known {
         Some(_) => true,
@@ -34,7 +34,7 @@ pub(crate) fn is_raised(
     to: Status,
     source: &Option<PromiseId>,
 ) -> bool
-    ensures { IsTrue result → IsRaised environment.now class.now to source.now }
+    ensures { IsTrue result ↔ IsRaised environment.now class.now to source.now }
 {
     let status = environment.status(class);
     if status.greater(to) != status {
@@ -44,7 +44,7 @@ pub(crate) fn is_raised(
 }
 
 fn is_same_datum(datum: &Datum, other: &Datum) -> bool
-    ensures { IsTrue result → datum.now ≡ other.now }
+    ensures { IsTrue result ↔ (datum.now ≡ other.now) }
 {
     match datum {
         Datum::Text(text) => match other {
@@ -60,7 +60,7 @@ fn is_same_datum(datum: &Datum, other: &Datum) -> bool
 
 /// Whether a variable of a scope is set to this.
 pub(crate) fn is_set_to(scope: &Scope, name: &Name, datum: &Datum) -> bool
-    ensures { IsTrue result → thing_at scope.now name.now ≡ Some datum.now }
+    ensures { IsTrue result ↔ (thing_at scope.now name.now ≡ Some datum.now) }
 {
     match scope.get(name) {
         None => false,

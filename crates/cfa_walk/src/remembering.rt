@@ -1,5 +1,5 @@
 // What was found out of promises, as long as nothing has changed that it hangs on.
-ghost use Rattle.std.specs.Prelude.{◌≡◌, IfOk, IfSome, IsTrue, List, length};
+ghost use Rattle.std.specs.Prelude.{◌≡◌, ◌↔◌, IfOk, IfSome, IsTrue, List, Some, length};
 ghost use Rattle.cfa_tree.specs.Tree.{PolicyTree};
 ghost use Rattle.cfa_walk.specs.Numbered.{Numbered as AnyNumbered};
 ghost use Rattle.cfa_walk.specs.declared.activations.Activation.{Activation as AnyActivation};
@@ -48,7 +48,7 @@ pub(crate) fn moment_of(state: &State, activation: &Activation) -> Moment
 }
 
 fn is_now(moment: Moment, state: &State, activation: &Activation) -> bool
-    ensures { IsTrue result → IsNow moment state.now activation.now }
+    ensures { IsTrue result ↔ IsNow moment state.now activation.now }
 {
     if moment.state != state.changes {
         return false;
@@ -113,9 +113,11 @@ pub(crate) fn still_found(
     state: &State,
     activation: &Activation,
 ) -> Option<Resolved>
-    ensures { (policy : PolicyTree) (p : AnyNumbered)
+    ensures resolved { (policy : PolicyTree) (p : AnyNumbered)
         → RowHolds policy p kept state.now activation.now
         → IfSome result (λ r. r ≡ resolution_now policy p state.now activation.now) }
+    ensures found { IfSome kept (λ found. IsNow found.moment state.now activation.now
+        → result ≡ Some found.resolved) }
 {
     match kept {
         None => None,

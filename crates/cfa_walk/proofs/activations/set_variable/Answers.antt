@@ -24,7 +24,7 @@ returns-in_ok-set-in-Some-clause-stands c =
 pub returns-then-is_set_to-clause-stands : goal.returns-then-is_set_to-clause-stands
 returns-then-is_set_to-clause-stands c =
     λ s h stands.
-    stands_again s c.args.state.now c.args.activation.now h c.args.name c.args.datum (ap (λ (t : Table). thing_at t c.args.name) (sym c.own_scope.ensures) ∙ c.is_set_to.ensures c.if-is_set_to.true) stands
+    stands_again s c.args.state.now c.args.activation.now h c.args.name c.args.datum (ap (λ (t : Table). thing_at t c.args.name) (sym c.own_scope.ensures) ∙ c.is_set_to.ensures.0 c.if-is_set_to.true) stands
 
 pub returns-then-is_set_to-clause-later : goal.returns-then-is_set_to-clause-later
 returns-then-is_set_to-clause-later c = are_same c.args.state.now c.args.activation.now

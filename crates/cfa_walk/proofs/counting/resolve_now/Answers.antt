@@ -15,10 +15,10 @@ use Rattle.cfa_walk.proofs.counting.resolve_now.Goals as goal
 pub returns-then-resolved-state-clause-too_large : goal.returns-then-resolved-state-clause-too_large
 returns-then-resolved-state-clause-too_large g c = λ _.
     subst (λ (r : Resolved). c.args.state.now.left < r.visits)
-    (c.in-Some.ensures (tree_of c.args.checked.now) (seen_numbered c.args.promise.now) c.requires.kept) c.if-resolved-state.true
+    (c.in-Some.ensures.resolved (tree_of c.args.checked.now) (seen_numbered c.args.promise.now) c.requires.kept) c.if-resolved-state.true
 
 pub returns-in-Some-clause-resolved : goal.returns-in-Some-clause-resolved
-returns-in-Some-clause-resolved g c = c.in-Some.ensures (tree_of c.args.checked.now) (seen_numbered c.args.promise.now) c.requires.kept
+returns-in-Some-clause-resolved g c = c.in-Some.ensures.resolved (tree_of c.args.checked.now) (seen_numbered c.args.promise.now) c.requires.kept
 
 pub returns-clause-resolved : goal.returns-clause-resolved
 returns-clause-resolved g c =

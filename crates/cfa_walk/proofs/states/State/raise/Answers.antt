@@ -5,7 +5,7 @@ use Rattle.cfa_walk.proofs.states.State.raise.Goals as goal
 
 pub returns-then-is_raised-clause-keeps : goal.returns-then-is_raised-clause-keeps
 returns-then-is_raised-clause-keeps c =
-    let is = c.is_raised.ensures c.if-is_raised.true in
+    let is = c.is_raised.ensures.0 c.if-is_raised.true in
     λ s h keeps.
     keeps_raised s c.args.self.now c.args.self.now.environment h keeps c.args.class c.args.to c.args.source
     (sym is.status) (λ _ _. refl) (sym is.source_of) (λ _ _. refl) (λ _ _. refl)
