@@ -94,6 +94,7 @@ impl<F: Write + OpenFile> Held<F> {
         let text = path.text().as_str();
         let real = self.layout.real(alloc, text)?;
         let spot = self.spot(rt, real.as_str())?;
+        self.forget_walked();
         let lasting = remove(rt, real.as_str(), spot)?;
         self.settle(lasting)?;
         // The row of a node that is gone counts for nothing, so the change is made also where the row stays.

@@ -4,7 +4,7 @@ use crate::files::read_file;
 use crate::growing::Growing;
 use crate::kept_rows::HostTables;
 use crate::layout::{Layout, Table};
-use crate::looking::{Spot, has_nodes, walk};
+use crate::looking::{Spot, folder_of, has_nodes, is_beneath, walk};
 use crate::putting::{Lasting, Leaf, put};
 use cfa_base::{Bytes, MOST_FILE_BYTES};
 use cfa_outside::{Look, Path, Perms, root_perms};
@@ -70,6 +70,9 @@ pub struct Held<F> {
     most_changes: u64,
     // False once a change of the tree is seen that may not last.
     sound: bool,
+    // The real path of the directory in which a file was found last, empty where there is none. It was walked to, and no part of
+    // it was a link.
+    walked: String,
 }
 
 impl<F: Write + OpenFile> Held<F> {
@@ -80,6 +83,7 @@ impl<F: Write + OpenFile> Held<F> {
         changed: Changed,
         changes: Growing<F>,
         journal: Growing<F>,
+        walked: String,
     ) -> Held<F> {
         Held {
             layout,
@@ -90,6 +94,7 @@ impl<F: Write + OpenFile> Held<F> {
             journal,
             most_changes: LEAST_CHANGES,
             sound: true,
+            walked,
         }
     }
 
@@ -109,13 +114,39 @@ impl<F: Write + OpenFile> Held<F> {
         }
     }
 
-    /// What stands at a real path of the host.
-    pub fn spot<R: Files<File = F>>(&self, rt: &R, real: &str) -> Result<Spot, HostErr> {
-        walk(rt, real, self.layout.tree.len())
+    // Keeps the folder of a file that was found.
+    fn keep_walked(&mut self, real: &str) -> Result<(), HostErr> {
+        let folder = folder_of(real)?;
+        if self.walked.as_str() != folder {
+            self.walked.clear();
+            self.walked.push_str(folder)?;
+        }
+        Ok(())
+    }
+
+    /// What stands at a real path of the host. Where it is in the directory in which a file was found last, it is walked
+    /// to from there.
+    pub fn spot<R: Files<File = F>>(&mut self, rt: &R, real: &str) -> Result<Spot, HostErr> {
+        let walked = self.walked.as_str();
+        let from = if is_beneath(real, walked) {
+            walked.len().saturating_add(1)
+        } else {
+            self.layout.tree.len()
+        };
+        let spot = walk(rt, real, from)?;
+        if let Spot::File(_) = spot {
+            self.keep_walked(real)?;
+        }
+        Ok(spot)
+    }
+
+    /// Directories may be gone: each path is walked to from the root again.
+    pub fn forget_walked(&mut self) {
+        self.walked.clear();
     }
 
     pub fn look<R: Files<File = F>>(
-        &self,
+        &mut self,
         rt: &R,
         alloc: Global,
         path: &Path,
@@ -130,7 +161,7 @@ impl<F: Write + OpenFile> Held<F> {
     }
 
     pub fn read<R: Files<File = F>>(
-        &self,
+        &mut self,
         rt: &R,
         alloc: Global,
         path: &Path,
@@ -143,7 +174,7 @@ impl<F: Write + OpenFile> Held<F> {
     }
 
     pub fn perms<R: Files<File = F>>(
-        &self,
+        &mut self,
         rt: &R,
         alloc: Global,
         path: &Path,

@@ -78,7 +78,7 @@ where
 
     fn look(&mut self, alloc: Global, path: &Path) -> Result<Look, HostErr> {
         self.open(alloc)?;
-        match &self.held {
+        match &mut self.held {
             Some(held) => held.look(&self.rt, alloc, path),
             None => Err(HostErr::Refused),
         }
@@ -86,7 +86,7 @@ where
 
     fn read(&mut self, alloc: Global, path: &Path) -> Result<Bytes, HostErr> {
         self.open(alloc)?;
-        match &self.held {
+        match &mut self.held {
             Some(held) => held.read(&self.rt, alloc, path),
             None => Err(HostErr::Refused),
         }
@@ -94,7 +94,7 @@ where
 
     fn perms(&mut self, alloc: Global, path: &Path) -> Result<Perms, HostErr> {
         self.open(alloc)?;
-        match &self.held {
+        match &mut self.held {
             Some(held) => held.perms(&self.rt, alloc, path),
             None => Err(HostErr::Refused),
         }

@@ -156,5 +156,6 @@ where
         changed,
         Growing::new(changes_path, changes),
         Growing::new(journal_path, journal),
+        String::new(alloc),
     ))
 }
