@@ -3,9 +3,10 @@ ghost use Rattle.std.specs.Prelude.{◌≡◌, ◌<◌, ◌==◌, ◌++◌, [], 
 ghost use Rattle.std.specs.List.{flat_map, join_with_byte};
 ghost use Rattle.std.specs.String.{string_bytes};
 ghost use Rattle.cfa_base.specs.Escapes.{escaped};
+ghost use Rattle.cfa_base.specs.Octal.{octal_digit, mode_text};
 ghost use Rattle.cfa_resolve.specs.KeyTexts.{fields_after, mode_field, names_field, yes_or_no};
 
-use cfa_base::{Name, NoMemory, escape};
+use cfa_base::{Name, NoMemory, escape, octal_digit};
 use std::alloc::Global;
 
 // Few fields with a word before them are longer. Room for so many bytes is taken at once.
