@@ -13,7 +13,7 @@ use Rattle.cfa_vars.specs.declared.scoping.Datum.{Datum}
 use Rattle.cfa_vars.specs.declared.scoping.Datum.TheVariants.{Text as text_of, List as list_of}
 use Rattle.cfa_edits.specs.Scripts.{IsOneLine, AreEdits, edit_text, script_text}
 use Rattle.cfa_edits.specs.lemmas.Fields.{texts_lack}
-use Rattle.cfa_edits.specs.lemmas.Parts.{lacks_joined, IsSeparator}
+use Rattle.cfa_edits.specs.lemmas.Parts.{lacks_joined}
 use Rattle.cfa_edits.specs.declared.edits.Edit.{Edit as LineEdit}
 use Rattle.cfa_acts.specs.declared.acts.Act.{Act}
 use Rattle.cfa_acts.specs.declared.acts.Act.TheVariants.{Create, MakeDir, Delete, Content, Copy, Edit, Perms, Start, Stop, Enable, Disable, Restart, Bust}
@@ -24,7 +24,7 @@ use Rattle.cfa_resolve.specs.declared.instances.Work.{Work}
 use Rattle.cfa_resolve.specs.declared.instances.Work.TheVariants.{Acts, Call, Report}
 use Rattle.cfa_resolve.specs.KeyTexts.{fields_after, mode_field, names_field, yes_or_no, act_text, datum_text, work_text, classes_text, key_text}
 use Rattle.cfa_laws.specs.Keys.{IsGiven, AreGiven, IsPlainId}
-use Rattle.cfa_laws.proofs.LineLemmas.{no_text, led_line, both_lines, either_line, no_lines, one_more, joined_line, led_lines, field_line, field_lines, decimal_line}
+use Rattle.cfa_laws.proofs.LineLemmas.{newline, no_text, led_line, both_lines, either_line, no_lines, one_more, joined_line, led_lines, field_line, field_lines, decimal_line}
 use Rattle.cfa_scripts.specs.lemmas.OneLine.{one_line}
 
 fields_line : (first : List ℕ) (fields : List (List ℕ)) → IsOneLine first → All IsOneLine fields → IsOneLine (fields_after first fields)
@@ -37,9 +37,6 @@ four_lines : (w x y z : List ℕ) → IsOneLine w → IsOneLine x → IsOneLine 
 four_lines w x y z h i j k = one_more w (x ∷ y ∷ z ∷ []) h (one_more x (y ∷ z ∷ []) i (two_lines y z j k))
 
 -- ---- scripts
-
-newline : IsSeparator 10
-newline = record { low = omega arith; none = refl; no_digit = λ d lt. λ e. omega arith }
 
 script_line : (script : List LineEdit) → AreEdits script → IsOneLine (script_text script)
 unfolding script_text

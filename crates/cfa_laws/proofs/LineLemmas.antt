@@ -1,15 +1,14 @@
 -- Texts of one line: fields, numbers, words and names, and what is joined of them.
-use Rattle.std.proofs.Common.{◌≡◌, ◌≢◌, ℕ, ◌+◌, ◌<◌, ◌%◌, ◌^◌, Bool, true, false, List, [], ◌∷◌, ◌++◌, map, cond, refl, sym, ap, ◌∙◌, arith}
+use Rattle.std.proofs.Common.{◌≡◌, ◌≢◌, ℕ, ◌<◌, ◌^◌, Bool, true, false, List, [], ◌∷◌, ◌++◌, map, cond, refl, sym, ap, ◌∙◌, arith}
 use Rattle.std.specs.Fmt.{decimal}
 use Rattle.std.specs.Prelude.{All}
 use Rattle.std.specs.List.{join_with_byte, flat_map}
 use Rattle.std.proofs.lemmas.Bool.{true≢false}
-use Rattle.std.proofs.lemmas.Fmt.{decimal_by_steps}
-use Rattle.std.proofs.lemmas.List.Elements.{All-nil, All-cons, All-head, All-tail, All-append, All-push}
+use Rattle.std.proofs.lemmas.List.Elements.{All-nil, All-cons, All-head, All-tail, All-append}
 use Rattle.cfa_base.specs.Escapes.{escaped}
 use Rattle.cfa_base.specs.Lexing.{is_word_byte}
-use Rattle.cfa_base.specs.lemmas.Escapes.{escaped-avoids}
 use Rattle.cfa_edits.specs.Scripts.{IsOneLine}
+use Rattle.cfa_edits.specs.lemmas.Parts.{IsSeparator, lacks_joined, lacks_escaped, all_escaped, lacks_decimal}
 use Rattle.cfa_functions.specs.Functions.{canonical_byte, canonified}
 
 -- no newline
@@ -38,12 +37,7 @@ pub one_more : (text : List ℕ) (texts : List (List ℕ)) → IsOneLine text �
 one_more text texts line lines = All-cons IsOneLine text texts line lines
 
 pub joined_line : (separator : ℕ) (texts : List (List ℕ)) → separator ≢ 10 → All IsOneLine texts → IsOneLine (join_with_byte separator texts)
-joined_line separator [] other lines = no_text
-joined_line separator (text ∷ []) other lines = All-head IsOneLine text [] lines
-joined_line separator (text ∷ next ∷ texts) other lines =
-    both_lines text (separator ∷ join_with_byte separator (next ∷ texts)) (All-head IsOneLine text (next ∷ texts) lines)
-    (led_line separator (join_with_byte separator (next ∷ texts)) other
-    (joined_line separator (next ∷ texts) other (All-tail IsOneLine text (next ∷ texts) lines)))
+joined_line = lacks_joined 10
 
 pub led_lines : (separator : ℕ) (texts : List (List ℕ)) → separator ≢ 10 → All IsOneLine texts → IsOneLine (flat_map (λ text. separator ∷ text) texts)
 led_lines separator [] other lines = no_text
@@ -54,24 +48,17 @@ led_lines separator (text ∷ texts) other lines =
 
 -- ---- fields
 
+pub newline : IsSeparator 10
+newline = record { low = omega arith; none = refl; no_digit = λ d lt. λ e. omega arith }
+
 pub field_line : (text : List ℕ) → IsOneLine (escaped text)
-field_line text = escaped-avoids 10 text (omega arith) refl
+field_line text = lacks_escaped 10 text newline
 
 pub field_lines : (texts : List (List ℕ)) → All IsOneLine (map escaped texts)
-field_lines [] = no_lines
-field_lines (text ∷ texts) = one_more (escaped text) (map escaped texts) (field_line text) (field_lines texts)
-
--- ---- numbers
-
-digit_other : (d : ℕ) → 48 + d ≢ 10
-digit_other d = λ e. omega arith
+field_lines texts = all_escaped 10 texts newline
 
 pub decimal_line : (n : ℕ) → n < 2 ^ 64 → IsOneLine (decimal n)
-decimal_line n small =
-    decimal_by_steps (λ m ds. IsOneLine ds)
-    (λ d lt. led_line (48 + d) [] (digit_other d) no_text)
-    (λ m ds ge line. All-push IsOther ds (48 + m % 10) line (digit_other (m % 10)))
-    n small
+decimal_line n small = lacks_decimal 10 n newline small
 
 -- ---- names that are canonified
 
