@@ -167,10 +167,12 @@ impl<F: Write + OpenFile> Held<F> {
         path: &Path,
     ) -> Result<Bytes, HostErr> {
         let real = self.layout.real(alloc, path.text().as_str())?;
-        match self.spot(rt, real.as_str())? {
-            Spot::File(_) => read_file(rt, alloc, real.as_str(), MOST_FILE_BYTES as u64),
-            _ => Err(HostErr::Refused),
+        if folder_of(real.as_str())? != self.walked.as_str() {
+            let Spot::File(_) = self.spot(rt, real.as_str())? else {
+                return Err(HostErr::Refused);
+            };
         }
+        read_file(rt, alloc, real.as_str(), MOST_FILE_BYTES as u64)
     }
 
     pub fn perms<R: Files<File = F>>(
