@@ -51,9 +51,7 @@ pub fn folder_of(path: &str) -> Result<&str, HostErr> {
 /// Whether the path is beneath a directory. Nothing is beneath an empty path.
 pub fn is_beneath(path: &str, directory: &str) -> bool {
     let (path, directory) = (path.as_bytes(), directory.as_bytes());
-    !directory.is_empty()
-        && path.starts_with(directory)
-        && path.get(directory.len()) == Some(&b'/')
+    !directory.is_empty() && path.starts_with(directory) && path.get(directory.len()) == Some(&b'/')
 }
 
 /// Whether a component of the path ends at this place.
