@@ -24,11 +24,19 @@ pub fn write_new<R: Files>(rt: &R, path: &str, bytes: &[u8]) -> Result<(), HostE
     Ok(())
 }
 
-// The bytes up to the end, of which there are to be no more than `most`.
-fn read_to_end<F: Read>(alloc: Global, file: &mut F, most: u64) -> Result<Bytes, HostErr> {
+// The bytes up to the end, which stood at `len`, of which there are to be no more than `most`.
+fn read_to_end<F: Read>(
+    alloc: Global,
+    file: &mut F,
+    len: u64,
+    most: u64,
+) -> Result<Bytes, HostErr> {
     let mut all = Bytes::from_vec(Vec::new(alloc));
     let mut piece = [0u8; 4096];
     for _ in 0..u64::MAX {
+        if all.as_slice().len() as u64 >= len {
+            return Ok(all);
+        }
         let count = file.read(&mut piece)?;
         if count == 0 {
             return Ok(all);
@@ -53,7 +61,7 @@ pub fn read_file<R: Files>(rt: &R, alloc: Global, path: &str, most: u64) -> Resu
     if found.dev() != named.dev() || found.ino() != named.ino() {
         return Err(HostErr::Refused);
     }
-    read_to_end(alloc, &mut file, most)
+    read_to_end(alloc, &mut file, found.len(), most)
 }
 
 /// The bytes of a regular file, none where nothing stands there.
