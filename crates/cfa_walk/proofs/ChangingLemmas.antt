@@ -55,15 +55,15 @@ module _ (e : EnvironmentMaps) (class : List ℕ) (to : Status) (source : Option
 
 -- ---- variables
 
-is_list : Datum → Bool
+abbrev is_list : Datum → Bool
 is_list (a_text text) = false
 is_list (a_list items) = true
 
-text_in : Datum → List ℕ
+abbrev text_in : Datum → List ℕ
 text_in (a_text text) = text
 text_in (a_list items) = []
 
-items_in : Datum → List (List ℕ)
+abbrev items_in : Datum → List (List ℕ)
 items_in (a_text text) = []
 items_in (a_list items) = items
 

@@ -8,7 +8,7 @@ use Rattle.cfa_walk.specs.declared.logs.RowOf.TheVariants.{Placed, Named}
 use Rattle.cfa_walk.specs.declared.walks.Visit.{Visit}
 use Rattle.cfa_walk.specs.Names.{name_of}
 use Rattle.cfa_walk.specs.Places.{seen_at}
-use Rattle.cfa_walk.specs.Walks.{visit_of}
+use Rattle.cfa_walk.specs.Walks.{place_among, visit_of}
 
 abbrev pub name_at : List Instance → RowOf → List ℕ × List ℕ
 name_at instances (Placed place) = unwrap_or (seen_at instances place) ([], [])
@@ -36,3 +36,7 @@ IsOf instances of instance = (name_at instances of ≡ name_of instance) × IsFo
 
 abbrev pub visit_at : List Instance → Row → Visit
 visit_at instances row = visit_of instances (listing_at instances row)
+
+-- the first place of the names of an instance
+abbrev pub first_place : List Instance → Instance → ℕ
+first_place instances instance = place_among instances instance.path instance.text

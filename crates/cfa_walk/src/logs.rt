@@ -1,6 +1,7 @@
 // What is kept of a walk while it is made.
-ghost use Rattle.std.specs.Prelude.{◌≡◌, ◌∷◌, [], IfOk, OnOk, OnErr, map, option_copied};
-ghost use Rattle.cfa_walk.specs.LogRows.{IsOf, name_at, visit_at};
+ghost use Rattle.std.specs.Prelude.{◌≡◌, ◌∷◌, [], IfOk, List, OnOk, OnErr, map, option_copied};
+ghost use Rattle.cfa_resolve.specs.declared.instances.Instance.{Instance as AnyInstance};
+ghost use Rattle.cfa_walk.specs.LogRows.{IsOf, first_place, name_at, visit_at};
 ghost use Rattle.cfa_walk.specs.Logs.{with_visit, with_blames, walk_of};
 ghost use Rattle.cfa_walk.specs.Names.{names_of};
 ghost use Rattle.cfa_walk.specs.Walks.{blame_for, blame_by, place_among, with_first};
@@ -171,35 +172,61 @@ pub fn names_of<'a>(alloc: Global, instances: &'a [Instance]) -> Result<PairInde
     Ok(names)
 }
 
-// The path and the key text of a visit.
-fn name_at<'a>(instances: &'a [Instance], of: &'a RowOf) -> (&'a str, &'a str)
-    ensures path { result.0.now ≡ (name_at instances.entry.now of.entry.now).0 }
-    ensures text { result.1.now ≡ (name_at instances.entry.now of.entry.now).1 }
+// The first place of a path and a key text, or 0.
+fn first_of(names: &PairIndex<'_>, path: &str, text: &str) -> usize
+    ensures { (instances : List AnyInstance) → names.now ≡ names_of instances
+        → result ≡ place_among instances path.now text.now }
 {
-    match of {
-        RowOf::Placed(place) => match instances.get(*place as usize) {
-            Some(instance) => (instance.path.as_str(), instance.text.as_str()),
-            None => ("", ""),
-        },
-        RowOf::Named(path, text) => (path.as_str(), text.as_str()),
-    }
-}
-
-// The first place of the names of a visit, or 0.
-fn place_of(names: &PairIndex<'_>, instances: &[Instance], of: &RowOf) -> usize
-    requires { names.now ≡ names_of instances.now }
-    ensures { result ≡ place_among instances.now (name_at instances.now of.now).0
-        (name_at instances.now of.now).1 }
-{
-    let (path, text) = name_at(instances, of);
     names.find(path, text).unwrap_or(0)
 }
 
-fn visit_at(names: &PairIndex<'_>, instances: &[Instance], row: Row) -> Result<Visit, NoMemory>
+// The first place of the names of each instance.
+fn firsts_of(
+    alloc: Global,
+    names: &PairIndex<'_>,
+    instances: &[Instance],
+) -> Result<Vec<usize>, NoMemory>
     requires { names.now ≡ names_of instances.now }
-    ensures { IfOk result (λ visit. visit ≡ visit_at instances.now row) }
+    ensures { IfOk result (λ firsts.
+        firsts.items ≡ map (first_place instances.now) instances.now) }
 {
-    let instance = short(place_of(names, instances, &row.of))?;
+    let mut firsts = Vec::new(alloc);
+    for instance in instances {
+        let (path, text) = (instance.path.as_str(), instance.text.as_str());
+        firsts.push(first_of(names, path, text))?;
+    }
+    Ok(firsts)
+}
+
+// Instances with their first places, by their names, and by their places, so that a visit that has a place hashes no key text.
+#[derive(Drop)]
+struct Located<'a> {
+    instances: &'a [Instance],
+    names: PairIndex<'a>,
+    firsts: Vec<usize>,
+    ghost named: { names ≡ names_of instances.now },
+    ghost placed: { firsts.items ≡ map (first_place instances.now) instances.now },
+}
+
+// The first place of the names of a visit, or 0.
+fn place_of(located: &Located<'_>, of: &RowOf) -> usize
+    ensures { result ≡ place_among located.now.instances.now
+        (name_at located.now.instances.now of.now).0
+        (name_at located.now.instances.now of.now).1 }
+{
+    match of {
+        RowOf::Placed(place) => match located.firsts.get(*place as usize) {
+            Some(first) => *first,
+            None => first_of(&located.names, "", ""),
+        },
+        RowOf::Named(path, text) => first_of(&located.names, path.as_str(), text.as_str()),
+    }
+}
+
+fn visit_at(located: &Located<'_>, row: Row) -> Result<Visit, NoMemory>
+    ensures { IfOk result (λ visit. visit ≡ visit_at located.now.instances.now row) }
+{
+    let instance = short(place_of(located, &row.of))?;
     Ok(Visit {
         instance,
         status: row.status,
@@ -215,9 +242,15 @@ fn visits_at(
     ensures { IfOk result (λ visits. visits ≡ map (visit_at instances.now) rows.items) }
 {
     let names = names_of(alloc, instances)?;
+    let firsts = firsts_of(alloc, &names, instances)?;
+    let located = Located {
+        instances,
+        names,
+        firsts,
+    };
     let mut visits = Vec::new(alloc);
     for row in rows {
-        visits.push(visit_at(&names, instances, row)?)?;
+        visits.push(visit_at(&located, row)?)?;
     }
     Ok(Parts::from_vec(visits))
 }
