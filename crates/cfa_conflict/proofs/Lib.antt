@@ -6,6 +6,7 @@ pub mod MeetingLemmas
 pub mod NameLemmas
 pub mod NumberLemmas
 pub mod OrderLemmas
+pub mod PlaceLemmas
 pub mod QuietLemmas
 pub mod RowLemmas
 pub mod SameLemmas

@@ -1,24 +1,22 @@
--- Rows in the order of their targets: those that begin alike stand together.
+-- Rows in the order of their texts: those that begin alike stand together.
 use Rattle.std.proofs.Common.{◌≡◌, ℕ, ◌+◌, ◌<◌, ◌≤◌, List, [], ◌∷◌, ◌++◌, length, get_or, take, drop, Bool, true, false, cond, eqb, refl, sym, ap, subst, ◌∙◌, arith}
 use Rattle.std.proofs.lemmas.Bool.{false≢true, false_from_ne_true}
 use Rattle.std.proofs.lemmas.Bool.Decides.{nat_tests}
-use Rattle.std.proofs.lemmas.Cmp.{nat_list_cmp_total, is_lt_index, tied_itself}
+use Rattle.std.proofs.lemmas.Cmp.{nat_list_cmp_total, is_lt_index}
 use Rattle.std.proofs.lemmas.List.{take-append-drop, get_or-drop, get_or-take, length-drop, length-take-le, append-nil}
 use Rattle.std.proofs.lemmas.List.Elements.{filter-append, All-head, All-tail}
-use Rattle.std.proofs.lemmas.Map.Text.{is_eq-slice_cmp}
-use Rattle.std.proofs.lemmas.Slice.Eq.{bytes_eq-Decides}
 use Rattle.std.proofs.lemmas.List.Sorted.{sorted_far, searchable_from_sorted, ranks_by}
 use Rattle.std.specs.Prelude.{nat_eq}
 use Rattle.std.specs.List.{All, AllWithin, filter, starts_with}
 use Rattle.std.specs.List.Sorted.{IsSorted, IsPartitionedBy, IsPartitionPoint}
-use Rattle.std.specs.Ordering.{is_lt, is_gt, is_eq, nat_cmp, ordering_then, ordering_reverse, ordering_index}
+use Rattle.std.specs.Ordering.{is_lt, is_gt, nat_cmp, ordering_then, ordering_reverse, ordering_index}
 use Rattle.std.specs.declared.cmp.Ordering.{Ordering}
 use Rattle.std.specs.declared.cmp.Ordering.TheVariants.{Less, Equal, Greater}
 use denote.Ref.{Bor}
 use Rattle.cfa_base.specs.Index.{Text}
 use Rattle.cfa_base.specs.TextMaps.{text_cmp}
 use Rattle.cfa_base.specs.lemmas.Fronts.{from_front, between}
-use Rattle.cfa_conflict.specs.Targets.{AreSorted, is_row_before, begins_with, is_target}
+use Rattle.cfa_conflict.specs.TextPlaces.{AreSorted, is_row_before, begins_with}
 
 -- ---- the order of the rows
 
@@ -78,23 +76,6 @@ pub those_beginning : (front : Text) → PassesTogether front (begins_with front
 those_beginning front = record {
   none_before = λ row early. false_from_ne_true (begins_with front row) (λ is. false≢true (sym (not_before_front front row.0.now is) ∙ early));
   all_between = λ low high above up_to is. between front low.0.now high.0.now above up_to is;
-}
-
-both_ways : (o : Ordering) → is_gt o ≡ false → is_gt (ordering_reverse o) ≡ false → is_eq o ≡ true
-both_ways Less a b = absurd (false≢true (sym b))
-both_ways Equal a b = refl
-both_ways Greater a b = absurd (false≢true (sym a))
-
-pub those_at : (key : Text) → PassesTogether key (is_target key)
-those_at key = record {
-  none_before = λ row early. false_from_ne_true (is_target key row) (λ is.
-      let same : key ≡ row.0.now = (bytes_eq-Decides key row.0.now).0 is in
-      false≢true (sym (ap is_lt (tied_itself nat_list_cmp_total key)) ∙ ap (λ (t : Text). is_lt (text_cmp t key)) same ∙ early));
-  all_between = λ low high above up_to is.
-      let same : key ≡ high.0.now = (bytes_eq-Decides key high.0.now).0 is in
-      let below : is_gt (text_cmp low.0.now key) ≡ false = ap (λ (t : Text). is_gt (text_cmp low.0.now t)) same ∙ up_to in
-      sym (is_eq-slice_cmp key low.0.now)
-      ∙ both_ways (text_cmp key low.0.now) above (ap is_gt (sym (nat_list_cmp_total.antisymm low.0.now key)) ∙ below);
 }
 
 -- the rows from a place on, none of which is before the key
@@ -164,14 +145,3 @@ found_together rows rest found key test start end near up low behind high taken 
     let none_behind = subst (λ (l : List (Bor Text × ℕ)). AllWithin (λ row. test row ≡ false) l end (length l)) behind last.1 in
     let none_in_front : AllWithin (λ row. test row ≡ false) rows 0 start = λ k d from to. near.none_before (get_or rows k d) (point.0 k d from to) in
     taken ∙ ap (take end) behind ∙ kept_between test rows start end low bound none_in_front found_here none_behind
-
--- where those in front pass and the next one doesn't, none behind does
-pub point_of : {X : Type 0} (test : X → Bool) (xs : List X) (end : ℕ) → AllWithin (λ x. test x ≡ true) xs 0 end
-    → ((d : X) → end < length xs → test (get_or xs end d) ≡ false)
-    → IsPartitionedBy test xs → IsPartitionPoint (λ x. test x ≡ true) (λ x. test x ≡ false) xs end
-point_of test xs end front next parted = (
-  front,
-  λ k d from to.
-      let at : end < length xs = omega arith in
-      false_from_ne_true (test (get_or xs k d)) (λ is. false≢true (sym (next d at) ∙ parted end k d from to is)),
-)

@@ -3,4 +3,5 @@ pub mod Conflicts
 pub mod Firsts
 pub mod Numbers
 pub mod Targets
+pub mod TextPlaces
 pub mod lemmas

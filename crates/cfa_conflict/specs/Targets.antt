@@ -1,13 +1,10 @@
 -- Of the code alone: where the acts are that can disturb an act. An act changes one target, a path or a service. It can disturb
 -- an act that stands on this target, a copy from it, and the deletion of a path at or above it. So each act looks among the acts
 -- of some targets alone.
-use Rattle.std.specs.Prelude.{◌≡◌, ℕ, ◌+◌, Bool, true, false, ◌&&◌, ◌||◌, ◌==◌, nat_eq, List, [], ◌∷◌, ◌++◌, length, drop, get_or, map, Option, Some, None, slice_get}
-use Rattle.std.specs.Cmp.Lexicographic.{slice_cmp, pointwise}
-use Rattle.std.specs.List.{flat_map, filter, list_any, starts_with}
-use Rattle.std.specs.List.Sorted.{IsSortedBy}
-use Rattle.std.specs.Ordering.{is_lt, nat_cmp}
+use Rattle.std.specs.Prelude.{◌≡◌, ℕ, ◌+◌, Bool, true, false, ◌&&◌, ◌||◌, nat_eq, List, [], ◌∷◌, ◌++◌, get_or, Option, Some, None, slice_get}
+use Rattle.std.specs.Cmp.Lexicographic.{pointwise}
+use Rattle.std.specs.List.{flat_map, list_any}
 use Rattle.std.specs.Str.{bytes_eq}
-use denote.Ref.{Bor}
 use Rattle.cfa_base.specs.Index.{Text}
 use Rattle.cfa_acts.specs.declared.acts.Act.{Act}
 use Rattle.cfa_acts.specs.declared.acts.Act.TheVariants.{Create, MakeDir, Delete, Content, Copy, Edit, Perms, Start, Stop, Enable, Disable, Restart, Bust}
@@ -15,11 +12,8 @@ use Rattle.cfa_resolve.specs.declared.instances.Instance.{Instance}
 use Rattle.cfa_walk.specs.Tellers.{acts_of}
 use Rattle.cfa_walk.specs.declared.walks.Visit.{Visit}
 use Rattle.cfa_conflict.specs.Conflicts.{undone_from}
+use Rattle.cfa_conflict.specs.TextPlaces.{Row, places_of}
 use Rattle.cfa_acts.specs.Same.{is_same}
-
--- a target with the place of an instance that has an act on it
-abbrev pub Row : Type 0
-Row = Text × ℕ
 
 abbrev pub target_of : Act → Option Text
 target_of (Create path) = Some path
@@ -48,40 +42,9 @@ abbrev pub rows_from : List Instance → (from : ℕ) → List Row
 rows_from [] from = []
 rows_from (instance ∷ instances) from = rows_of from (acts_of instance.work) ++ rows_from instances (from + 1)
 
--- a row as the code has it
-abbrev pub seen_row : Bor Text × ℕ → Row
-seen_row row = (row.0.now, row.1)
-
-abbrev pub seen_rows : List (Bor Text × ℕ) → List Row
-seen_rows rows = map seen_row rows
-
--- in the order of the bytes of their targets
-abbrev pub is_row_before : Bor Text × ℕ → Bor Text × ℕ → Bool
-is_row_before row other = is_lt (slice_cmp nat_cmp row.0.now other.0.now)
-
-abbrev pub AreSorted : List (Bor Text × ℕ) → Type 0
-AreSorted rows = IsSortedBy is_row_before rows
-
 -- those of these instances, in some order
-abbrev pub HasRows : List (Bor Text × ℕ) → List Instance → Type 0
-HasRows rows instances = (test : Row → Bool) → list_any test (seen_rows rows) ≡ list_any test (rows_from instances 0)
-
-abbrev pub begins_with : (front : Text) → Bor Text × ℕ → Bool
-begins_with front row = starts_with nat_eq row.0.now front
-
-abbrev pub is_target : (key : Text) → Bor Text × ℕ → Bool
-is_target key row = bytes_eq key row.0.now
-
--- the target is the key; or, where it may be beneath, goes on with a slash
-abbrev pub goes_on : (beneath : Bool) → (rest : Text) → Bool
-goes_on beneath [] = true
-goes_on beneath (byte ∷ rest) = beneath && (byte == 47)
-
-abbrev pub is_sought : (key : Text) → (beneath : Bool) → (target : Text) → Bool
-is_sought key beneath target = starts_with nat_eq target key && goes_on beneath (drop (length key) target)
-
-abbrev pub places_of : List Row → (key : Text) → (beneath : Bool) → List ℕ
-places_of rows key beneath = map (λ (row : Row). row.1) (filter (λ (row : Row). is_sought key beneath row.0) rows)
+abbrev pub HasRows : List Row → List Instance → Type 0
+HasRows rows instances = (test : Row → Bool) → list_any test rows ≡ list_any test (rows_from instances 0)
 
 -- the places of the acts that can disturb an act
 abbrev pub sought : List Row → Act → List ℕ
@@ -98,6 +61,11 @@ sought rows (Enable name) = places_of rows name false
 sought rows (Disable name) = places_of rows name false
 sought rows (Restart name) = []
 sought rows (Bust reason) = []
+
+-- a deletion also disturbs what is beneath its path
+abbrev pub is_deletion : Act → Bool
+is_deletion (Delete path with_directories) = true
+is_deletion act = false
 
 -- ---- instances with the same acts
 
@@ -119,9 +87,9 @@ is_like instances target place row =
     && (nat_eq place row.1 || pointwise is_same (acts_at instances row.1) (acts_at instances place))
 
 -- each of the rows is like one of those
-abbrev pub HaveLikes : List Instance → (rows likes : List (Bor Text × ℕ)) → Type 0
-HaveLikes instances rows likes = (target : Text) (place : ℕ) → list_any (is_row target place) (seen_rows rows) ≡ true
-    → list_any (is_like instances target place) (seen_rows likes) ≡ true
+abbrev pub HaveLikes : List Instance → (rows likes : List Row) → Type 0
+HaveLikes instances rows likes = (target : Text) (place : ℕ) → list_any (is_row target place) rows ≡ true
+    → list_any (is_like instances target place) likes ≡ true
 
 -- the instance at a place
 abbrev pub IsAt : List Instance → (place : ℕ) → Instance → Type 0

@@ -9,7 +9,8 @@ use crate::numbers::VisitIndex;
 use crate::pairs::{
     acts_of, first_restart, undone_by_itself, undone_by_other, unsettled_conflict, unsure_at,
 };
-use crate::targets::TargetIndex;
+use crate::targets::{deletes, distinct_of, places_sought, targets_of};
+use crate::text_places::TextPlaces;
 use crate::{Conflict, Verdict};
 use cfa_base::NoMemory;
 use cfa_resolve::Instance;
@@ -28,12 +29,13 @@ struct Placed<'a> {
 struct Open<'a> {
     instances: &'a [Instance],
     visits: VisitIndex<'a>,
-    targets: TargetIndex<'a>,
+    // The targets of their acts.
+    targets: TextPlaces<'a>,
     // Of instances with the same acts on one target the first alone.
-    distinct: TargetIndex<'a>,
+    distinct: TextPlaces<'a>,
     ghost each_placed: { vec_len visits.firsts ≡ length instances.now },
-    ghost each_aimed: { HasRows targets.rows.items instances.now },
-    ghost each_like: { HaveLikes instances.now targets.rows.items distinct.rows.items },
+    ghost each_aimed: { HasRows targets instances.now },
+    ghost each_like: { HaveLikes instances.now targets distinct },
 }
 
 // The first of what the other instance undoes of this one.
@@ -63,7 +65,7 @@ fn may_be_undone(alloc: Global, all: &Open<'_>, one: &Instance) -> Result<bool, 
     ensures { IfOk result (λ may. may ≡ false
         → IsNeverUndone one.now all.now.instances.now) }
 {
-    let places = all.distinct.places_sought(alloc, acts_of(&one.work))?;
+    let places = places_sought(alloc, &all.distinct, acts_of(&one.work))?;
     for place in &places {
         let Some(other) = all.instances.get(*place) else {
             continue;
@@ -90,9 +92,7 @@ fn first_undone(
     if !may_be_undone(alloc, all, one.instance)? {
         return Ok(None);
     }
-    let places = all
-        .targets
-        .places_sought(alloc, acts_of(&one.instance.work))?;
+    let places = places_sought(alloc, &all.targets, acts_of(&one.instance.work))?;
     for place in &places {
         let Some(instance) = all.instances.get(*place) else {
             continue;
@@ -128,6 +128,24 @@ fn first_at(alloc: Global, all: &Open<'_>, one: Placed<'_>) -> Result<Option<Con
     first_undone(alloc, all, one)
 }
 
+// The targets of the acts of instances, and of those with the same acts on one target the first alone. Their order is made where
+// an act deletes what may be beneath a path.
+fn indexed<'a>(
+    alloc: Global,
+    instances: &'a [Instance],
+) -> Result<(TextPlaces<'a>, TextPlaces<'a>), NoMemory>
+    ensures targets { IfOk result (λ both. HasRows both.0 instances.entry.now) }
+    ensures distinct { IfOk result (λ both. HaveLikes instances.entry.now both.0 both.1) }
+{
+    let mut targets = targets_of(alloc, instances)?;
+    let mut distinct = distinct_of(alloc, instances, &targets)?;
+    if instances.iter().any(|instance| deletes(instance)) {
+        targets.put_in_order(alloc)?;
+        distinct.put_in_order(alloc)?;
+    }
+    Ok((targets, distinct))
+}
+
 // The first conflict of the live instances.
 fn first_conflict(alloc: Global, kept: &Walk, open: &Walk) -> Result<Option<Conflict>, NoMemory>
     ensures { IfOk result (λ found.
@@ -136,8 +154,7 @@ fn first_conflict(alloc: Global, kept: &Walk, open: &Walk) -> Result<Option<Conf
     let names = names_of(alloc, kept.instances.as_slice())?;
     let instances = open.instances.as_slice();
     let visits = VisitIndex::new(alloc, open.visits.as_slice(), instances.len())?;
-    let targets = TargetIndex::new(alloc, instances)?;
-    let distinct = targets.distinct(alloc, instances)?;
+    let (targets, distinct) = indexed(alloc, instances)?;
     let all = Open {
         instances,
         visits,
@@ -155,8 +172,8 @@ fn first_conflict(alloc: Global, kept: &Walk, open: &Walk) -> Result<Option<Conf
     Ok(None)
 }
 
-/// The verdict by the walk where all is kept and the open walk. It costs as much as both walks list, with a logarithm, where the
-/// acts of instances are on different paths and services, or are the same. Of the instances with an act on a path or service of
+/// The verdict by the walk where all is kept and the open walk. It costs as much as both walks list, with a logarithm where one of
+/// them deletes, where the acts of instances are on different paths and services, or are the same. Of the instances with an act on a path or service of
 /// a live instance, on the source of a copy, or at or beneath a path that it deletes, those with different acts are looked at;
 /// and all of them only where an act among these may disturb it. So many instances with different acts on one path, or with edits
 /// there, cost as many pairs. A deletion looks through all targets that begin with the text of its path.

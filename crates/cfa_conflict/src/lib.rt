@@ -8,6 +8,7 @@ mod numbers;
 mod pairs;
 mod resources;
 mod targets;
+mod text_places;
 mod verdicts;
 
 pub use analysing::{analyse, conflicts_meet_in_resources};

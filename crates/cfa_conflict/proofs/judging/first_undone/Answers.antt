@@ -8,7 +8,7 @@ use Rattle.cfa_resolve.specs.declared.instances.Instance.{Instance}
 use Rattle.cfa_walk.specs.Tellers.{acts_of}
 use Rattle.cfa_conflict.specs.Conflicts.{undone_in}
 use Rattle.cfa_conflict.specs.Firsts.{first_of}
-use Rattle.cfa_conflict.specs.Targets.{seen_rows, sought}
+use Rattle.cfa_conflict.specs.Targets.{sought}
 use Rattle.cfa_conflict.proofs.NumberLemmas.{got_is}
 use Rattle.cfa_conflict.proofs.QuietLemmas.{first_in_all, none_in_all}
 use Rattle.cfa_conflict.proofs.judging.first_undone.Goals as goal
@@ -17,7 +17,7 @@ pub returns-in-Some-2 : goal.returns-in-Some-2
 returns-in-Some-2 c =
     let s = c.args.all.now in
     let instances = s.instances.now in
-    let rows = seen_rows s.targets.rows.items in
+    let rows = s.targets in
     let one = c.args.one.instance.now in
     let places = c.deref-place-items.result.now in
     let n = get_or places c.loop-place.place-index 0 in
@@ -35,7 +35,7 @@ returns-in-Some-2 c =
 pub returns : goal.returns
 returns c =
     let s = c.args.all.now in
-    let rows = seen_rows s.targets.rows.items in
+    let rows = s.targets in
     let one = c.args.one.instance.now in
     let places = c.deref-place-items.result.now in
     let all : (k : ℕ) → list_any (nat_eq k) places ≡ list_any (nat_eq k) (flat_map (sought rows) (acts_of one.work)) =

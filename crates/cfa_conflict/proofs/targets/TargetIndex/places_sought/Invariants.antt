@@ -1,9 +1,0 @@
-use Rattle.std.proofs.Common.{◌≡◌, ◌++◌, drop}
-use Rattle.std.specs.List.{flat_map}
-use Rattle.cfa_conflict.specs.Targets.{seen_rows, sought}
-use Rattle.cfa_conflict.proofs.targets.TargetIndex.places_sought.Given as goal
-
-abbrev pub invariant-loop-act : goal.invariant-loop-act
-invariant-loop-act l =
-    l.places.items ++ flat_map (sought (seen_rows l.self.rows.items)) (drop l.act-index l.acts)
-    ≡ flat_map (sought (seen_rows l.self.rows.items)) l.acts
