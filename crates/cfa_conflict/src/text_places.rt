@@ -63,7 +63,8 @@ fn group<'a>(
 ) -> Result<(), NoMemory>
     ensures ok { OnOk result ((other : List ℕ) → grouped groups.new other
         ≡ grouped groups.old other ++ places_of ((text.now, place) ∷ []) other false) }
-    ensures err { OnErr result ((other : List ℕ) → grouped groups.new other ≡ grouped groups.old other) }
+    ensures err { OnErr result ((other : List ℕ)
+        → grouped groups.new other ≡ grouped groups.old other) }
 {
     match groups.get_mut(text) {
         Some(places) => Ok(places.push(place)?),
@@ -95,7 +96,8 @@ impl<'a> Model for TextPlaces<'a> {
 
     ghost view = { λ t. seen_rows t.rows.items };
 
-    ghost invariant = { λ t. AnswersPlaces t.rows.items t.groups × IsOrderOf t.rows.items t.ordered };
+    ghost invariant = { λ t.
+        AnswersPlaces t.rows.items t.groups × IsOrderOf t.rows.items t.ordered };
 }
 
 impl<'a> TextPlaces<'a> {
@@ -153,7 +155,8 @@ impl<'a> TextPlaces<'a> {
 
     // The rows among which all those are whose texts are beneath a path.
     fn rows_near(&self, path: &str) -> &[(&'a str, usize)]
-        ensures { (place : ℕ) → list_any (nat_eq place) (places_of (seen_rows result.now) path.now true)
+        ensures { (place : ℕ)
+            → list_any (nat_eq place) (places_of (seen_rows result.now) path.now true)
             ≡ list_any (nat_eq place) (places_of self.now path.now true) }
     {
         match &self.ordered {
