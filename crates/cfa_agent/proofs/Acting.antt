@@ -25,8 +25,7 @@ use Rattle.cfa_agent.specs.declared.actuating.Actuation.{Actuation}
 use Rattle.cfa_agent.specs.declared.actuating.Step.TheVariants as steps
 use Rattle.cfa_agent.specs.declared.recording.Heading.{Heading}
 use Rattle.cfa_agent.specs.Actuations.{done_by, is_change, is_some_change, changed}
-use Rattle.cfa_agent.specs.Recording.{opening, opening_at}
-use Rattle.cfa_agent.specs.Actuating.{Takes, refused_entries, DoesActs, mark_by, acted}
+use Rattle.cfa_agent.specs.Actuating.{opening, opening_at, Takes, refused_entries, DoesActs, mark_by, acted}
 use Rattle.cfa_agent.specs.lemmas.Hosts.{after_both, adds_none, same_after}
 use Rattle.cfa_agent.proofs.Logs.{adds_both}
 use Rattle.cfa_agent.proofs.Hosts.{same_opened, actuated_same}

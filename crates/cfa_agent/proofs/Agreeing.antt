@@ -9,8 +9,7 @@ use Rattle.cfa_walk.specs.Tellers.{Actuated}
 use Rattle.cfa_agent.specs.Actuations.{Mark, mark_of, done_by}
 use Rattle.cfa_agent.specs.Locking.{lock_entries}
 use Rattle.cfa_agent.specs.Marks.{marks_of}
-use Rattle.cfa_agent.specs.WholeLogs.{IsWholeLog}
-use Rattle.cfa_agent.specs.Standing.{Given, since, GoesOn, SameMarks, first_told}
+use Rattle.cfa_agent.specs.Standing.{IsWholeLog, Given, since, GoesOn, SameMarks, first_told}
 use Rattle.cfa_agent.proofs.MarkLemmas.{AreOfActs, CouldMeet, added, whole_next, whole_lock, marks_lock, mark_before, mark_next}
 
 -- entries behind which a whole log is whole, and has the same marks of all earlier instances

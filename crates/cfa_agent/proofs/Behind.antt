@@ -18,8 +18,7 @@ use Rattle.cfa_agent.specs.Ending.{one_ended, one_skipped}
 use Rattle.cfa_agent.specs.Locking.{lock_entries}
 use Rattle.cfa_agent.specs.Ran.{counts_of}
 use Rattle.cfa_agent.specs.Runs.{Counts, actuations_in, counted, has_record, log_in, lines_in, one_with_acts, tally_in, work_entries, work_lines}
-use Rattle.cfa_agent.specs.Standing.{Given, CameTo, IsBehind, first_told}
-use Rattle.cfa_agent.specs.WholeLogs.{IsWholeLog}
+use Rattle.cfa_agent.specs.Standing.{Given, CameTo, IsBehind, first_told, IsWholeLog}
 use Rattle.cfa_agent.proofs.Logs.{adds_both}
 use Rattle.cfa_agent.proofs.Records.{record_in_both}
 

@@ -20,8 +20,7 @@ use Rattle.cfa_walk.specs.Tellers.{Actuated, actuated}
 use Rattle.cfa_agent.specs.declared.actuating.Actuation.{Actuation}
 use Rattle.cfa_agent.specs.declared.recording.Heading.{Heading}
 use Rattle.cfa_agent.specs.Actuations.{done_by, is_change, is_some_change, changed, appended, closing_record, run_record, entries_of}
-use Rattle.cfa_agent.specs.Recording.{opening, closing, closing_by, closing_failed}
-use Rattle.cfa_agent.specs.Actuating.{FaultsBy, DoesActs, done_met, mark_by, acted}
+use Rattle.cfa_agent.specs.Actuating.{opening, closing, closing_by, closing_failed, FaultsBy, DoesActs, done_met, mark_by, acted}
 use Rattle.cfa_agent.proofs.Acting.{some_made}
 use Rattle.cfa_agent.proofs.Logs.{adds_both}
 

@@ -17,7 +17,7 @@ use Rattle.cfa_agent.specs.declared.recording.Heading.{Heading}
 use Rattle.cfa_journal.specs.declared.records.Record.TheVariants.{Open}
 use Rattle.cfa_locks.specs.Locks.{key_of}
 use Rattle.cfa_agent.specs.Actuations.{run_record, appended}
-use Rattle.cfa_agent.specs.Recording.{opening, opening_at}
+use Rattle.cfa_agent.specs.Actuating.{opening, opening_at}
 use Rattle.cfa_agent.specs.Hosts.{SameHost}
 use Rattle.cfa_agent.specs.lemmas.Hosts.{after_both, same_trans, same_after, same_recorded, same_run}
 

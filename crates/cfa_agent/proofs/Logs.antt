@@ -8,7 +8,7 @@ use Rattle.cfa_output.specs.declared.ends.Object.TheVariants.{Inputs, Site, Sink
 use Rattle.cfa_output.specs.declared.ends.Stop.{Stop}
 use Rattle.cfa_output.specs.declared.ends.Stop.TheVariants.{Outside, Memory, Visits, Pattern}
 use Rattle.cfa_agent.specs.lemmas.Hosts.{after_both, adds_none}
-use Rattle.cfa_agent.specs.Recording.{HasFault, StopsBySite, Writes}
+use Rattle.cfa_agent.specs.Actuating.{HasFault, StopsBySite, Writes}
 
 -- ---- logs
 

@@ -34,7 +34,7 @@ use Rattle.cfa_walk.specs.Tellers.{Actuated}
 use Rattle.cfa_agent.specs.Actuations.{Mark, Done, mark_of, done_by, number_of, appended, changed, run_record, closing_record, is_change, is_some_change, entries_of}
 use Rattle.cfa_agent.specs.Locking.{lock_entries}
 use Rattle.cfa_agent.specs.Marks.{is_closing, closed_by, closed_in, is_of_act, first_closed, counted_on, mark_closed, marks_behind, marks_of}
-use Rattle.cfa_agent.specs.WholeLogs.{Gives, IsWholeLog}
+use Rattle.cfa_agent.specs.Standing.{Gives, IsWholeLog}
 
 -- ---- what a record closes
 

@@ -6,7 +6,7 @@ use Rattle.cfa_outside.specs.declared.sites.Entry.{Entry}
 use Rattle.cfa_outside.specs.Sites.{Told, fits, adds, after}
 use Rattle.cfa_resolve.specs.declared.instances.Instance.{Instance}
 use Rattle.cfa_agent.specs.declared.recording.Heading.{Heading}
-use Rattle.cfa_agent.specs.Recording.{opening_at}
+use Rattle.cfa_agent.specs.Actuating.{opening_at}
 use Rattle.cfa_agent.proofs.Hosts.{same_back, same_opened, fits_same}
 
 along : (told : Option Told) (P Q : Told → Type 0) (entries : List Entry) → ((t : Told) → P t → Q (adds entries t)) → IfSome told P → IfSome (option_map (adds entries) told) Q

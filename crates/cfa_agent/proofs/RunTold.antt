@@ -20,8 +20,7 @@ use Rattle.cfa_agent.specs.Ending.{StopsPut}
 use Rattle.cfa_agent.specs.Marks.{marks_of}
 use Rattle.cfa_agent.specs.Ran.{started, counts_of, IsWhole, RunsAs, IfBothTold, StopsRun, Refuses, RunBuilds, text_too_big}
 use Rattle.cfa_agent.specs.Runs.{Counts, real, run_of, log_of, lines_of, tally_of, history_of, last_line, log_in, tally_in}
-use Rattle.cfa_agent.specs.Standing.{Given, Standing, IsBehind, Agrees, teller_of, IsFirst, since, text_in}
-use Rattle.cfa_agent.specs.WholeLogs.{IsWholeLog}
+use Rattle.cfa_agent.specs.Standing.{Given, Standing, IsBehind, Agrees, teller_of, IsFirst, since, text_in, IsWholeLog}
 use Rattle.cfa_agent.specs.lemmas.Hosts.{adds_none}
 use Rattle.cfa_agent.proofs.MarkLemmas.{whole_none}
 

@@ -11,7 +11,7 @@ use Rattle.cfa_output.specs.declared.ends.Stop.{Stop}
 use Rattle.cfa_output.specs.declared.ends.Stop.TheVariants.{Outside, Memory, Visits, Pattern}
 use Rattle.cfa_walk.specs.Levels.{Faults, Later, Stops, IsTellersStop}
 use Rattle.cfa_agent.specs.Ending.{StopsPut, StopsTeller}
-use Rattle.cfa_agent.specs.Recording.{StopsBySite}
+use Rattle.cfa_agent.specs.Actuating.{StopsBySite}
 
 -- by the site, behind some of the work
 pub site_stops : (first : Faults) (before after : Shown Told) (n : ℕ) (stop : Stop) → first.0 ≤ before.faults → n ≡ first.1 → StopsBySite before after stop → StopsTeller first (after.faults, n) stop

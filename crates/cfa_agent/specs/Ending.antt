@@ -20,10 +20,9 @@ use Rattle.cfa_walk.specs.Levels.{Faults, Later, HasTold}
 use Rattle.cfa_agent.specs.declared.actuating.Actuation.{Actuation}
 use Rattle.cfa_agent.specs.declared.progress.Running.{Running}
 use Rattle.cfa_agent.specs.declared.running.Tally.{Tally}
-use Rattle.cfa_agent.specs.Actuating.{DoesActs, done_met}
+use Rattle.cfa_agent.specs.Actuating.{DoesActs, done_met, StopsBySite}
 use Rattle.cfa_agent.specs.Actuations.{entries_of}
 use Rattle.cfa_agent.specs.Locking.{is_skipped, lock_entries}
-use Rattle.cfa_agent.specs.Recording.{StopsBySite}
 use Rattle.cfa_agent.specs.Standing.{Standing, teller_of, faults_of, Agrees, IsBehind}
 
 -- ---- lines

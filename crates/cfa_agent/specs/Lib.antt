@@ -3,11 +3,8 @@ pub mod Hosts
 pub mod Marks
 pub mod Runs
 pub mod Ran
-pub mod Recording
 pub mod Actuating
 pub mod Locking
-pub mod WholeLogs
 pub mod Standing
 pub mod Ending
-pub mod Steady
 pub mod lemmas

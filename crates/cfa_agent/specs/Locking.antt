@@ -10,7 +10,7 @@ use Rattle.cfa_outside.specs.Sites.{Told}
 use Rattle.cfa_locks.specs.Locks.{key_of, is_due}
 use Rattle.cfa_output.specs.declared.ends.Stop.{Stop}
 use Rattle.cfa_resolve.specs.declared.instances.Instance.{Instance}
-use Rattle.cfa_agent.specs.Recording.{StopsBySite}
+use Rattle.cfa_agent.specs.Actuating.{StopsBySite}
 
 abbrev pub is_too_early : (moment : ℕ) → Instance → (last : Option ℕ) → Bool
 is_too_early moment instance None = false

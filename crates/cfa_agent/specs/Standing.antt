@@ -1,21 +1,33 @@
--- Of the code alone: with what a run on a site agrees as far as it was made, and what it came to.
---
--- Which calls of the site fail is known of the entries alone that the run has added so far. So it agrees with each run of the
--- definition that meets their marks, up to the instance that was actuated last.
-use Rattle.std.specs.Prelude.{ℕ, ◌≡◌, ◌≤◌, Bool, false, List, length, drop, flat_map, Some}
-use Rattle.cfa_base.specs.Shown.{Shown, Follows}
+-- Of the code alone: with what a run on a site agrees as far as it was made.
+use Rattle.std.specs.Prelude.{ℕ, ◌≡◌, ◌≤◌, List, ◌++◌, All, Bool, false, length, drop, flat_map, Some, ◌∷◌, IsTrue}
+use Rattle.std.proofs.lemmas.Bool.{false≢true}
 use Rattle.cfa_outside.specs.declared.sites.Entry.{Entry}
-use Rattle.cfa_outside.specs.Sites.{Told, adds}
-use Rattle.cfa_outside.specs.Sinks.{adds_bytes}
-use Rattle.cfa_walk.specs.History.{History}
-use Rattle.cfa_walk.specs.Levels.{Faults}
-use Rattle.cfa_walk.specs.Tellers.{Teller}
-use Rattle.cfa_agent.specs.declared.progress.Running.{Running}
 use Rattle.cfa_agent.specs.Actuations.{Mark, mark_of}
 use Rattle.cfa_agent.specs.Marks.{marks_of}
+use Rattle.cfa_base.specs.Shown.{Shown, Follows}
+use Rattle.cfa_outside.specs.Sites.{Told, adds}
+use Rattle.cfa_outside.specs.Sinks.{adds_bytes}
+use Rattle.cfa_walk.specs.History.{History, Event, Begun, Set, Raised, Reached, Listed, Told as Heard}
+use Rattle.cfa_walk.specs.Levels.{Faults, is_quiet}
+use Rattle.cfa_walk.specs.Tellers.{Teller}
+use Rattle.cfa_agent.specs.declared.progress.Running.{Running}
 use Rattle.cfa_agent.specs.Ran.{counts_of}
 use Rattle.cfa_agent.specs.Runs.{Start, Counts, no_counts, real, actuations_in, has_record, log_in, lines_in, tally_in}
-use Rattle.cfa_agent.specs.WholeLogs.{IsWholeLog}
+
+-- A log whose marks stay, whatever is added to it.
+
+-- all these marks are of these entries, whatever is added
+pub record Gives (log : List Entry) (marks : List Mark) : Type 0 where
+  pub before : (more : List Entry) → marks_of (log ++ more) ≡ marks ++ marks_of more
+
+-- whatever is added, the marks of the log stay, and none of them has a number above this one
+pub record IsWholeLog (n : ℕ) (log : List Entry) : Type 0 where
+  pub gives : Gives log (marks_of log)
+  pub within : All (λ (m : Mark). m.instance ≤ n) (marks_of log)
+
+-- With what a run on a site agrees as far as it was made, and what it came to. Which calls of the site fail is
+-- known of the entries alone that the run has added so far. So it agrees with each run of the definition that
+-- meets their marks, up to the instance that was actuated last.
 
 -- a run's start, what happened on its site before it, and what its sink showed
 pub record Given : Type 0 where
@@ -83,3 +95,14 @@ text_in s h = flat_map (λ line. line) (lines_in s h)
 
 abbrev pub IsBehind : Standing → Given → History → Type 0
 IsBehind w g h = CameTo w g (log_in g.start h) (actuations_in h) (text_in g.start h) (tally_in h)
+
+-- What a run came to stands over the events that it needn't hear of.
+
+pub stays_behind : (w : Standing) (g : Given) (event : Event) (h : History) →
+    IsTrue (is_quiet event) → IsBehind w g h → IsBehind w g (event ∷ h)
+stays_behind w g (Begun path arguments) h quiet behind = behind
+stays_behind w g (Set path name datum) h quiet behind = behind
+stays_behind w g (Raised place class status source) h quiet behind = behind
+stays_behind w g (Reached home promise guard sets visits) h quiet behind = behind
+stays_behind w g (Listed instance status) h quiet behind = behind
+stays_behind w g (Heard instance outcomes) h quiet behind = absurd (false≢true quiet)

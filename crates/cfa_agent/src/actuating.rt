@@ -3,8 +3,7 @@ ghost use Rattle.std.specs.Prelude.{◌≡◌, ◌+◌, ◌≤◌, All, IfOk, If
 ghost use Rattle.cfa_outside.specs.Sites.{fits};
 ghost use Rattle.cfa_acts.specs.Acts.{IsAct};
 ghost use Rattle.cfa_journal.specs.Records.{IsId};
-ghost use Rattle.cfa_agent.specs.Recording.{IsRecorded, opening, opening_at};
-ghost use Rattle.cfa_agent.specs.Actuating.{ChangeTried, ChangeMade, IsRefusedLook, ActTaken, ActsDone, acted, Actuates};
+ghost use Rattle.cfa_agent.specs.Actuating.{IsRecorded, opening, opening_at, ChangeTried, ChangeMade, IsRefusedLook, ActTaken, ActsDone, acted, Actuates};
 
 use crate::recording::{Heading, close, open_at};
 use cfa_acts::{Act, Decision, Reason, decide};

@@ -1,7 +1,7 @@
 // The locks of instances.
 ghost use Rattle.std.specs.Prelude.{◌≡◌};
 ghost use Rattle.cfa_agent.specs.Locking.{is_too_early, lock_entries, Skips};
-ghost use Rattle.cfa_agent.specs.Recording.{Writes};
+ghost use Rattle.cfa_agent.specs.Actuating.{Writes};
 
 use crate::recording::put;
 use cfa_locks::{due, key};

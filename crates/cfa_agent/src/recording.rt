@@ -7,7 +7,7 @@ ghost use Rattle.cfa_journal.specs.declared.records.Record.TheVariants as Record
 ghost use Rattle.cfa_journal.specs.Records.{IsRecord, IsReason, IsMoment, IsCount};
 ghost use Rattle.cfa_locks.specs.Locks.{key_of};
 ghost use Rattle.cfa_agent.specs.Actuations.{number_of, appended};
-ghost use Rattle.cfa_agent.specs.Recording.{Writes, IsRecorded, run_before, opening, opening_at, failing, is_begun, closing_repaired, closing_failed, closing};
+ghost use Rattle.cfa_agent.specs.Actuating.{Writes, IsRecorded, run_before, opening, opening_at, failing, is_begun, closing_repaired, closing_failed, closing};
 
 use crate::actuating::Actuation;
 use cfa_acts::Reason;

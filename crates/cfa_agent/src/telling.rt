@@ -209,8 +209,7 @@ fn tell_instance<S: Site, O: Sink>(
 }
 
 impl<S: Site, O: Sink> Teller<S, O> for Running {
-    ghost use Rattle.cfa_agent.specs.Standing.{Given, teller_of, faults_of, Agrees, IsBehind};
-    ghost use Rattle.cfa_agent.specs.Steady.{stays_behind};
+    ghost use Rattle.cfa_agent.specs.Standing.{Given, teller_of, faults_of, Agrees, IsBehind, stays_behind};
 
     ghost given = { Given };
 

@@ -16,10 +16,8 @@ use Rattle.cfa_walk.specs.declared.walks.Visit.{Visit}
 use Rattle.cfa_walk.specs.Tellers.{acts_of}
 use Rattle.cfa_conflict.specs.declared.verdicts.Conflict.{Conflict}
 use Rattle.cfa_conflict.specs.Conflicts.{undone, undone_by, undone_by_other, undone_by_later, is_visited_after, undone_in, undone_from}
-use Rattle.cfa_conflict.specs.Firsts.{first_of}
+use Rattle.cfa_conflict.specs.Targets.{first_of, Row, target_of, rows_from, sought, acts_in, acts_at, is_row, is_like, IsAt, IsNeverUndone}
 use Rattle.cfa_acts.specs.Same.{is_same}
-use Rattle.cfa_conflict.specs.TextPlaces.{Row}
-use Rattle.cfa_conflict.specs.Targets.{target_of, rows_from, sought, acts_in, acts_at, is_row, is_like, IsAt, IsNeverUndone}
 use Rattle.cfa_conflict.proofs.QuietLemmas.{none_by_later, none_by_other}
 use Rattle.cfa_conflict.proofs.SameLemmas.{acts_are}
 use Rattle.cfa_conflict.proofs.SoughtLemmas.{passes, seeks, disturbs_sought}

@@ -8,7 +8,7 @@ use Rattle.cfa_resolve.specs.declared.instances.Instance.{Instance}
 use Rattle.cfa_walk.specs.declared.walks.Visit.{Visit}
 use Rattle.cfa_walk.specs.declared.walks.Walk.{Walk}
 use Rattle.cfa_conflict.specs.Conflicts.{undone_by, undone_by_later, undone_in, undone_from, is_live, conflicts_at, conflicts_from}
-use Rattle.cfa_conflict.specs.Firsts.{first_of}
+use Rattle.cfa_conflict.specs.Targets.{first_of}
 
 pub first_append : {X : Type 0} (xs ys : List X) → first_of (xs ++ ys) ≡ option_or (first_of xs) (first_of ys)
 first_append [] ys = refl

@@ -11,8 +11,7 @@ use Rattle.std.specs.Str.{bytes_eq}
 use Rattle.cfa_base.specs.Index.{Text}
 use Rattle.cfa_resolve.specs.declared.instances.Instance.{Instance}
 use Rattle.cfa_acts.specs.Same.{is_same}
-use Rattle.cfa_conflict.specs.TextPlaces.{Row, seen_row, seen_rows, is_sought, places_of}
-use Rattle.cfa_conflict.specs.Targets.{acts_at, is_row, is_like, HaveLikes}
+use Rattle.cfa_conflict.specs.Targets.{Row, seen_row, seen_rows, is_sought, places_of, acts_at, is_row, is_like, HaveLikes}
 use Rattle.cfa_conflict.proofs.PlaceLemmas.{Seen, at_key}
 use Rattle.cfa_conflict.specs.lemmas.Anywhere.{in_left, in_right}
 

@@ -9,7 +9,7 @@ use Rattle.std.proofs.lemmas.Bool.{cond-true, cond-false, eq-eqb, ne_eqb, lt-ltb
 use Rattle.std.proofs.lemmas.List.{at_drop_more}
 use Rattle.cfa_walk.specs.declared.walks.Visit.{Visit}
 use Rattle.cfa_conflict.specs.Conflicts.{first_visit, has_visit, is_visited_after}
-use Rattle.cfa_conflict.specs.Numbers.{first_from, last_from, unless_zero}
+use Rattle.cfa_conflict.specs.Targets.{first_from, last_from, unless_zero}
 
 -- ---- first visits
 

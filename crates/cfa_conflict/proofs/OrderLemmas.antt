@@ -16,7 +16,7 @@ use denote.Ref.{Bor}
 use Rattle.cfa_base.specs.Index.{Text}
 use Rattle.cfa_base.specs.TextMaps.{text_cmp}
 use Rattle.cfa_base.specs.lemmas.Fronts.{from_front, between}
-use Rattle.cfa_conflict.specs.TextPlaces.{AreSorted, is_row_before, begins_with}
+use Rattle.cfa_conflict.specs.Targets.{AreSorted, is_row_before, begins_with}
 
 -- ---- the order of the rows
 

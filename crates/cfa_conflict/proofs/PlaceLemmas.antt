@@ -12,7 +12,7 @@ use denote.Ref.{Bor}
 use Rattle.cfa_base.specs.Index.{Text}
 use Rattle.cfa_base.specs.lemmas.EqualTexts.{is_text, texts_turned}
 use Rattle.cfa_base.specs.lemmas.TextKeys.{hash_updates}
-use Rattle.cfa_conflict.specs.TextPlaces.{Row, seen_row, seen_rows, begins_with, goes_on, is_sought, places_of, in_group, grouped}
+use Rattle.cfa_conflict.specs.Targets.{Row, seen_row, seen_rows, begins_with, goes_on, is_sought, places_of, in_group, grouped}
 
 abbrev pub Seen : Type 0
 Seen = Bor Text × ℕ

@@ -13,9 +13,7 @@ use Rattle.cfa_walk.specs.declared.walks.Visit.{Visit}
 use Rattle.cfa_walk.specs.Tellers.{acts_of}
 use Rattle.cfa_conflict.specs.declared.verdicts.Conflict.{Conflict}
 use Rattle.cfa_conflict.specs.Conflicts.{undone, undone_by, undone_by_other, undone_by_later, is_visited_after, undone_in, undone_from}
-use Rattle.cfa_conflict.specs.Firsts.{first_of}
-use Rattle.cfa_conflict.specs.TextPlaces.{Row}
-use Rattle.cfa_conflict.specs.Targets.{rows_from, sought}
+use Rattle.cfa_conflict.specs.Targets.{first_of, Row, rows_from, sought}
 use Rattle.cfa_conflict.proofs.FirstLemmas.{behind_none, found_before}
 use Rattle.cfa_conflict.proofs.TargetLemmas.{In, quiet_elsewhere}
 

@@ -8,8 +8,7 @@ use Rattle.std.proofs.lemmas.List.{at_drop_more, append-nil, drop_all}
 use Rattle.std.proofs.lemmas.List.Folds.{list_any-append}
 use Rattle.cfa_acts.specs.declared.acts.Act.{Act}
 use Rattle.cfa_resolve.specs.declared.instances.Instance.{Instance}
-use Rattle.cfa_conflict.specs.TextPlaces.{Row}
-use Rattle.cfa_conflict.specs.Targets.{rows_from, sought}
+use Rattle.cfa_conflict.specs.Targets.{Row, rows_from, sought}
 
 -- ---- the rows of instances
 

@@ -8,7 +8,7 @@ use Rattle.cfa_walk.specs.declared.walks.Walk.{Walk}
 use Rattle.cfa_conflict.specs.declared.verdicts.Conflict.{Conflict}
 use Rattle.cfa_conflict.specs.declared.verdicts.Verdict.TheVariants as verdict
 use Rattle.cfa_conflict.specs.Conflicts.{unsettled_conflict, restarts_of, first_visit, unsure_at, undone_from, is_live, conflicts_at, conflicts_from, conflicts, live_instances, first_or_accepted, verdict_of}
-use Rattle.cfa_conflict.specs.Firsts.{first_of}
+use Rattle.cfa_conflict.specs.Targets.{first_of}
 use Rattle.cfa_conflict.proofs.FirstLemmas.{behind_none, found_before, conflicts_here}
 
 -- ---- the verdict

@@ -1,19 +1,105 @@
--- Of the code alone: where the acts are that can disturb an act. An act changes one target, a path or a service. It can disturb
--- an act that stands on this target, a copy from it, and the deletion of a path at or above it. So each act looks among the acts
--- of some targets alone.
-use Rattle.std.specs.Prelude.{◌≡◌, ℕ, ◌+◌, Bool, true, false, ◌&&◌, ◌||◌, nat_eq, List, [], ◌∷◌, ◌++◌, get_or, Option, Some, None, slice_get}
-use Rattle.std.specs.Cmp.Lexicographic.{pointwise}
-use Rattle.std.specs.List.{flat_map, list_any}
+-- Of the code alone: where the acts are that can disturb an act, and where its visits are.
+use Rattle.std.specs.Prelude.{List, [], ◌∷◌, Option, Some, None, ◌≡◌, ℕ, ◌+◌, ◌<◌, ◌==◌, length, slice_index, if◌then◌else◌, Bool, true, false, ◌&&◌, nat_eq, drop, map, ◌||◌, ◌++◌, get_or, slice_get}
+use Rattle.std.specs.Cmp.Lexicographic.{slice_cmp, pointwise}
+use Rattle.std.specs.HashMap.{HashMap, get_by}
+use Rattle.std.specs.List.{filter, list_any, starts_with, flat_map}
+use Rattle.std.specs.List.Sorted.{IsSortedBy}
+use Rattle.std.specs.Ordering.{is_lt, nat_cmp}
 use Rattle.std.specs.Str.{bytes_eq}
+use Rattle.std.specs.declared.vec.Vec.{Vec}
+use denote.Ref.{Bor}
+use Rattle.cfa_walk.specs.declared.walks.Visit.{Visit}
 use Rattle.cfa_base.specs.Index.{Text}
 use Rattle.cfa_acts.specs.declared.acts.Act.{Act}
 use Rattle.cfa_acts.specs.declared.acts.Act.TheVariants.{Create, MakeDir, Delete, Content, Copy, Edit, Perms, Start, Stop, Enable, Disable, Restart, Bust}
 use Rattle.cfa_resolve.specs.declared.instances.Instance.{Instance}
 use Rattle.cfa_walk.specs.Tellers.{acts_of}
-use Rattle.cfa_walk.specs.declared.walks.Visit.{Visit}
 use Rattle.cfa_conflict.specs.Conflicts.{undone_from}
-use Rattle.cfa_conflict.specs.TextPlaces.{Row, places_of}
 use Rattle.cfa_acts.specs.Same.{is_same}
+
+-- The first of a list.
+
+abbrev pub first_of : {X : Type 0} → List X → Option X
+first_of [] = None
+first_of (x ∷ xs) = Some x
+
+-- The numbers of the first and of the last visit of an instance, among visits that are numbered from a number
+-- on. Where there is none, that of the first is the number behind all, and that of the last is 0.
+
+abbrev pub first_from : (from : ℕ) → List Visit → (place : ℕ) → ℕ
+first_from from [] place = from
+first_from from (visit ∷ visits) place = if visit.instance == place then from else first_from (from + 1) visits place
+
+abbrev pub unless_zero : (number other : ℕ) → ℕ
+unless_zero number other = if number == 0 then other else number
+
+abbrev pub last_from : (from : ℕ) → List Visit → (place : ℕ) → ℕ
+last_from from [] place = 0
+last_from from (visit ∷ visits) place =
+    unless_zero (last_from (from + 1) visits place) (if visit.instance == place then from else 0)
+
+-- these are the numbers of each place that they have
+pub record AreNumbers (visits : List Visit) (firsts lasts : List ℕ) : Type 0 where
+  pub lengths : length lasts ≡ length firsts
+  pub first : (place : ℕ) → place < length firsts → slice_index firsts place ≡ first_from 0 visits place
+  pub last : (place : ℕ) → place < length firsts → slice_index lasts place ≡ last_from 0 visits place
+
+-- Texts, each with a place. The places of a text stand in a table; those of the texts that begin with it stand
+-- together where the rows are in the order of their texts.
+
+-- a text with its place
+abbrev pub Row : Type 0
+Row = Text × ℕ
+
+-- a row as the code has it
+abbrev pub seen_row : Bor Text × ℕ → Row
+seen_row row = (row.0.now, row.1)
+
+abbrev pub seen_rows : List (Bor Text × ℕ) → List Row
+seen_rows rows = map seen_row rows
+
+-- in the order of the bytes of their texts
+abbrev pub is_row_before : Bor Text × ℕ → Bor Text × ℕ → Bool
+is_row_before row other = is_lt (slice_cmp nat_cmp row.0.now other.0.now)
+
+abbrev pub AreSorted : List (Bor Text × ℕ) → Type 0
+AreSorted rows = IsSortedBy is_row_before rows
+
+abbrev pub begins_with : (front : Text) → Bor Text × ℕ → Bool
+begins_with front row = starts_with nat_eq row.0.now front
+
+-- the text is the key; or, where it may be beneath, goes on with a slash
+abbrev pub goes_on : (beneath : Bool) → (rest : Text) → Bool
+goes_on beneath [] = true
+goes_on beneath (byte ∷ rest) = beneath && (byte == 47)
+
+abbrev pub is_sought : (key : Text) → (beneath : Bool) → (target : Text) → Bool
+is_sought key beneath target = starts_with nat_eq target key && goes_on beneath (drop (length key) target)
+
+abbrev pub places_of : List Row → (key : Text) → (beneath : Bool) → List ℕ
+places_of rows key beneath = map (λ (row : Row). row.1) (filter (λ (row : Row). is_sought key beneath row.0) rows)
+
+-- what a table of places answers, with none for a text that it lacks
+abbrev pub in_group : {A : Type 0} → Option (Vec ℕ A) → List ℕ
+in_group None = []
+in_group (Some places) = places.items
+
+abbrev pub grouped : {A S : Type 0} → HashMap (Bor Text) (Vec ℕ A) S → Text → List ℕ
+grouped groups text = in_group (get_by (λ key. bytes_eq text key.now) groups)
+
+abbrev pub AnswersPlaces : {A S : Type 0} → List (Bor Text × ℕ) → HashMap (Bor Text) (Vec ℕ A) S → Type 0
+AnswersPlaces rows groups = (text : Text) → grouped groups text ≡ places_of (seen_rows rows) text false
+
+-- the rows in the order of their texts, where that was made
+abbrev pub IsOrderOf : {A : Type 0} → List (Bor Text × ℕ) → Option (Vec (Bor Text × ℕ) A) → Type 0
+IsOrderOf rows None = Unit {0}
+IsOrderOf rows (Some ordered) =
+    AreSorted ordered.items
+    × ((test : Row → Bool) → list_any test (seen_rows ordered.items) ≡ list_any test (seen_rows rows))
+
+-- Where the acts are that can disturb an act. An act changes one target, a path or a service. It can disturb an
+-- act that stands on this target, a copy from it, and the deletion of a path at or above it. So each act looks
+-- among the acts of some targets alone.
 
 abbrev pub target_of : Act → Option Text
 target_of (Create path) = Some path

@@ -1,6 +1,6 @@
 // The first and the last visit of each instance.
 ghost use Rattle.std.specs.Prelude.{◌≡◌, ◌<◌, IfOk, length, option_copied, vec_len};
-ghost use Rattle.cfa_conflict.specs.Numbers.{AreNumbers};
+ghost use Rattle.cfa_conflict.specs.Targets.{AreNumbers};
 
 use cfa_base::NoMemory;
 use cfa_walk::Visit;

@@ -1,7 +1,7 @@
 // Texts with places: those of a text, and those of the texts beneath it.
 ghost use Rattle.std.specs.Prelude.{◌≡◌, ◌||◌, ◌++◌, ◌∷◌, ℕ, List, [], false, true, OnOk, OnErr, nat_eq};
 ghost use Rattle.std.specs.List.{filter, list_any};
-ghost use Rattle.cfa_conflict.specs.TextPlaces.{AreSorted, begins_with, grouped, is_sought, places_of, seen_rows};
+ghost use Rattle.cfa_conflict.specs.Targets.{AreSorted, begins_with, grouped, is_sought, places_of, seen_rows};
 
 use cfa_base::NoMemory;
 use std::alloc::Global;
@@ -90,7 +90,7 @@ pub(crate) struct TextPlaces<'a> {
 
 impl<'a> Model for TextPlaces<'a> {
     ghost use Rattle.std.specs.Prelude.{List, ℕ};
-    ghost use Rattle.cfa_conflict.specs.TextPlaces.{AnswersPlaces, IsOrderOf, seen_rows};
+    ghost use Rattle.cfa_conflict.specs.Targets.{AnswersPlaces, IsOrderOf, seen_rows};
 
     ghost Value = { List (List ℕ × ℕ) };
 

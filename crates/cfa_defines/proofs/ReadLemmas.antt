@@ -20,7 +20,7 @@ use Rattle.cfa_defines.specs.declared.reads.Read.{Read}
 use Rattle.cfa_defines.specs.declared.reads.Read.TheVariants.{Text as a_text, List as a_list}
 use Rattle.cfa_defines.specs.declared.combining.Combined.TheVariants.{Lacks as lacks, TooMany as too_many}
 use Rattle.cfa_defines.specs.OwnTexts.{reads_in, reads_among, arguments_of, scalar_names, lacking_in, first_lacking, is_long_list, has_too_many, choices_among, is_past_limit, has_too_long, found_or_too_long, combined_by, combined}
-use Rattle.cfa_defines.specs.ReadTexts.{text_read, has_text_too_long}
+use Rattle.cfa_defines.specs.OfTheCode.{text_read, has_text_too_long}
 use Rattle.cfa_defines.specs.VarsPromises.{choices_unless}
 
 pub reads_of_list : (v : Value) (items : Vec Value Global) (place : Place) → v ≡ Listed items place → reads_in (plain_value v) ≡ reads_among (value_trees (map plain_value items.items))

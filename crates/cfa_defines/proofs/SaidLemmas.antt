@@ -9,7 +9,7 @@ use Rattle.cfa_defines.specs.declared.saying.Said.TheVariants.{Says as says, NoE
 use Rattle.cfa_defines.specs.declared.saying.Join.{Join}
 use Rattle.cfa_defines.specs.declared.saying.Join.TheVariants.{All as of_all, One as of_one}
 use Rattle.cfa_defines.specs.ClassPromises.{joined}
-use Rattle.cfa_defines.specs.Joining.{operation, together}
+use Rattle.cfa_defines.specs.OfTheCode.{operation, together}
 
 -- ---- two at a time
 

@@ -1,10 +1,8 @@
 pub mod OwnTexts
-pub mod ReadTexts
 pub mod Items
 pub mod FirstMaybe
 pub mod VarsPromises
 pub mod ClassPromises
 pub mod Builds
 pub mod SeenRaises
-pub mod Joining
-pub mod SeenContexts
+pub mod OfTheCode

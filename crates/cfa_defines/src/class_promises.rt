@@ -7,7 +7,7 @@ ghost use Rattle.cfa_tree.specs.Plain.{plain_promise};
 ghost use Rattle.cfa_vars.specs.Scopes.{in_scope};
 ghost use Rattle.cfa_defines.specs.Builds.{BuiltAmong, BuiltBy, expressions_of};
 ghost use Rattle.cfa_defines.specs.ClassPromises.{raised_in, raises_from, raises_of};
-ghost use Rattle.cfa_defines.specs.SeenContexts.{variables_of, status_of};
+ghost use Rattle.cfa_defines.specs.OfTheCode.{variables_of, status_of};
 ghost use Rattle.cfa_defines.specs.SeenRaises.{seen_raise};
 
 use crate::expressions::{Context, expressed};

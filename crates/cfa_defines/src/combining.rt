@@ -4,7 +4,7 @@ ghost use Rattle.std.specs.List.{list_any, filter_map};
 ghost use Rattle.cfa_vars.specs.Scopes.{in_scope, look};
 ghost use Rattle.cfa_vars.specs.Expansion.{expanded};
 ghost use Rattle.cfa_defines.specs.OwnTexts.{held_list, lacking_in, first_lacking, is_long_list, has_too_many, choices_among, is_past_limit, found_or_too_long, combined};
-ghost use Rattle.cfa_defines.specs.ReadTexts.{text_read, has_text_too_long};
+ghost use Rattle.cfa_defines.specs.OfTheCode.{text_read, has_text_too_long};
 ghost use Rattle.cfa_defines.specs.VarsPromises.{choices_unless};
 
 use crate::reads::Read;

@@ -11,8 +11,7 @@ ghost use Rattle.cfa_defines.specs.OwnTexts.{held_list};
 ghost use Rattle.cfa_defines.specs.Items.{items_or_none, items_written};
 ghost use Rattle.cfa_defines.specs.ClassPromises.{answer_said, given_said, text_said, joined};
 ghost use Rattle.cfa_defines.specs.Builds.{BuiltAmong, pattern_of_value, expressions_of};
-ghost use Rattle.cfa_defines.specs.Joining.{operation, together};
-ghost use Rattle.cfa_defines.specs.SeenContexts.{variables_of, status_of, value_in, item_in, items_in, list_in, expressed_in};
+ghost use Rattle.cfa_defines.specs.OfTheCode.{operation, together, variables_of, status_of, value_in, item_in, items_in, list_in, expressed_in};
 
 use crate::combining::held_list;
 use crate::maybes::first_maybe;

@@ -1,7 +1,7 @@
 // What class expressions say, alone and several together.
 ghost use Rattle.std.specs.Prelude.{◌≡◌, []};
 ghost use Rattle.cfa_defines.specs.ClassPromises.{joined, opposite};
-ghost use Rattle.cfa_defines.specs.Joining.{operation, together};
+ghost use Rattle.cfa_defines.specs.OfTheCode.{operation, together};
 
 use cfa_base::Name;
 use cfa_classes::Status;

@@ -3,8 +3,7 @@ pub mod Inputs
 pub mod MemoryInputs
 pub mod MemorySink
 pub mod MemorySite
-pub mod NextSlash
-pub mod NodeCodes
+pub mod OfTheCode
 pub mod Paths
 pub mod RegexPatterns
 pub mod Sinks

@@ -2,7 +2,7 @@
 ghost use Rattle.std.specs.Prelude.{◌≡◌, ◌≤◌, not, [], IsTrue, IfOk, OnOk, OnErr, IsErrOf, IfSome, IfNone, option_copied, length, drop};
 ghost use Rattle.std.specs.FinMap as map;
 ghost use Rattle.cfa_outside.specs.Worlds.{put_file, put_directory, set_perms, with_perms, file_with, root_perms, with_dirs, above, above_from, is_file, is_directory, is_blocked, is_in_directories, has_below, look_at, takes_file, takes_directory, is_removable, bytes_in, perms_in, is_free, HasParents};
-ghost use Rattle.cfa_outside.specs.NextSlash.{IsNextSlash};
+ghost use Rattle.cfa_outside.specs.OfTheCode.{IsNextSlash};
 
 use crate::{Look, Node, NodeErr, Path, Perms};
 use cfa_base::{Bytes, Name, NoMemory, TextMap};
@@ -18,7 +18,7 @@ pub struct Nodes {
 
 impl Model for Nodes {
     ghost use Rattle.cfa_outside.specs.Worlds.{NodeMap, HasParents};
-    ghost use Rattle.cfa_outside.specs.NodeCodes.{node_map_code};
+    ghost use Rattle.cfa_outside.specs.OfTheCode.{node_map_code};
 
     ghost Value = { NodeMap };
 

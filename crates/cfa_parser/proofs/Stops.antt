@@ -19,9 +19,8 @@ use Rattle.cfa_parser.specs.declared.headings.HeadingState.TheVariants.{HasBlock
 use Rattle.cfa_parser.specs.declared.reader.State.{State}
 use Rattle.cfa_parser.specs.declared.reader.State.TheVariants.{BetweenBlocks, InHeading, InBundle, InBody}
 use Rattle.cfa_parser.specs.Machine.{Machine, start, step, run, whole, whole_at}
-use Rattle.cfa_parser.specs.Seen.{seen_heading_state, seen_state}
+use Rattle.cfa_parser.specs.Seen.{seen_heading_state, seen_state, Refused, StopsAtToken}
 use Rattle.cfa_parser.specs.Reading.{UnexpectedAt}
-use Rattle.cfa_parser.specs.Refused.{Refused, StopsAtToken}
 use Rattle.cfa_parser.proofs.Limits.{run_beyond}
 use Rattle.cfa_parser.proofs.Readings.{run_append, run_begins, stop_ends, whole_reads, unended}
 

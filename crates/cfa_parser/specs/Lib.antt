@@ -1,6 +1,5 @@
 pub mod Laws
 pub mod Machine
 pub mod Reading
-pub mod Refused
 pub mod Seen
 pub mod Values

@@ -2,8 +2,7 @@
 ghost use Rattle.std.specs.Prelude.{◌≡◌, ◌++◌, ◌∷◌, [], Some, None, IfOk, IfErr, map};
 ghost use Rattle.cfa_tree.specs.Plain.{plain_attribute, plain_section, plain_value};
 ghost use Rattle.cfa_parser.specs.Machine.{closed_section, section_step, within, in_section_step, bundle_step, body_step, body_value_next, between_promises, between_attributes, has_word, has_section_word, no_section, has_body_name};
-ghost use Rattle.cfa_parser.specs.Refused.{Takes, OnlyMemory};
-ghost use Rattle.cfa_parser.specs.Seen.{seen_value_progress, seen_open_section, seen_section_state, seen_bundle_state, seen_bundle_progress, seen_body_state, seen_body_progress};
+ghost use Rattle.cfa_parser.specs.Seen.{Takes, OnlyMemory, seen_value_progress, seen_open_section, seen_section_state, seen_bundle_state, seen_bundle_progress, seen_body_state, seen_body_progress};
 
 use crate::ParseErr;
 use crate::sections::{OpenSection, SectionState, take_in_section};

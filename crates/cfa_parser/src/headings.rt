@@ -2,8 +2,7 @@
 ghost use Rattle.std.specs.Prelude.{◌≡◌, Some, IfOk, IfErr, option_map};
 ghost use Rattle.cfa_tree.specs.Plain.{plain_named};
 ghost use Rattle.cfa_parser.specs.Machine.{block_word, named, with_param, has_block_word, has_kind, has_block_name, wants_first_param, has_param, wants_param, has_params, heading_step};
-ghost use Rattle.cfa_parser.specs.Refused.{Takes, OnlyMemory};
-ghost use Rattle.cfa_parser.specs.Seen.{seen_block_word, seen_heading, seen_heading_state, seen_heading_progress};
+ghost use Rattle.cfa_parser.specs.Seen.{Takes, OnlyMemory, seen_block_word, seen_heading, seen_heading_state, seen_heading_progress};
 
 use crate::ParseErr;
 use cfa_base::{Kind, Name, Place};

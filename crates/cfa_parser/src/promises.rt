@@ -2,8 +2,7 @@
 ghost use Rattle.std.specs.Prelude.{◌≡◌, Some, IfOk, IfErr, option_map};
 ghost use Rattle.cfa_tree.specs.Plain.{plain_value};
 ghost use Rattle.cfa_parser.specs.Machine.{new_promise, with_attribute, with_promise, stands, attribute_next, promisee_next, attribute_end, value_next, promiser_next, arrow_next, section_step, between_promises};
-ghost use Rattle.cfa_parser.specs.Refused.{Takes, OnlyMemory};
-ghost use Rattle.cfa_parser.specs.Seen.{seen_value_progress, seen_open_section, seen_open_promise, seen_section_state, seen_section};
+ghost use Rattle.cfa_parser.specs.Seen.{Takes, OnlyMemory, seen_value_progress, seen_open_section, seen_open_promise, seen_section_state, seen_section};
 
 use crate::ParseErr;
 use crate::sections::{OpenPromise, OpenSection, SectionState, StandingSection};

@@ -6,8 +6,7 @@ ghost use Rattle.cfa_tree.specs.Grammar.{depth_limit, ReadsWithin};
 ghost use Rattle.cfa_tree.specs.Plain.{plain_attribute, plain_block, plain_policy, plain_section};
 ghost use Rattle.cfa_parser.specs.Machine.{start, closed_bundle, closed_body, block_opened, bundle_next, body_next, within_blocks, heading_step, bundle_step, body_step, state_step, between_blocks, step, run, whole};
 ghost use Rattle.cfa_parser.specs.Reading.{UnexpectedAt, TooDeepAt};
-ghost use Rattle.cfa_parser.specs.Refused.{StepsTo, Takes, OnlyMemory, StopsAtToken};
-ghost use Rattle.cfa_parser.specs.Seen.{seen_heading, seen_heading_state, seen_bundle_state, seen_body_state, seen_state, seen_reader, seen_block_word};
+ghost use Rattle.cfa_parser.specs.Seen.{StepsTo, Takes, OnlyMemory, StopsAtToken, seen_heading, seen_heading_state, seen_bundle_state, seen_body_state, seen_state, seen_reader, seen_block_word};
 
 use crate::ParseErr;
 use crate::bundles::{

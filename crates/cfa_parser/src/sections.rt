@@ -3,8 +3,7 @@ ghost use Rattle.std.specs.Prelude.{◌≡◌, Some};
 ghost use Rattle.cfa_tree.specs.Guards.{guard_step};
 ghost use Rattle.cfa_tree.specs.SeenGuards.{seen_guard, seen_guard_progress};
 ghost use Rattle.cfa_parser.specs.Machine.{new_section, guard_next, section_step, between_next};
-ghost use Rattle.cfa_parser.specs.Refused.{Takes, at_place};
-ghost use Rattle.cfa_parser.specs.Seen.{seen_open_section, seen_section_state, seen_section};
+ghost use Rattle.cfa_parser.specs.Seen.{Takes, at_place, seen_open_section, seen_section_state, seen_section};
 
 use crate::ParseErr;
 use crate::promises::{

@@ -2,7 +2,7 @@
 ghost use Rattle.std.specs.Prelude.{◌≡◌, ◌++◌, ◌∷◌, ℕ, List, IfOk, IfErr, IsTrue, false};
 ghost use Rattle.std.specs.Str.{IsUtf8};
 ghost use Rattle.cfa_base.specs.Lexing.{content_of, name_of, is_quoted, is_reference, is_escapable, unescaped};
-ghost use Rattle.cfa_parser.specs.Refused.{OnlyMemory};
+ghost use Rattle.cfa_parser.specs.Seen.{OnlyMemory};
 
 use crate::ParseErr;
 use cfa_base::{Name, NoMemory};

@@ -1,8 +1,7 @@
 // The reading of values, token by token.
 ghost use Rattle.std.specs.Prelude.{◌≡◌, ◌∷◌, Some, None, IfOk, IfErr, option_map};
 ghost use Rattle.cfa_tree.specs.Plain.{plain_value};
-ghost use Rattle.cfa_parser.specs.Refused.{StepsTo, Takes, OnlyMemory};
-ghost use Rattle.cfa_parser.specs.Seen.{seen_list, seen_call, seen_calls, seen_value, seen_value_progress};
+ghost use Rattle.cfa_parser.specs.Seen.{StepsTo, Takes, OnlyMemory, seen_list, seen_call, seen_calls, seen_value, seen_value_progress};
 ghost use Rattle.cfa_parser.specs.Values.{value_taken, list_closed, call_closed, list_opened, list_ended, wants_step, paren_step, behind_step, word_step, value_step, value_start, has_item, has_argument};
 
 use crate::ParseErr;

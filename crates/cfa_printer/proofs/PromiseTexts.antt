@@ -7,7 +7,7 @@ use Rattle.cfa_tree.specs.declared.promises.Promise.{Promise}
 use Rattle.cfa_tree.specs.Plain.{plain_expr, plain_promise}
 use Rattle.cfa_tree.specs.Repeats.{guard_at, guard_before}
 use Rattle.cfa_tree.specs.lemmas.GuardPlaces.{guard_there}
-use Rattle.cfa_printer.specs.Lines.{line_above}
+use Rattle.cfa_printer.specs.OfTheCode.{line_above}
 use Rattle.cfa_printer.specs.Printing.{printed_promise, printed_promises}
 use Rattle.cfa_printer.specs.SameExpr.{same_guard}
 use Rattle.cfa_printer.proofs.SameExprs.{same_guard_for}

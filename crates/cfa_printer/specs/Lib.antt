@@ -1,5 +1,4 @@
-pub mod Appended
 pub mod Laws
-pub mod Lines
+pub mod OfTheCode
 pub mod Printing
 pub mod SameExpr

@@ -1,7 +1,7 @@
 // Attributes of promises and bodies.
 ghost use Rattle.std.specs.Prelude.{◌≡◌, ◌++◌, map, OnOk};
 ghost use Rattle.std.specs.List.{flat_map};
-ghost use Rattle.cfa_printer.specs.Appended.{Appends};
+ghost use Rattle.cfa_printer.specs.OfTheCode.{Appends};
 ghost use Rattle.cfa_tree.specs.Plain.{plain_attribute};
 ghost use Rattle.cfa_printer.specs.Printing.{printed_attribute, printed_attributes, printed_body_attribute};
 

@@ -2,7 +2,7 @@
 ghost use Rattle.std.specs.Prelude.{◌≡◌, ◌++◌, map, codes, IfOk, OnOk};
 ghost use Rattle.std.specs.List.{flat_map};
 ghost use Rattle.cfa_base.specs.Joined.{joined};
-ghost use Rattle.cfa_printer.specs.Appended.{Appends};
+ghost use Rattle.cfa_printer.specs.OfTheCode.{Appends};
 ghost use Rattle.cfa_tree.specs.Plain.{plain_named, plain_section, plain_block, plain_policy};
 ghost use Rattle.cfa_printer.specs.Printing.{printed_name, printed_params, head_of, printed_section, printed_block, printed};
 

@@ -1,6 +1,6 @@
 // Class expressions.
 ghost use Rattle.std.specs.Prelude.{◌≡◌, ◌++◌, List, ℕ, OnOk};
-ghost use Rattle.cfa_printer.specs.Appended.{Appends};
+ghost use Rattle.cfa_printer.specs.OfTheCode.{Appends};
 ghost use Rattle.cfa_tree.specs.Plain.{plain_expr};
 ghost use Rattle.cfa_printer.specs.Printing.{all_of_in, one_of_in, printed_expr};
 

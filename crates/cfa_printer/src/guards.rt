@@ -1,7 +1,6 @@
 // Guards of promises.
 ghost use Rattle.std.specs.Prelude.{◌≡◌, OnOk};
-ghost use Rattle.cfa_printer.specs.Appended.{Appends};
-ghost use Rattle.cfa_printer.specs.Lines.{guard_tree};
+ghost use Rattle.cfa_printer.specs.OfTheCode.{Appends, guard_tree};
 ghost use Rattle.cfa_tree.specs.Plain.{plain_expr};
 ghost use Rattle.cfa_printer.specs.Printing.{printed_guard, guard_line};
 ghost use Rattle.cfa_printer.specs.SameExpr.{same_expr, same_guard};

@@ -1,9 +1,8 @@
 // Promises.
 ghost use Rattle.std.specs.Prelude.{◌≡◌, ◌<◌, ◌++◌, None, length, map, option_copied, option_map, OnOk};
-ghost use Rattle.cfa_printer.specs.Appended.{Appends};
+ghost use Rattle.cfa_printer.specs.OfTheCode.{Appends, line_above};
 ghost use Rattle.cfa_tree.specs.Plain.{plain_value, plain_promise};
 ghost use Rattle.cfa_tree.specs.Repeats.{guard_at, guard_before};
-ghost use Rattle.cfa_printer.specs.Lines.{line_above};
 ghost use Rattle.cfa_printer.specs.Printing.{printed_promisee, printed_promise, printed_promises};
 
 use crate::attributes::push_attributes;

@@ -2,7 +2,7 @@
 ghost use Rattle.std.specs.Prelude.{◌≡◌, ◌++◌, [], if◌then◌else◌, ◌==◌, OnOk};
 ghost use Rattle.std.specs.List.{flat_map};
 ghost use Rattle.std.specs.Char.{encode_utf8};
-ghost use Rattle.cfa_printer.specs.Appended.{Appends};
+ghost use Rattle.cfa_printer.specs.OfTheCode.{Appends};
 ghost use Rattle.cfa_printer.specs.Printing.{escaped, quoted};
 
 use cfa_base::NoMemory;

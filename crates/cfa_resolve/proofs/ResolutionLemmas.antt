@@ -8,7 +8,7 @@ use Rattle.cfa_scripts.specs.declared.errors.ScriptErr.{ScriptErr}
 use Rattle.cfa_scripts.specs.declared.errors.ScriptErr.TheVariants as scripts
 use Rattle.cfa_scripts.specs.Refusals.{too_big_in as script_too_big_in}
 use Rattle.cfa_resolve.specs.declared.instances.ResolveErr.{ResolveErr}
-use Rattle.cfa_resolve.specs.Refused.{error_of}
+use Rattle.cfa_resolve.specs.OfTheCode.{error_of}
 use Rattle.cfa_resolve.specs.Viewed.{too_big_in}
 use Rattle.cfa_resolve.specs.Instances.{Reached}
 use Rattle.cfa_resolve.specs.Resolution.{caller_of, edit_call, walked_for, visits_in, inner_visits, IsBuiltByCall, IsBuiltAmong}

@@ -2,9 +2,7 @@ pub mod FileActs
 pub mod Instances
 pub mod KeyTexts
 pub mod Resolution
-pub mod Lengths
-pub mod SeenReached
 pub mod Viewed
-pub mod Refused
 pub mod Laws
+pub mod OfTheCode
 pub mod lemmas

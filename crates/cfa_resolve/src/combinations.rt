@@ -9,7 +9,7 @@ ghost use Rattle.cfa_resolve.specs.declared.combinations.Made.TheVariants.{Insta
 ghost use Rattle.cfa_resolve.specs.Instances.{bust_instance};
 ghost use Rattle.cfa_base.specs.Index.{is_listed};
 ghost use Rattle.cfa_resolve.specs.Resolution.{caller_of, edit_call, walked_for, visits_in, unsettled_in, made_by_script, unless_unresolved, made, made_for, instance_in, name_in, with_name, instances_for, names_after, inner_visits, inner_unsettled, IsBuiltByCall, IsBuiltAmong};
-ghost use Rattle.cfa_resolve.specs.SeenReached.{seen_reached};
+ghost use Rattle.cfa_resolve.specs.OfTheCode.{seen_reached};
 ghost use Rattle.cfa_resolve.specs.Viewed.{too_big_in};
 
 use crate::making::{bust_instance, handed_instance, made_instance};

@@ -3,7 +3,7 @@ ghost use Rattle.std.specs.Prelude.{◌≡◌, ◌++◌, [], All, IfOk, OnOk, op
 ghost use Rattle.std.specs.List.{cons_option};
 ghost use Rattle.cfa_acts.specs.Acts.{IsAct};
 ghost use Rattle.cfa_outside.specs.Paths.{path_of};
-ghost use Rattle.cfa_resolve.specs.Lengths.{IsShort};
+ghost use Rattle.cfa_resolve.specs.OfTheCode.{IsShort};
 ghost use Rattle.cfa_resolve.specs.FileActs.{delete_by, or_false, delete_acts, create_by, create_acts, copy_from, copy_act, copy_acts, content_acts, is_directory_form, path_part, placing_acts, acts_at, file_acts};
 
 use crate::editing::edit_act;

@@ -146,7 +146,7 @@ impl From<base::NoMemory> for ResolveErr {
 }
 
 impl From<ScriptErr> for ResolveErr {
-    ghost use Rattle.cfa_resolve.specs.Refused.{error_of};
+    ghost use Rattle.cfa_resolve.specs.OfTheCode.{error_of};
 
     ghost from_gives = { λ s e. e ≡ error_of s };
 

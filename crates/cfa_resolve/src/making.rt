@@ -8,7 +8,7 @@ ghost use Rattle.cfa_values.specs.Attributes.{value_of};
 ghost use Rattle.cfa_resolve.specs.declared.instances.Work.TheVariants.{Acts as of_acts};
 ghost use Rattle.cfa_resolve.specs.FileActs.{file_acts, service_act, outcome_classes};
 ghost use Rattle.cfa_resolve.specs.Instances.{instance_of, bust_instance, promiser_in, text_of, call_by, work_by, minutes_said, minutes_in, made_instance, handed_instance};
-ghost use Rattle.cfa_resolve.specs.SeenReached.{seen_reached};
+ghost use Rattle.cfa_resolve.specs.OfTheCode.{seen_reached};
 
 use crate::classes::{Outcomes, outcome_classes};
 use crate::copies::copy_id;

@@ -10,7 +10,7 @@ ghost use Rattle.cfa_defines.specs.OwnTexts.{choices_found};
 ghost use Rattle.cfa_scripts.specs.EditPromises.{at_least_one};
 ghost use Rattle.cfa_resolve.specs.Instances.{bust_instance};
 ghost use Rattle.cfa_resolve.specs.Resolution.{resolved_among, resolved_as, resolution, is_acting, IsActing, resolution_of, IsBuiltAmong, IsBuiltFor};
-ghost use Rattle.cfa_resolve.specs.SeenReached.{seen_reached};
+ghost use Rattle.cfa_resolve.specs.OfTheCode.{seen_reached};
 ghost use Rattle.cfa_resolve.specs.Viewed.{reached_in, too_big_in, IsBuiltAt};
 
 use crate::combinations::make_all;

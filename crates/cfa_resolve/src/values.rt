@@ -3,7 +3,7 @@ ghost use Rattle.std.specs.Prelude.{◌≡◌, ◌≤◌, IfOk};
 ghost use Rattle.cfa_kinds.specs.Forms.{minutes_written};
 ghost use Rattle.cfa_tree.specs.Plain.{plain_promise};
 ghost use Rattle.cfa_vars.specs.Scopes.{in_scope};
-ghost use Rattle.cfa_resolve.specs.Lengths.{IsShort};
+ghost use Rattle.cfa_resolve.specs.OfTheCode.{IsShort};
 ghost use Rattle.cfa_resolve.specs.FileActs.{truth, mode_written, own_text};
 
 use cfa_base::{Name, NoMemory};

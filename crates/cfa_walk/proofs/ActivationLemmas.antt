@@ -22,7 +22,7 @@ use Rattle.cfa_base.specs.Index.{is_listed}
 use Rattle.cfa_walk.specs.declared.activations.Activation.{Activation}
 use Rattle.cfa_walk.specs.declared.states.State.{State}
 use Rattle.cfa_walk.specs.History.{History, Event, Begun, Set, Raised, within, scope_in, locally, local_source, source_in, visits_in}
-use Rattle.cfa_walk.specs.Kept.{Keeps, KeepsLocally, Stands, OwnScope, IsFresh, IsUntouched, KeepsLog, wait_at, home_of, scope_at, first, second}
+use Rattle.cfa_walk.specs.Kept.{Keeps, KeepsLocally, Stands, OwnScope, IsFresh, IsUntouched, KeepsLog, wait_at, home_of, scope_at, first, second, scopes_now}
 use Rattle.cfa_base.specs.TextMaps.{TextMap}
 use Rattle.cfa_base.specs.lemmas.EqualTexts.{same_text, is_text}
 use Rattle.cfa_walk.specs.declared.waits.Wait.{Wait}
@@ -30,7 +30,6 @@ use Rattle.cfa_walk.specs.Logs.{Rows}
 use Rattle.cfa_walk.specs.Tellers.{worst_in}
 use Rattle.cfa_defines.specs.FirstMaybe.{first_maybe_of_guard}
 use Rattle.cfa_walk.specs.Waits.{wait_on, wait_of_guard, waits_in}
-use Rattle.cfa_walk.specs.Remembered.{scopes_now}
 use Rattle.cfa_walk.specs.Views.{Setting, status_in, scopes_in, shared_names, shared_in}
 use Rattle.cfa_walk.proofs.SharedLemmas.{names_of_pairs, with_its, shared_once, set_in_place}
 use Rattle.cfa_walk.proofs.KeptLemmas.{counts_same, changed, greater_turned, keeps_begun, keeps_set}

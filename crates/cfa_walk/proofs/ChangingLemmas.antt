@@ -14,8 +14,7 @@ use Rattle.cfa_vars.specs.declared.scoping.Datum.TheVariants.{Text as a_text, Li
 use Rattle.cfa_walk.specs.declared.activations.Activation.{Activation}
 use Rattle.cfa_walk.specs.declared.remembering.Found.{Found}
 use Rattle.cfa_walk.specs.declared.states.State.{State}
-use Rattle.cfa_walk.specs.Later.{IsRaised}
-use Rattle.cfa_walk.specs.Remembered.{IsNow}
+use Rattle.cfa_walk.specs.Kept.{IsRaised, IsNow}
 
 -- ---- classes
 

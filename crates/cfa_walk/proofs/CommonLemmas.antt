@@ -17,11 +17,10 @@ use Rattle.cfa_walk.specs.declared.states.State.{State}
 use Rattle.cfa_walk.specs.declared.activations.Activation.{Activation}
 use Rattle.cfa_walk.specs.Kept.{Stands}
 use Rattle.cfa_walk.specs.Levels.{StandsAt, HasQuietlyDone, QuietDone}
-use Rattle.cfa_walk.specs.Bundles.{is_in_common}
+use Rattle.cfa_walk.specs.Steps.{is_in_common, idle_level, vars_level, classes_level, common_type_level}
 use Rattle.cfa_walk.specs.History.{History, Where, everywhere}
 use Rattle.cfa_walk.specs.Numbered.{Numbered, is_type, of_type}
 use Rattle.cfa_walk.specs.Passes.{Course, goes, then_on, Calls, each, kept_by, guarded, reach, calls_of}
-use Rattle.cfa_walk.specs.Steps.{idle_level, vars_level, classes_level, common_type_level}
 use Rattle.cfa_walk.specs.Tellers.{Teller}
 use Rattle.cfa_walk.specs.Views.{Setting, Home, guard_status}
 use Rattle.cfa_walk.proofs.BuiltLemmas.{calls_kept, promises_kept}

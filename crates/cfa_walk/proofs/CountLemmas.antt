@@ -29,9 +29,7 @@ use Rattle.cfa_walk.specs.History.{History, Event, within, Reached, visits_in, g
 use Rattle.cfa_walk.specs.Logs.{logged_blames}
 use Rattle.cfa_walk.specs.Waits.{waits_in, waits_by}
 use Rattle.cfa_walk.specs.Walks.{blame_edit, own_unsettled, edits_unsettled}
-use Rattle.cfa_walk.specs.Kept.{Stands, SpareShorter, home_of, scope_at}
-use Rattle.cfa_walk.specs.Later.{AreLater}
-use Rattle.cfa_walk.specs.Remembered.{reached_now, scopes_now}
+use Rattle.cfa_walk.specs.Kept.{Stands, SpareShorter, home_of, scope_at, AreLater, reached_now, scopes_now}
 use Rattle.cfa_walk.specs.Levels.{GoesTo, IsTooLarge, is_quiet, Faults, StandsAt, LevelDone, PatternsAre, Ends}
 use Rattle.cfa_walk.specs.Numbered.{Numbered}
 use Rattle.cfa_walk.specs.Builds.{BuiltOn, BuiltWhere}

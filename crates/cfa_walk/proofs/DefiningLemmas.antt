@@ -25,8 +25,7 @@ use Rattle.cfa_walk.specs.Kept.{KeepsLocally, Stands, home_of, IsSame, SpareShor
 use Rattle.cfa_walk.specs.Levels.{HasQuietlyBuilt, GoesTo, IsTooLarge, QuietLevel, Quietly, nothing, one_more, StandsAt, SpareIf, HasQuietlyDone}
 use Rattle.cfa_walk.specs.Numbered.{Numbered}
 use Rattle.cfa_walk.specs.Passes.{Course, goes, most_visits, within_limit, reached, set_each, raise_event, raise_all, bind, sets_variable}
-use Rattle.cfa_walk.specs.Raising.{hand, handed_by, raise_handed}
-use Rattle.cfa_walk.specs.Steps.{idle_level, vars_level, classes_level, place_of}
+use Rattle.cfa_walk.specs.Steps.{hand, handed_by, raise_handed, idle_level, vars_level, classes_level, place_of}
 use Rattle.cfa_walk.specs.Tellers.{Teller}
 use Rattle.cfa_walk.specs.declared.walks.Blame.{Blame}
 use Rattle.cfa_walk.specs.Logs.{logged_blames}

@@ -11,10 +11,8 @@ use Rattle.cfa_walk.specs.declared.remembering.Found.{Found}
 use Rattle.cfa_walk.specs.declared.remembering.Known.{Known}
 use Rattle.cfa_walk.specs.declared.remembering.Moment.{Moment}
 use Rattle.cfa_walk.specs.declared.states.State.{State}
-use Rattle.cfa_walk.specs.Kept.{scope_at}
-use Rattle.cfa_walk.specs.Later.{IsLater, IsLaterHere, AreLater}
+use Rattle.cfa_walk.specs.Kept.{scope_at, IsLater, IsLaterHere, AreLater, IsNow, IsPast, GuardHolds, ResolutionHolds, RowHolds, RowsHold, guard_now, guard_value, resolution_now}
 use Rattle.cfa_walk.specs.Numbered.{Numbered}
-use Rattle.cfa_walk.specs.Remembered.{IsNow, IsPast, GuardHolds, ResolutionHolds, RowHolds, RowsHold, guard_now, guard_value, resolution_now}
 use Rattle.cfa_walk.proofs.LevelLemmas.{at_most}
 
 -- ---- counts that rise

@@ -16,7 +16,7 @@ use Rattle.cfa_base.specs.lemmas.TextMaps.{get-put, get-text_map, text_map-put}
 use Rattle.cfa_resolve.specs.declared.instances.Instance.{Instance}
 use Rattle.cfa_walk.specs.History.{is_named}
 use Rattle.cfa_walk.specs.Names.{name_of}
-use Rattle.cfa_walk.specs.Places.{Places, placed, with_place, seen_at, NotesPlace, HasPlaces}
+use Rattle.cfa_walk.specs.Logs.{Places, placed, with_place, seen_at, NotesPlace, HasPlaces}
 
 -- who is named so has this path and this key text
 named : (path text : List ℕ) (x : Instance) → is_named path text x ≡ true → (x.path ≡ path) × (x.text ≡ text)

@@ -9,14 +9,13 @@ use Rattle.cfa_tree.specs.Tree.{BlockTree, PolicyTree}
 use Rattle.cfa_served.specs.Served.{common_bundles_of}
 use Rattle.cfa_walk.specs.declared.states.State.{State}
 use Rattle.cfa_walk.specs.declared.activations.Activation.{Activation}
-use Rattle.cfa_walk.specs.Bundles.{Walk, IsClear, KeepsClear, HasQuietlyGone, QuietWalkDone, common_walk, commons_walk, passes_walk}
+use Rattle.cfa_walk.specs.Steps.{Walk, IsClear, KeepsClear, HasQuietlyGone, QuietWalkDone, common_walk, commons_walk, passes_walk, common_type_level, common_level}
 use Rattle.cfa_walk.specs.Builds.{BuiltOn}
 use Rattle.cfa_walk.specs.History.{History, everywhere}
 use Rattle.cfa_walk.specs.Kept.{Keeps, Stands, IsOf, IsUntouched, SpareLocals, home_of}
 use Rattle.cfa_walk.specs.Levels.{GoesTo, IsTooLarge, StandsAt, Quietly, nothing, HasQuietlyDone, QuietDone}
 use Rattle.cfa_walk.specs.Numbered.{Numbered, name_of, numbered_in, common_types}
 use Rattle.cfa_walk.specs.Passes.{Course, goes, too_large, then_on, all_calls, through_common, common_passes}
-use Rattle.cfa_walk.specs.Steps.{common_type_level, common_level}
 use Rattle.cfa_walk.specs.Tellers.{Teller}
 use Rattle.cfa_walk.specs.Views.{Setting, Home}
 use Rattle.cfa_walk.proofs.BuiltLemmas.{KeepsBuilt, then_kept, each_kept, types_kept, calls_kept}

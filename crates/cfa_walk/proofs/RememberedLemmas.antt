@@ -18,11 +18,8 @@ use Rattle.cfa_walk.specs.declared.remembering.Found.{Found}
 use Rattle.cfa_walk.specs.declared.remembering.Known.{Known}
 use Rattle.cfa_walk.specs.declared.states.State.{State}
 use Rattle.cfa_walk.specs.History.{History}
-use Rattle.cfa_walk.specs.Kept.{Stands}
-use Rattle.cfa_walk.specs.Later.{AreLater}
+use Rattle.cfa_walk.specs.Kept.{Stands, AreLater, IsNow, GuardHolds, GuardsRepeat, StandsLast, RowHolds, RowsHold, guard_now, guard_value, seen_numbered}
 use Rattle.cfa_walk.specs.Numbered.{Numbered}
-use Rattle.cfa_walk.specs.Remembered.{IsNow, GuardHolds, GuardsRepeat, StandsLast, RowHolds, RowsHold, guard_now, guard_value}
-use Rattle.cfa_walk.specs.SeenNumbered.{seen_numbered}
 use Rattle.cfa_walk.specs.Views.{Setting, guard_status}
 use Rattle.cfa_walk.proofs.ActivationLemmas.{guard_is}
 use Rattle.cfa_walk.proofs.LaterLemmas.{guard_found, guard_later, row_later}

@@ -14,9 +14,7 @@ use Rattle.cfa_walk.specs.declared.walks.Blame.{Blame}
 use Rattle.cfa_walk.specs.declared.walks.Visit.{Visit}
 use Rattle.cfa_walk.specs.declared.walks.Walk.{Walk}
 use Rattle.std.specs.Prelude.{IsSome}
-use Rattle.cfa_walk.specs.LogRows.{name_at, listing_at, IsFound, IsPlaced, IsOf, visit_at}
-use Rattle.cfa_walk.specs.Places.{seen_at}
-use Rattle.cfa_walk.specs.Logs.{Rows, with_visit, walk_of}
+use Rattle.cfa_walk.specs.Logs.{name_at, listing_at, IsFound, IsPlaced, IsOf, visit_at, seen_at, Rows, with_visit, walk_of}
 use Rattle.cfa_walk.specs.Names.{name_of}
 use Rattle.cfa_walk.specs.Walks.{with_first, blame_by, visit_of}
 use Rattle.cfa_walk.proofs.PlaceLemmas.{seen_push}

@@ -10,7 +10,7 @@ use Rattle.cfa_tree.specs.declared.blocks.Bundle.{Bundle}
 use Rattle.cfa_tree.specs.Tree.{BlockTree, bundle, body, PolicyTree}
 use Rattle.cfa_served.specs.Control.{sequence_of}
 use Rattle.cfa_served.specs.Served.{bundle_of, common_bundles_of, if_bundle, is_bundle_of}
-use Rattle.cfa_walk.specs.Bundles.{IsShared, HasSharedName, seen_bundle}
+use Rattle.cfa_walk.specs.Steps.{IsShared, HasSharedName, seen_bundle}
 use Rattle.cfa_walk.specs.Numbered.{name_of}
 use Rattle.cfa_walk.proofs.SharedLemmas.{sequence_is_shared, commons_are_shared}
 

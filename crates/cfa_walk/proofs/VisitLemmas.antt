@@ -21,9 +21,8 @@ use Rattle.cfa_walk.specs.Levels.{GoesTo, IsTooLarge, is_quiet, visited_by, outc
 use Rattle.cfa_walk.specs.Builds.{BuiltOn}
 use Rattle.cfa_walk.proofs.BuiltLemmas.{then_kept, told_kept}
 use Rattle.cfa_walk.specs.Passes.{Course, goes, then_on, Calls, classes_for, in_every_list, raised_to, raise_each, raise_lists, told, worked, unless_skipped, visited, visit_status, calls_of, visit}
-use Rattle.cfa_walk.specs.Steps.{visit_level, call_course, CallEnds}
+use Rattle.cfa_walk.specs.Steps.{visit_level, call_course, CallEnds, raise_ending}
 use Rattle.cfa_walk.specs.declared.tellers.Ending.{Ending}
-use Rattle.cfa_walk.specs.Ending.{raise_ending}
 use Rattle.cfa_walk.specs.Waits.{waits_in}
 use Rattle.cfa_walk.specs.Tellers.{Teller, outcomes_in, worst_in, inner_path}
 use Rattle.cfa_walk.specs.Views.{Setting, Home}

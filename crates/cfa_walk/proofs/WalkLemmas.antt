@@ -12,14 +12,13 @@ use Rattle.cfa_served.specs.Served.{bundle_of}
 use Rattle.cfa_tree.specs.Tree.{NamedTree, BlockTree, PolicyTree}
 use Rattle.cfa_walk.specs.declared.states.State.{State}
 use Rattle.cfa_walk.specs.declared.activations.Activation.{Activation}
-use Rattle.cfa_walk.specs.Bundles.{Walk, IsClear, HasQuietlyGone, QuietWalkDone, passes_walk, HasGone, WalkDone, WalkEnds, agent_walk, sequence_walk, bundle_walk}
+use Rattle.cfa_walk.specs.Steps.{Walk, IsClear, HasQuietlyGone, QuietWalkDone, passes_walk, HasGone, WalkDone, WalkEnds, agent_walk, sequence_walk, bundle_walk, passes_level}
 use Rattle.cfa_walk.specs.Builds.{BuiltOn}
 use Rattle.cfa_walk.specs.History.{History, Event, Begun, within}
 use Rattle.cfa_walk.specs.Kept.{Keeps, Stands, IsOf}
 use Rattle.cfa_walk.specs.Levels.{GoesTo, IsTooLarge, is_quiet, Faults, FaultsAre, StandsAt, LevelDone, done_of}
 use Rattle.cfa_walk.specs.Numbered.{Numbered, name_of, numbered_in, params_of}
 use Rattle.cfa_walk.specs.Passes.{goes, then_on, passes, calls_of, all_calls, bind, by_type, in_sequence, type_of_block, run}
-use Rattle.cfa_walk.specs.Steps.{passes_level}
 use Rattle.cfa_walk.specs.Tellers.{Teller}
 use Rattle.cfa_walk.specs.Views.{Setting}
 use Rattle.cfa_walk.specs.Walked.{HasRun, HasRunTo}

@@ -8,9 +8,7 @@ ghost use Rattle.cfa_resolve.specs.declared.instances.Instance.{Instance};
 ghost use Rattle.cfa_base.specs.Index.{is_listed};
 ghost use Rattle.cfa_walk.specs.declared.states.State.{State};
 ghost use Rattle.cfa_walk.specs.History.{History, Begun, Set, Raised, Told, within, source_in};
-ghost use Rattle.cfa_walk.specs.Kept.{Keeps, KeepsLocally, Stands, IsSame, IsOf, IsFresh, IsUntouched, home_of, scope_at};
-ghost use Rattle.cfa_walk.specs.Later.{AreLater, IsLaterHere};
-ghost use Rattle.cfa_walk.specs.Remembered.{guard_value, scopes_now};
+ghost use Rattle.cfa_walk.specs.Kept.{Keeps, KeepsLocally, Stands, IsSame, IsOf, IsFresh, IsUntouched, home_of, scope_at, AreLater, IsLaterHere, guard_value, scopes_now};
 ghost use Rattle.cfa_walk.specs.Tellers.{outcomes_in, worse, worst, inner_path};
 ghost use Rattle.cfa_walk.specs.Views.{Setting, scopes_in, guard_status, shared_names};
 

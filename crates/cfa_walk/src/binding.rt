@@ -2,8 +2,7 @@
 ghost use Rattle.std.specs.Prelude.{OnOk, map};
 ghost use Rattle.cfa_tree.specs.Plain.{plain_named};
 ghost use Rattle.cfa_walk.specs.History.{History};
-ghost use Rattle.cfa_walk.specs.Kept.{Stands, IsSame};
-ghost use Rattle.cfa_walk.specs.Later.{AreLater};
+ghost use Rattle.cfa_walk.specs.Kept.{Stands, IsSame, AreLater};
 ghost use Rattle.cfa_walk.specs.Passes.{bind};
 ghost use Rattle.cfa_walk.specs.Views.{Setting};
 

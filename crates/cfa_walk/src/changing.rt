@@ -2,7 +2,7 @@
 ghost use Rattle.std.specs.Prelude.{◌≡◌, ◌+◌, ◌↔◌, IfOk, IsTrue, Some, option_copied};
 ghost use Rattle.std.specs.Option.{option_or};
 ghost use Rattle.cfa_vars.specs.Named.{thing_at};
-ghost use Rattle.cfa_walk.specs.Later.{IsRaised};
+ghost use Rattle.cfa_walk.specs.Kept.{IsRaised};
 
 use cfa_base::{Name, NoMemory, PromiseId, are_same_names, is_same_name};
 use cfa_classes::Status;

@@ -5,10 +5,8 @@ ghost use Rattle.cfa_resolve.specs.Resolution.{is_acting, IsBuiltFor};
 ghost use Rattle.cfa_resolve.specs.Viewed.{too_big_in};
 ghost use Rattle.cfa_schema.specs.Laws.{IsCounted};
 ghost use Rattle.cfa_schema.specs.Seen.{tree_of};
-ghost use Rattle.cfa_walk.specs.Later.{AreLater};
+ghost use Rattle.cfa_walk.specs.Kept.{AreLater, ResolutionHolds, RowHolds, reached_now, resolution_now, seen_numbered};
 ghost use Rattle.cfa_walk.specs.Levels.{PatternsAre, done_of};
-ghost use Rattle.cfa_walk.specs.Remembered.{ResolutionHolds, RowHolds, reached_now, resolution_now};
-ghost use Rattle.cfa_walk.specs.SeenNumbered.{seen_numbered};
 ghost use Rattle.cfa_walk.specs.Steps.{IsAt, Counts, instances_of};
 
 use crate::activations::{Activation, scopes_of};

@@ -11,14 +11,11 @@ ghost use Rattle.cfa_tree.specs.Plain.{plain_promise};
 ghost use Rattle.cfa_tree.specs.Tree.{PolicyTree};
 ghost use Rattle.cfa_vars.specs.Scopes.{in_scope};
 ghost use Rattle.cfa_walk.specs.History.{History, source_in};
-ghost use Rattle.cfa_walk.specs.Kept.{Stands, IsSame, home_of};
-ghost use Rattle.cfa_walk.specs.Later.{AreLater, IsLater};
+ghost use Rattle.cfa_walk.specs.Kept.{Stands, IsSame, home_of, AreLater, IsLater, seen_numbered};
 ghost use Rattle.cfa_walk.specs.Levels.{QuietDone, PatternsAre};
 ghost use Rattle.cfa_walk.specs.Logs.{logged_blames};
 ghost use Rattle.cfa_walk.specs.Passes.{handed, set_each};
-ghost use Rattle.cfa_walk.specs.Raising.{hand, handed_by, raise_handed};
-ghost use Rattle.cfa_walk.specs.SeenNumbered.{seen_numbered};
-ghost use Rattle.cfa_walk.specs.Steps.{idle_level, vars_level, classes_level, place_of};
+ghost use Rattle.cfa_walk.specs.Steps.{hand, handed_by, raise_handed, idle_level, vars_level, classes_level, place_of};
 ghost use Rattle.cfa_walk.specs.Views.{Setting};
 
 use crate::activations::{Activation, scopes_of, set_variable, source_of};

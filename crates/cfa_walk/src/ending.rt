@@ -1,10 +1,9 @@
 // What follows when an instance has ended.
 ghost use Rattle.std.specs.Prelude.{◌≡◌, [], ◌∷◌, IfOk, OnOk};
 ghost use Rattle.cfa_walk.specs.History.{History};
-ghost use Rattle.cfa_walk.specs.Kept.{Keeps};
+ghost use Rattle.cfa_walk.specs.Kept.{Keeps, IsLater};
 ghost use Rattle.cfa_resolve.specs.declared.instances.Instance.{Instance as AnyInstance};
-ghost use Rattle.cfa_walk.specs.Ending.{raise_ending};
-ghost use Rattle.cfa_walk.specs.Later.{IsLater};
+ghost use Rattle.cfa_walk.specs.Steps.{raise_ending};
 ghost use Rattle.cfa_walk.specs.Passes.{classes_for, in_every_list, raise_each, raised_to, visit_status};
 ghost use Rattle.cfa_walk.specs.Views.{Setting};
 

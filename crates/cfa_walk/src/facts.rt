@@ -1,6 +1,6 @@
 // What holds of the names and ids of a checked policy.
 ghost use Rattle.cfa_schema.specs.Seen.{tree_of};
-ghost use Rattle.cfa_walk.specs.Facts.{HasCountedIds};
+ghost use Rattle.cfa_walk.specs.Steps.{HasCountedIds};
 ghost use Rattle.cfa_walk.specs.Levels.{HasPlainNames};
 
 use cfa_schema::{

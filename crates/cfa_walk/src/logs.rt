@@ -1,8 +1,7 @@
 // What is kept of a walk while it is made.
 ghost use Rattle.std.specs.Prelude.{◌≡◌, ◌∷◌, [], IfOk, List, OnOk, OnErr, map, option_copied};
 ghost use Rattle.cfa_resolve.specs.declared.instances.Instance.{Instance as AnyInstance};
-ghost use Rattle.cfa_walk.specs.LogRows.{IsOf, first_place, name_at, visit_at};
-ghost use Rattle.cfa_walk.specs.Logs.{with_visit, with_blames, walk_of};
+ghost use Rattle.cfa_walk.specs.Logs.{IsOf, first_place, name_at, visit_at, with_visit, with_blames, walk_of};
 ghost use Rattle.cfa_walk.specs.Names.{names_of};
 ghost use Rattle.cfa_walk.specs.Walks.{blame_for, blame_by, place_among, with_first};
 
@@ -50,8 +49,7 @@ pub(crate) struct Log {
 
 impl Model for Log {
     ghost use Rattle.std.specs.Prelude.{All, map};
-    ghost use Rattle.cfa_walk.specs.LogRows.{IsPlaced, listing_at};
-    ghost use Rattle.cfa_walk.specs.Logs.{Rows};
+    ghost use Rattle.cfa_walk.specs.Logs.{IsPlaced, listing_at, Rows};
 
     ghost Value = { Rows };
 

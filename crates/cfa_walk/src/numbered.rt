@@ -4,9 +4,8 @@ ghost use Rattle.std.specs.List.{cons_option};
 ghost use Rattle.cfa_tree.specs.Plain.{plain_block, plain_promise, plain_section};
 ghost use Rattle.cfa_served.specs.Checked.{worded_promises_of};
 ghost use Rattle.cfa_tree.specs.Repeats.{guard_at};
-ghost use Rattle.cfa_walk.specs.Remembered.{GuardsRepeat, StandsLast};
+ghost use Rattle.cfa_walk.specs.Kept.{GuardsRepeat, StandsLast, seen_numbered};
 ghost use Rattle.cfa_walk.specs.Numbered.{numbered_as, numbered_from, numbered_in};
-ghost use Rattle.cfa_walk.specs.SeenNumbered.{seen_numbered};
 
 use cfa_base::{Name, NoMemory, PromiseId};
 use cfa_kinds::{PromiseType, promise_type};

@@ -3,10 +3,8 @@ ghost use Rattle.std.specs.Prelude.{◌≡◌, ◌≢◌, IsTrue, OnOk, map};
 ghost use Rattle.cfa_resolve.specs.Resolution.{is_acting};
 ghost use Rattle.cfa_schema.specs.Laws.{IsCounted};
 ghost use Rattle.cfa_schema.specs.Seen.{tree_of};
-ghost use Rattle.cfa_walk.specs.Later.{AreLater};
+ghost use Rattle.cfa_walk.specs.Kept.{AreLater, GuardsRepeat, RowHolds, RowsHold, guard_now, seen_numbered};
 ghost use Rattle.cfa_walk.specs.Levels.{Ends, HasPlainNames};
-ghost use Rattle.cfa_walk.specs.Remembered.{GuardsRepeat, RowHolds, RowsHold, guard_now};
-ghost use Rattle.cfa_walk.specs.SeenNumbered.{seen_numbered};
 ghost use Rattle.cfa_walk.specs.Steps.{AreCounted, acting_level, reach_level, type_level, pass_level, passes_level};
 
 use crate::activations::Activation;

@@ -2,7 +2,7 @@
 ghost use Rattle.std.specs.Prelude.{◌≡◌, [], ◌∷◌, ◌++◌, Some, IfOk, IfSome, OnOk, OnErr};
 ghost use Rattle.std.specs.FinMap as finite;
 ghost use Rattle.cfa_walk.specs.Names.{name_of};
-ghost use Rattle.cfa_walk.specs.Places.{placed, with_place, seen_at, NotesPlace};
+ghost use Rattle.cfa_walk.specs.Logs.{placed, with_place, seen_at, NotesPlace};
 
 use cfa_base::{Name, NoMemory, TextMap};
 use cfa_classes::Status;
@@ -21,7 +21,7 @@ pub(crate) struct Places {
 impl Model for Places {
     ghost use Rattle.std.specs.Rc.{rc_str_bytes};
     ghost use Rattle.cfa_base.specs.TextMaps.{text_map};
-    ghost use Rattle.cfa_walk.specs.Places.{Places, places_code};
+    ghost use Rattle.cfa_walk.specs.Logs.{Places, places_code};
 
     ghost Value = { Places };
 
@@ -104,7 +104,7 @@ pub(crate) struct Register {
 impl Model for Register {
     ghost use Rattle.std.specs.Prelude.{List};
     ghost use Rattle.cfa_resolve.specs.declared.instances.Instance.{Instance as AnyInstance};
-    ghost use Rattle.cfa_walk.specs.Places.{HasPlaces};
+    ghost use Rattle.cfa_walk.specs.Logs.{HasPlaces};
 
     ghost Value = { List AnyInstance };
 

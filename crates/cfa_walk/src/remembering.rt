@@ -4,8 +4,7 @@ ghost use Rattle.cfa_tree.specs.Tree.{PolicyTree};
 ghost use Rattle.cfa_walk.specs.Numbered.{Numbered as AnyNumbered};
 ghost use Rattle.cfa_walk.specs.declared.activations.Activation.{Activation as AnyActivation};
 ghost use Rattle.cfa_walk.specs.declared.states.State.{State as AnyState};
-ghost use Rattle.cfa_walk.specs.Remembered.{IsNow, GuardHolds, RowHolds, RowsHold, guard_now, resolution_now};
-ghost use Rattle.cfa_walk.specs.SeenNumbered.{seen_numbered};
+ghost use Rattle.cfa_walk.specs.Kept.{IsNow, GuardHolds, RowHolds, RowsHold, guard_now, resolution_now, seen_numbered};
 
 use crate::activations::{Activation, guard_status};
 use crate::numbered::Numbered;

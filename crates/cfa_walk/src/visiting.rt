@@ -2,7 +2,7 @@
 ghost use Rattle.std.specs.Prelude.{◌≡◌, All, OnOk};
 ghost use Rattle.cfa_schema.specs.Laws.{IsCounted};
 ghost use Rattle.cfa_schema.specs.Seen.{tree_of};
-ghost use Rattle.cfa_walk.specs.Later.{AreLater, IsLater};
+ghost use Rattle.cfa_walk.specs.Kept.{AreLater, IsLater};
 ghost use Rattle.cfa_walk.specs.Levels.{Ends, HasPlainNames};
 ghost use Rattle.cfa_walk.specs.Steps.{IsAt, CallEnds, visit_level, instances_level};
 

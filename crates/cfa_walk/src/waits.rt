@@ -3,8 +3,7 @@ ghost use Rattle.std.specs.Prelude.{◌≡◌, [], IfOk, true, option_map, optio
 ghost use Rattle.std.specs.List.{cons_option};
 ghost use Rattle.cfa_tree.specs.Plain.{plain_expr, plain_promise};
 ghost use Rattle.cfa_walk.specs.History.{History};
-ghost use Rattle.cfa_walk.specs.Kept.{Stands, home_of};
-ghost use Rattle.cfa_walk.specs.SeenNumbered.{seen_numbered};
+ghost use Rattle.cfa_walk.specs.Kept.{Stands, home_of, seen_numbered};
 ghost use Rattle.cfa_walk.specs.Views.{Setting};
 ghost use Rattle.cfa_walk.specs.Waits.{wait_on, wait_of_guard, waits_by};
 ghost use Rattle.cfa_walk.specs.Walks.{own_unsettled};

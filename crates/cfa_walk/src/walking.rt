@@ -3,11 +3,10 @@ ghost use Rattle.std.specs.Prelude.{◌≡◌, [], ◌∷◌, ℕ, All, IsTrue, 
 ghost use Rattle.cfa_schema.specs.Seen.{tree_of};
 ghost use Rattle.cfa_served.specs.Served.{bundle_of};
 ghost use Rattle.cfa_tree.specs.Tree.{PolicyTree};
-ghost use Rattle.cfa_walk.specs.Bundles.{is_in_common, seen_bundle, IsShared, QuietWalkDone, WalkEnds, common_walk, commons_walk, passes_walk, agent_walk, bundle_walk, sequence_walk};
+ghost use Rattle.cfa_walk.specs.Steps.{is_in_common, seen_bundle, IsShared, QuietWalkDone, WalkEnds, common_walk, commons_walk, passes_walk, agent_walk, bundle_walk, sequence_walk, common_type_level};
 ghost use Rattle.cfa_walk.specs.Levels.{FaultsAre, PatternsAre, QuietDone, done_of};
-ghost use Rattle.cfa_walk.specs.SeenNumbered.{seen_numbered};
+ghost use Rattle.cfa_walk.specs.Kept.{seen_numbered};
 ghost use Rattle.cfa_walk.specs.Settings.{setting_of};
-ghost use Rattle.cfa_walk.specs.Steps.{common_type_level};
 ghost use Rattle.cfa_walk.specs.Walked.{HasRun, HasRunTo};
 
 use crate::activations::{Activation, guard_status};

@@ -13,7 +13,7 @@ use Rattle.clap.specs.declared.builder.value_parser.Reading.TheVariants.{AsWritt
 use Rattle.clap.specs.declared.parser.matches.ValueSource.TheVariants.{DefaultValue}
 use Rattle.clap.specs.declared.error.kind.ErrorKind.{ErrorKind}
 use Rattle.clap.specs.declared.error.kind.ErrorKind.TheVariants as kind
-use Rattle.cfa_words.specs.Parser.{command_rule}
+use Rattle.cfa_words.specs.OfTheCode.{command_rule}
 use Rattle.cfa_words.specs.Words.{Given}
 use Rattle.cfa_words.proofs.Rows.{default_row, has_row-look, look, look_other, look_same, or_some, used_new, value_row, with_new}
 use Rattle.cfa_words.proofs.Walking.{held, rules}

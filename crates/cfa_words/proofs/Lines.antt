@@ -12,9 +12,8 @@ use Rattle.clap.specs.Values.{bool_text}
 use Rattle.clap.specs.declared.error.kind.ErrorKind.{ErrorKind}
 use Rattle.clap.specs.declared.parser.matches.Found.{Found}
 use Rattle.clap.proofs.WalkLemmas.{first_value-rows, one_text-rows}
-use Rattle.cfa_words.specs.Parser.{command_line}
+use Rattle.cfa_words.specs.OfTheCode.{command_line, given_of, text_in, words_in}
 use Rattle.cfa_words.specs.Words.{Given, Piece, any, classes, given, has_two, no_lock, nothing_given, pieces, plain, strict, unknown, whole, with_pieces}
-use Rattle.cfa_words.specs.Lines.{given_of, text_in, words_in}
 use Rattle.cfa_words.specs.declared.words.Line.{Line}
 use Rattle.cfa_words.proofs.Law.{Agrees, Shows, fits, mk}
 use Rattle.cfa_words.proofs.Reading.{reading}

@@ -15,7 +15,7 @@ use Rattle.std.proofs.lemmas.Slice.Eq.{bytes_eq-Decides}
 use Rattle.clap.specs.declared.error.kind.ErrorKind.TheVariants as kind
 use Rattle.clap.proofs.OnLiterals.{clap_on_literals}
 use Rattle.cfa_base.specs.lemmas.Truths.{or_false, and_false}
-use Rattle.cfa_words.specs.Parser.{command_line, command_rule}
+use Rattle.cfa_words.specs.OfTheCode.{command_line, command_rule}
 use Rattle.cfa_words.specs.Words.{Given, Next, Piece, after_D, define, flag, given, also, any, classes, letters, named, no_lock, pieces, plain, plain_only, strict, unknown, value, whole, with_pieces, word_read}
 use Rattle.cfa_words.proofs.Looks.{Look, end_look, first_D, first_K, first_char, is_end, letters_look, long_look, own_look, seen, text_after}
 use Rattle.cfa_words.proofs.Rows.{used_new}

@@ -5,7 +5,7 @@ use Rattle.clap.specs.Walk.{Held, Row, Rule, Text, Waiting, Walk, finished, idle
 use Rattle.clap.specs.Simple.{Shape, built}
 use Rattle.clap.specs.Kinds.{Kinds, or_else}
 use Rattle.clap.specs.Faults.{check_fault, defaults_fault, settle_fault, turn_fault, walk_fault}
-use Rattle.cfa_words.specs.Parser.{command_line}
+use Rattle.cfa_words.specs.OfTheCode.{command_line}
 
 abbrev pub shape : Shape
 shape = (built command_line).top

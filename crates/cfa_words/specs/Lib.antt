@@ -1,3 +1,2 @@
+pub mod OfTheCode
 pub mod Words
-pub mod Parser
-pub mod Lines

@@ -5,8 +5,7 @@ ghost use Rattle.std.specs.Str.{is_utf8};
 ghost use Rattle.clap.specs.Words.{app_of, first_value, found_of, one_text};
 ghost use Rattle.clap.specs.Values.{bool_text};
 ghost use Rattle.cfa_words.specs.Words.{asked, asked_of, class_list, class_names, given, is_class as class_test, words_asked, check_asked, run_asked, show_asked, audit_asked};
-ghost use Rattle.cfa_words.specs.Lines.{given_of, lines_given, text_in};
-ghost use Rattle.cfa_words.specs.Parser.{command_line as command_line_app};
+ghost use Rattle.cfa_words.specs.OfTheCode.{given_of, lines_given, text_in, command_line as command_line_app};
 
 use cfa_base::{Name, Names, NoMemory, is_word};
 use clap::error::ErrorKind;

@@ -9,9 +9,9 @@ use Rattle.cfa_schema.specs.Laws.{IsCounted}
 use Rattle.cfa_served.specs.Served.{bundle_of}
 use Rattle.cfa_tree.specs.Plain.{plain_named}
 use Rattle.cfa_vars.specs.declared.scoping.Datum.{Datum}
-use Rattle.cfa_walk.specs.Bundles.{seen_bundle}
+use Rattle.cfa_walk.specs.Steps.{seen_bundle, IsAt, AreCounted, CallEnds, visit_level, instances_level, acting_level, type_level, types_level, pass_level, passes_level}
 use Rattle.cfa_walk.specs.History.{History}
-use Rattle.cfa_walk.specs.Kept.{Stands, IsOf}
+use Rattle.cfa_walk.specs.Kept.{Stands, IsOf, GuardsRepeat, RowHolds, seen_numbered}
 use Rattle.cfa_walk.specs.Passes.{bind}
 use Rattle.cfa_walk.specs.Tellers.{inner_path}
 use Rattle.cfa_walk.specs.Views.{Setting}
@@ -25,9 +25,6 @@ use Rattle.cfa_walk.specs.declared.remembering.Found.{Found}
 use Rattle.cfa_output.specs.declared.ends.Stop.TheVariants.{Memory}
 use Rattle.cfa_walk.specs.Levels.{Ends, HasVisited}
 use Rattle.cfa_walk.specs.Numbered.{Numbered, agent_types, numbered_in, params_of}
-use Rattle.cfa_walk.specs.Remembered.{GuardsRepeat, RowHolds}
-use Rattle.cfa_walk.specs.SeenNumbered.{seen_numbered}
-use Rattle.cfa_walk.specs.Steps.{IsAt, AreCounted, CallEnds, visit_level, instances_level, acting_level, type_level, types_level, pass_level, passes_level}
 use Rattle.cfa_base.specs.lemmas.Firsts.{one_taken}
 use Rattle.cfa_walk.proofs.CommonLemmas.{in_parts, of_item, is_same_type, is_other_type, types_agree, types_differ, statuses_agree, statuses_differ}
 use Rattle.cfa_walk.proofs.LaterLemmas.{are_same, are_then, later_same, later_then, row_later, state_ok, then_are, with_state}

@@ -1,5 +1,5 @@
 use Rattle.cfa_agent.specs.declared.recording.Heading.{Heading}
-use Rattle.cfa_agent.specs.Recording.{closing}
+use Rattle.cfa_agent.specs.Actuating.{closing}
 use Rattle.cfa_agent.proofs.Closing.{closes_all, faults_closed}
 use Rattle.cfa_agent.proofs.actuating.actuate.Goals as goal
 

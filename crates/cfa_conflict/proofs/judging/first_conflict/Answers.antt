@@ -2,7 +2,7 @@ use Rattle.std.proofs.Common.{◌≡◌, true, List, Some, sym, ap, ◌∙◌}
 use Rattle.cfa_resolve.specs.declared.instances.Instance.{Instance}
 use Rattle.cfa_walk.specs.Names.{names_of}
 use Rattle.cfa_conflict.specs.Conflicts.{is_live, conflicts_at, conflicts_from}
-use Rattle.cfa_conflict.specs.Firsts.{first_of}
+use Rattle.cfa_conflict.specs.Targets.{first_of}
 use Rattle.cfa_conflict.proofs.NameLemmas.{live_by_names}
 use Rattle.cfa_conflict.proofs.VerdictLemmas.{at_walk, passed_over, none_at, found_at}
 use Rattle.cfa_conflict.proofs.judging.first_conflict.Goals as goal

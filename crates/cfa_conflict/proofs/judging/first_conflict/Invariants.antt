@@ -1,6 +1,6 @@
 use Rattle.std.proofs.Common.{◌≡◌, drop}
 use Rattle.cfa_conflict.specs.Conflicts.{conflicts_from}
-use Rattle.cfa_conflict.specs.Firsts.{first_of}
+use Rattle.cfa_conflict.specs.Targets.{first_of}
 use Rattle.cfa_conflict.proofs.judging.first_conflict.Given as goal
 
 abbrev pub invariant-loop-place : goal.invariant-loop-place

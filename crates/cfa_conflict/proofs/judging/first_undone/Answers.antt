@@ -7,8 +7,7 @@ use Rattle.cfa_acts.specs.declared.acts.Act.{Act}
 use Rattle.cfa_resolve.specs.declared.instances.Instance.{Instance}
 use Rattle.cfa_walk.specs.Tellers.{acts_of}
 use Rattle.cfa_conflict.specs.Conflicts.{undone_in}
-use Rattle.cfa_conflict.specs.Firsts.{first_of}
-use Rattle.cfa_conflict.specs.Targets.{sought}
+use Rattle.cfa_conflict.specs.Targets.{first_of, sought}
 use Rattle.cfa_conflict.proofs.NumberLemmas.{got_is}
 use Rattle.cfa_conflict.proofs.QuietLemmas.{first_in_all, none_in_all}
 use Rattle.cfa_conflict.proofs.judging.first_undone.Goals as goal

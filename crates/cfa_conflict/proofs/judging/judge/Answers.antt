@@ -2,7 +2,7 @@ use Rattle.std.proofs.Common.{◌≡◌, Some, None, sym, ap, ◌∙◌, rules}
 use Rattle.std.specs.Prelude.{slice_get}
 use Rattle.cfa_conflict.specs.declared.verdicts.Verdict.TheVariants as verdict
 use Rattle.cfa_conflict.specs.Conflicts.{conflicts_from}
-use Rattle.cfa_conflict.specs.Firsts.{first_of}
+use Rattle.cfa_conflict.specs.Targets.{first_of}
 use Rattle.cfa_conflict.proofs.VerdictLemmas.{verdict_unsettled, verdict_found, verdict_accepted}
 use Rattle.cfa_conflict.proofs.judging.judge.Goals as goal
 

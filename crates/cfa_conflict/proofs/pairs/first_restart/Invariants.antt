@@ -1,7 +1,7 @@
 use Rattle.std.proofs.Common.{◌≡◌, drop}
 use Rattle.std.specs.List.{flat_map}
 use Rattle.cfa_conflict.specs.Conflicts.{restart_of}
-use Rattle.cfa_conflict.specs.Firsts.{first_of}
+use Rattle.cfa_conflict.specs.Targets.{first_of}
 use Rattle.cfa_conflict.proofs.pairs.first_restart.Given as goal
 
 abbrev pub invariant-loop-act : goal.invariant-loop-act

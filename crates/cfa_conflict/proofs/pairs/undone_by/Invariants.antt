@@ -2,7 +2,7 @@ use Rattle.std.proofs.Common.{◌≡◌, drop, map}
 use Rattle.std.specs.List.{filter}
 use Rattle.cfa_acts.specs.Disturbs.{disturbs}
 use Rattle.cfa_conflict.specs.Conflicts.{undone}
-use Rattle.cfa_conflict.specs.Firsts.{first_of}
+use Rattle.cfa_conflict.specs.Targets.{first_of}
 use Rattle.cfa_conflict.proofs.pairs.undone_by.Given as goal
 
 abbrev pub invariant-loop-act : goal.invariant-loop-act

@@ -1,6 +1,6 @@
 use Rattle.std.proofs.Common.{◌≡◌, [], take, drop}
 use Rattle.cfa_conflict.specs.Conflicts.{undone_by_later}
-use Rattle.cfa_conflict.specs.Firsts.{first_of}
+use Rattle.cfa_conflict.specs.Targets.{first_of}
 use Rattle.cfa_conflict.proofs.pairs.undone_by_itself.Given as goal
 
 abbrev pub invariant-loop-i : goal.invariant-loop-i

@@ -1,6 +1,5 @@
 use Rattle.std.proofs.Common.{take}
-use Rattle.cfa_conflict.specs.TextPlaces.{seen_rows}
-use Rattle.cfa_conflict.specs.Targets.{HaveLikes}
+use Rattle.cfa_conflict.specs.Targets.{seen_rows, HaveLikes}
 use Rattle.cfa_conflict.proofs.targets.distinct_of.Given as goal
 
 abbrev pub invariant-loop-target : goal.invariant-loop-target

@@ -1,5 +1,5 @@
 use Rattle.std.proofs.Common.{◌≡◌, ◌++◌, drop, true}
-use Rattle.cfa_conflict.specs.TextPlaces.{seen_rows, places_of}
+use Rattle.cfa_conflict.specs.Targets.{seen_rows, places_of}
 use Rattle.cfa_conflict.proofs.text_places.add_rows_beneath.Given as goal
 
 abbrev pub invariant-loop-text : goal.invariant-loop-text

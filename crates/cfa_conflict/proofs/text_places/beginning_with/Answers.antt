@@ -2,7 +2,7 @@ use Rattle.std.proofs.Common.{◌≡◌, length, take, refl, ap, ◌∙◌, arit
 use Rattle.std.proofs.lemmas.List.{take_all}
 use Rattle.std.proofs.lemmas.List.Sorted.{IsPartitionPoint-from_clause}
 use Rattle.cfa_base.specs.Index.{Text}
-use Rattle.cfa_conflict.specs.TextPlaces.{begins_with}
+use Rattle.cfa_conflict.specs.Targets.{begins_with}
 use Rattle.cfa_conflict.proofs.OrderLemmas.{is_before, those_beginning, found_together}
 use Rattle.cfa_conflict.proofs.text_places.beginning_with.Goals as goal
 

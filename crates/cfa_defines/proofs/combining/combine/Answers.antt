@@ -5,7 +5,7 @@ use Rattle.cfa_vars.specs.Choices.{choices_of}
 use Rattle.cfa_defines.specs.declared.combining.Combined.{Combined}
 use Rattle.cfa_defines.specs.declared.combining.Combined.TheVariants.{Lacks as lacks}
 use Rattle.cfa_defines.specs.OwnTexts.{first_lacking, is_long_list, found_or_too_long}
-use Rattle.cfa_defines.specs.ReadTexts.{has_text_too_long}
+use Rattle.cfa_defines.specs.OfTheCode.{has_text_too_long}
 use Rattle.cfa_defines.proofs.ReadLemmas.{reads_lack, long_list_is_too_many, never_unresolved, texts_are_too_many, texts_are_found}
 use Rattle.cfa_defines.proofs.combining.combine.Goals as goal
 

@@ -1,6 +1,6 @@
 use Rattle.std.proofs.Common.{◌≡◌, drop}
 use Rattle.cfa_vars.specs.Scopes.{in_scope}
-use Rattle.cfa_defines.specs.ReadTexts.{has_text_too_long}
+use Rattle.cfa_defines.specs.OfTheCode.{has_text_too_long}
 use Rattle.cfa_defines.proofs.combining.has_too_long.Given as goal
 
 abbrev pub invariant-loop-text : goal.invariant-loop-text

@@ -1,6 +1,6 @@
 use Rattle.std.proofs.Common.{◌≡◌}
 use Rattle.std.specs.List.{filter_map}
-use Rattle.cfa_defines.specs.ReadTexts.{text_read}
+use Rattle.cfa_defines.specs.OfTheCode.{text_read}
 use Rattle.cfa_defines.proofs.combining.texts_among.Given as goal
 
 abbrev pub invariant-loop-read : goal.invariant-loop-read

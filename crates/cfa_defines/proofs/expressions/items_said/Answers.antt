@@ -3,8 +3,7 @@ use Rattle.std.proofs.lemmas.List.{drop_more}
 use Rattle.cfa_tree.specs.Plain.{plain_value}
 use Rattle.cfa_tree.specs.Tree.{value_trees}
 use Rattle.cfa_defines.specs.ClassPromises.{joined}
-use Rattle.cfa_defines.specs.Joining.{operation, together}
-use Rattle.cfa_defines.specs.SeenContexts.{item_in, items_in}
+use Rattle.cfa_defines.specs.OfTheCode.{operation, together, item_in, items_in}
 use Rattle.cfa_defines.proofs.SaidLemmas.{joined_list}
 use Rattle.cfa_defines.proofs.expressions.items_said.Goals as goal
 

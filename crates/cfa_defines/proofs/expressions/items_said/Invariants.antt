@@ -2,8 +2,7 @@ use Rattle.std.proofs.Common.{◌≡◌, drop, map}
 use Rattle.cfa_tree.specs.Plain.{plain_value}
 use Rattle.cfa_tree.specs.Tree.{value_trees}
 use Rattle.cfa_defines.specs.ClassPromises.{joined}
-use Rattle.cfa_defines.specs.Joining.{operation, together}
-use Rattle.cfa_defines.specs.SeenContexts.{items_in}
+use Rattle.cfa_defines.specs.OfTheCode.{operation, together, items_in}
 use Rattle.cfa_defines.proofs.expressions.items_said.Given as goal
 
 abbrev pub invariant-loop-item : goal.invariant-loop-item

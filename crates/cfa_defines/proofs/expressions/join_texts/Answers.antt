@@ -1,8 +1,7 @@
 use Rattle.std.proofs.Common.{◌∙◌, ◌+◌, ◌∷◌, ap, sym, map, drop}
 use Rattle.std.proofs.lemmas.List.{drop_more}
 use Rattle.cfa_defines.specs.ClassPromises.{joined, text_said}
-use Rattle.cfa_defines.specs.Joining.{operation, together}
-use Rattle.cfa_defines.specs.SeenContexts.{status_of}
+use Rattle.cfa_defines.specs.OfTheCode.{operation, together, status_of}
 use Rattle.cfa_defines.proofs.SaidLemmas.{joined_more}
 use Rattle.cfa_defines.proofs.expressions.join_texts.Goals as goal
 

@@ -1,7 +1,6 @@
 use Rattle.std.proofs.Common.{◌≡◌, drop, map}
 use Rattle.cfa_defines.specs.ClassPromises.{joined, text_said}
-use Rattle.cfa_defines.specs.Joining.{operation, together}
-use Rattle.cfa_defines.specs.SeenContexts.{status_of}
+use Rattle.cfa_defines.specs.OfTheCode.{operation, together, status_of}
 use Rattle.cfa_defines.proofs.expressions.join_texts.Given as goal
 
 abbrev pub invariant-loop-text : goal.invariant-loop-text

@@ -5,8 +5,7 @@ use Rattle.cfa_tree.specs.Plain.{plain_value}
 use Rattle.cfa_tree.specs.Tree.{ValueTree, value_trees}
 use Rattle.cfa_defines.specs.declared.saying.Said.{Said}
 use Rattle.cfa_defines.specs.Builds.{BuiltAmong}
-use Rattle.cfa_defines.specs.Joining.{together}
-use Rattle.cfa_defines.specs.SeenContexts.{variables_of, status_of, items_in}
+use Rattle.cfa_defines.specs.OfTheCode.{together, variables_of, status_of, items_in}
 use Rattle.cfa_defines.proofs.CallLemmas.{items_of_list_said, values_of_list}
 use Rattle.cfa_defines.proofs.expressions.list_said.Goals as goal
 

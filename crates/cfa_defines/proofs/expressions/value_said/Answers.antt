@@ -6,7 +6,7 @@ use Rattle.cfa_tree.specs.Plain.{plain_value}
 use Rattle.cfa_tree.specs.Tree.{value_trees}
 use Rattle.cfa_defines.specs.declared.saying.Said.{Said}
 use Rattle.cfa_defines.specs.ClassPromises.{answer_said}
-use Rattle.cfa_defines.specs.SeenContexts.{variables_of, status_of}
+use Rattle.cfa_defines.specs.OfTheCode.{variables_of, status_of}
 use Rattle.cfa_defines.proofs.CallLemmas.{call_said, call_built}
 use Rattle.cfa_defines.proofs.expressions.value_said.Goals as goal
 

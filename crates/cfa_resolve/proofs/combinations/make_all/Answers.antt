@@ -3,7 +3,7 @@ use Rattle.cfa_base.specs.Patterns.{SizeRefusal}
 use Rattle.cfa_scripts.specs.Refusals.{too_big_in}
 use Rattle.cfa_vars.specs.Expansion.{Chosen}
 use Rattle.cfa_resolve.specs.Resolution.{caller_of, edit_call, IsBuiltByCall, IsBuiltAmong}
-use Rattle.cfa_resolve.specs.SeenReached.{seen_reached}
+use Rattle.cfa_resolve.specs.OfTheCode.{seen_reached}
 use Rattle.cfa_resolve.proofs.ResolutionLemmas.{built_among, sizes_kept}
 use Rattle.cfa_resolve.proofs.combinations.make_all.Goals as goal
 

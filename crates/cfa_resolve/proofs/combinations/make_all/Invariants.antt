@@ -1,6 +1,6 @@
 use Rattle.std.proofs.Common.{◌≡◌, ◌≤◌, ◌+◌, ◌++◌, [], drop}
 use Rattle.cfa_resolve.specs.Resolution.{instances_for, names_after, inner_visits, inner_unsettled}
-use Rattle.cfa_resolve.specs.SeenReached.{seen_reached}
+use Rattle.cfa_resolve.specs.OfTheCode.{seen_reached}
 use Rattle.cfa_resolve.proofs.combinations.make_all.Given as goal
 
 abbrev pub invariant-loop-choice : goal.invariant-loop-choice

@@ -3,7 +3,7 @@ use Rattle.std.specs.Prelude.{option_map}
 use Rattle.cfa_classes.specs.Raised.{greater_in}
 use Rattle.cfa_classes.specs.Status.{value_of}
 use Rattle.cfa_tree.specs.Plain.{plain_expr}
-use Rattle.cfa_walk.specs.Remembered.{guard_value}
+use Rattle.cfa_walk.specs.Kept.{guard_value}
 use Rattle.cfa_walk.specs.Views.{guard_status}
 use Rattle.cfa_walk.proofs.ActivationLemmas.{guard_is}
 use Rattle.cfa_walk.proofs.activations.guard_status.Goals as goal

@@ -1,8 +1,7 @@
 use Rattle.std.proofs.Common.{map, take}
 use Rattle.cfa_tree.specs.Plain.{plain_named}
 use Rattle.cfa_walk.specs.History.{History}
-use Rattle.cfa_walk.specs.Kept.{Stands, IsSame}
-use Rattle.cfa_walk.specs.Later.{AreLater}
+use Rattle.cfa_walk.specs.Kept.{Stands, IsSame, AreLater}
 use Rattle.cfa_walk.specs.Passes.{bind}
 use Rattle.cfa_walk.specs.Views.{Setting}
 use Rattle.cfa_walk.proofs.binding.bind.Given as goal

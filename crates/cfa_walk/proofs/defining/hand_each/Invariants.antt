@@ -3,7 +3,7 @@ use Rattle.std.specs.Prelude.{option_copied}
 use Rattle.cfa_defines.specs.SeenRaises.{seen_raise}
 use Rattle.cfa_walk.specs.History.{History}
 use Rattle.cfa_walk.specs.Kept.{Stands}
-use Rattle.cfa_walk.specs.Raising.{hand}
+use Rattle.cfa_walk.specs.Steps.{hand}
 use Rattle.cfa_walk.specs.Views.{Setting}
 use Rattle.cfa_walk.proofs.defining.hand_each.Given as goal
 

@@ -1,6 +1,6 @@
 use Rattle.std.proofs.Common.{ap}
 use Rattle.cfa_walk.specs.declared.states.State.{State}
-use Rattle.cfa_walk.specs.SeenNumbered.{seen_numbered}
+use Rattle.cfa_walk.specs.Kept.{seen_numbered}
 use Rattle.cfa_walk.proofs.LaterLemmas.{later_by}
 use Rattle.cfa_walk.proofs.DefiningLemmas.{passed_over}
 use Rattle.cfa_walk.proofs.defining.pass_over.Goals as goal

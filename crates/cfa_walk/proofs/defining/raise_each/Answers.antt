@@ -4,8 +4,7 @@ use Rattle.std.proofs.lemmas.Iterator.Adapters.{YieldsList-from_vec}
 use Rattle.std.proofs.lemmas.Iterator.Consumers.{YieldsList-end}
 use Rattle.cfa_walk.specs.declared.defining.Handed.{Handed}
 use Rattle.cfa_walk.specs.Kept.{Stands, home_of}
-use Rattle.cfa_walk.specs.Raising.{raise_handed}
-use Rattle.cfa_walk.specs.Steps.{place_of}
+use Rattle.cfa_walk.specs.Steps.{raise_handed, place_of}
 use Rattle.cfa_walk.proofs.LaterLemmas.{are_same, are_then}
 use Rattle.cfa_walk.proofs.DefiningLemmas.{same_always, same_then, raised_one_more}
 use Rattle.cfa_walk.proofs.defining.raise_each.Goals as goal

@@ -1,8 +1,6 @@
 use Rattle.cfa_walk.specs.History.{History}
-use Rattle.cfa_walk.specs.Kept.{Stands, IsSame, home_of}
-use Rattle.cfa_walk.specs.Raising.{raise_handed}
-use Rattle.cfa_walk.specs.Steps.{place_of}
-use Rattle.cfa_walk.specs.Later.{AreLater}
+use Rattle.cfa_walk.specs.Kept.{Stands, IsSame, home_of, AreLater}
+use Rattle.cfa_walk.specs.Steps.{raise_handed, place_of}
 use Rattle.cfa_walk.specs.Views.{Setting}
 use Rattle.cfa_walk.proofs.defining.raise_each.Given as goal
 

@@ -1,6 +1,6 @@
 use Rattle.std.proofs.Common.{◌≡◌, ℕ, List, ap, true, rules}
 use Rattle.cfa_vars.specs.Scopes.{in_scope}
-use Rattle.cfa_walk.specs.SeenNumbered.{seen_numbered}
+use Rattle.cfa_walk.specs.Kept.{seen_numbered}
 use Rattle.std.specs.Prelude.{Err}
 use Rattle.cfa_functions.specs.declared.calling.CallErr.{CallErr}
 use Rattle.cfa_functions.specs.Builds.{refused_in}

@@ -1,7 +1,7 @@
 use Rattle.std.proofs.Common.{◌≡◌, ◌∙◌, [], true, ap, rules}
 use Rattle.std.specs.List.{cons_option}
 use Rattle.cfa_vars.specs.Scopes.{in_scope}
-use Rattle.cfa_walk.specs.SeenNumbered.{seen_numbered}
+use Rattle.cfa_walk.specs.Kept.{seen_numbered}
 use Rattle.cfa_walk.specs.declared.states.State.{State}
 use Rattle.cfa_walk.proofs.LaterLemmas.{are_then, later_by, with_state}
 use Rattle.cfa_walk.proofs.DefiningLemmas.{logged, vars_set}

@@ -1,7 +1,6 @@
 use Rattle.cfa_walk.specs.History.{History}
-use Rattle.cfa_walk.specs.Kept.{Stands, IsSame}
+use Rattle.cfa_walk.specs.Kept.{Stands, IsSame, AreLater}
 use Rattle.cfa_walk.specs.Passes.{set_each}
-use Rattle.cfa_walk.specs.Later.{AreLater}
 use Rattle.cfa_walk.specs.Views.{Setting}
 use Rattle.cfa_walk.proofs.defining.set_each.Given as goal
 

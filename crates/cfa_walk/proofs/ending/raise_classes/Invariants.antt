@@ -1,8 +1,7 @@
 use Rattle.std.proofs.Common.{[], ◌∷◌, take}
 use Rattle.cfa_outcomes.specs.declared.outcomes.Outcome.TheVariants.{Kept, Repaired}
 use Rattle.cfa_walk.specs.History.{History}
-use Rattle.cfa_walk.specs.Kept.{Keeps}
-use Rattle.cfa_walk.specs.Later.{IsLater}
+use Rattle.cfa_walk.specs.Kept.{Keeps, IsLater}
 use Rattle.cfa_walk.specs.Passes.{raise_each}
 use Rattle.cfa_walk.specs.Views.{Setting}
 use Rattle.cfa_walk.proofs.ending.raise_classes.Given as goal

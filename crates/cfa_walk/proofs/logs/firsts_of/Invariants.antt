@@ -1,5 +1,5 @@
 use Rattle.std.proofs.Common.{◌≡◌, map, take}
-use Rattle.cfa_walk.specs.LogRows.{first_place}
+use Rattle.cfa_walk.specs.Logs.{first_place}
 use Rattle.cfa_walk.proofs.logs.firsts_of.Given as goal
 
 abbrev pub invariant-loop-instance : goal.invariant-loop-instance

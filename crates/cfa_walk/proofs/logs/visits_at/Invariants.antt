@@ -1,5 +1,5 @@
 use Rattle.std.proofs.Common.{◌≡◌, map}
-use Rattle.cfa_walk.specs.LogRows.{visit_at}
+use Rattle.cfa_walk.specs.Logs.{visit_at}
 use Rattle.cfa_walk.proofs.logs.visits_at.Given as goal
 
 abbrev pub invariant-loop-row : goal.invariant-loop-row

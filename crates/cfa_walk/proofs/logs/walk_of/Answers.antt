@@ -1,6 +1,6 @@
 use Rattle.std.proofs.Common.{List, map, ap, ◌∙◌}
 use Rattle.cfa_resolve.specs.declared.instances.Instance.{Instance}
-use Rattle.cfa_walk.specs.LogRows.{visit_at}
+use Rattle.cfa_walk.specs.Logs.{visit_at}
 use Rattle.cfa_walk.proofs.RowLemmas.{walk_is}
 use Rattle.cfa_walk.proofs.logs.walk_of.Goals as goal
 

@@ -1,6 +1,6 @@
 use Rattle.std.proofs.Common.{sym, subst}
 use Rattle.cfa_base.specs.lemmas.Options.{some_at}
-use Rattle.cfa_walk.specs.Remembered.{GuardsRepeat, StandsLast}
+use Rattle.cfa_walk.specs.Kept.{GuardsRepeat, StandsLast}
 use Rattle.cfa_walk.proofs.RememberedLemmas.{repeats_pushed}
 use Rattle.cfa_walk.proofs.numbered.add_promise.Goals as goal
 

@@ -1,6 +1,6 @@
 use Rattle.std.proofs.Common.{◌≡◌, ◌∙◌, ◌+◌, ap, map, rules}
 use Rattle.cfa_kinds.specs.Kinds.{promise_type}
-use Rattle.cfa_walk.specs.SeenNumbered.{seen_numbered}
+use Rattle.cfa_walk.specs.Kept.{seen_numbered}
 use Rattle.cfa_scripts.specs.lemmas.Numbering.{one_numbered}
 use Rattle.cfa_walk.proofs.RememberedLemmas.{last_next}
 use Rattle.cfa_walk.proofs.numbered.add_section.Goals as goal

@@ -1,7 +1,6 @@
 use Rattle.std.proofs.Common.{◌≡◌, ◌+◌, ◌++◌, drop, map}
 use Rattle.cfa_walk.specs.Numbered.{numbered_from}
-use Rattle.cfa_walk.specs.Remembered.{GuardsRepeat}
-use Rattle.cfa_walk.specs.SeenNumbered.{seen_numbered}
+use Rattle.cfa_walk.specs.Kept.{GuardsRepeat, seen_numbered}
 use Rattle.cfa_scripts.specs.lemmas.Numbering.{worded}
 use Rattle.cfa_walk.proofs.RememberedLemmas.{LastStands}
 use Rattle.cfa_walk.proofs.numbered.add_section.Given as goal

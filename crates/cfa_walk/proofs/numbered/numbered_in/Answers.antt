@@ -1,5 +1,5 @@
 use Rattle.std.proofs.Common.{◌∙◌, map}
-use Rattle.cfa_walk.specs.SeenNumbered.{seen_numbered}
+use Rattle.cfa_walk.specs.Kept.{seen_numbered}
 use Rattle.cfa_walk.proofs.NumberedLemmas.{section_added}
 use Rattle.cfa_walk.proofs.numbered.numbered_in.Goals as goal
 

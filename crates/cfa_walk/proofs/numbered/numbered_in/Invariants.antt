@@ -3,8 +3,7 @@ use Rattle.std.specs.List.{flat_map}
 use Rattle.cfa_tree.specs.Plain.{plain_section}
 use Rattle.cfa_served.specs.Checked.{worded_promises_of}
 use Rattle.cfa_walk.specs.Numbered.{numbered_from}
-use Rattle.cfa_walk.specs.Remembered.{GuardsRepeat}
-use Rattle.cfa_walk.specs.SeenNumbered.{seen_numbered}
+use Rattle.cfa_walk.specs.Kept.{GuardsRepeat, seen_numbered}
 use Rattle.cfa_walk.proofs.numbered.numbered_in.Given as goal
 
 -- the promises so far, and those of the sections that are left

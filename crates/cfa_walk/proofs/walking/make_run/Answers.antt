@@ -1,7 +1,7 @@
 use Rattle.std.proofs.Common.{◌∙◌, List, ℕ, All, subst, sym}
 use Rattle.cfa_base.specs.lemmas.Results.{on_err}
 use Rattle.cfa_schema.specs.Seen.{tree_of}
-use Rattle.cfa_walk.specs.Bundles.{IsShared}
+use Rattle.cfa_walk.specs.Steps.{IsShared}
 use Rattle.cfa_walk.specs.Settings.{setting_of}
 use Rattle.cfa_walk.specs.Walked.{HasRunTo}
 use Rattle.cfa_walk.proofs.ServedLemmas.{sequence_shared}

@@ -2,7 +2,7 @@ use Rattle.cfa_classes.specs.declared.levels.Status.TheVariants.{No}
 use Rattle.cfa_kinds.specs.declared.kinds.PromiseType.TheVariants.{Vars}
 use Rattle.std.proofs.Common.{◌∙◌, true, [], ◌∷◌, ap}
 use Rattle.cfa_resolve.specs.Resolution.{is_acting}
-use Rattle.cfa_walk.specs.SeenNumbered.{seen_numbered}
+use Rattle.cfa_walk.specs.Kept.{seen_numbered}
 use Rattle.cfa_walk.specs.Steps.{common_type_level}
 use Rattle.cfa_walk.proofs.LevelLemmas.{quiet_nothing}
 use Rattle.cfa_walk.proofs.CommonLemmas.{is_same_type, is_other_type, other_is_classes, types_agree, types_differ, statuses_agree, statuses_differ, flipped, flipped_true, other_left, common_unset, common_vars, common_classes}

@@ -2,12 +2,11 @@ use Rattle.std.proofs.Common.{◌∙◌, ap, length, map}
 use Rattle.std.specs.Prelude.{Err}
 use Rattle.cfa_base.specs.lemmas.Options.{some_at}
 use Rattle.cfa_base.specs.lemmas.Results.{on_err}
-use Rattle.cfa_walk.specs.Bundles.{QuietWalkDone, common_walk, seen_bundle}
+use Rattle.cfa_walk.specs.Steps.{QuietWalkDone, common_walk, seen_bundle}
 use Rattle.cfa_classes.specs.declared.levels.Status.TheVariants.{Yes}
 use Rattle.cfa_walk.specs.History.{History}
-use Rattle.cfa_walk.specs.Kept.{Keeps, Stands, IsOf, IsUntouched}
+use Rattle.cfa_walk.specs.Kept.{Keeps, Stands, IsOf, IsUntouched, seen_numbered}
 use Rattle.cfa_walk.specs.Views.{Setting}
-use Rattle.cfa_walk.specs.SeenNumbered.{seen_numbered}
 use Rattle.cfa_walk.proofs.QuietLemmas.{common_gone, types_then, types_stop}
 use Rattle.cfa_walk.proofs.walking.through_common.Goals as goal
 

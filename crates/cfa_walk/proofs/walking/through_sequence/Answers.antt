@@ -3,7 +3,7 @@ use Rattle.std.specs.Prelude.{Ok, Err}
 use Rattle.std.proofs.lemmas.List.{take_all, take_more, take-append-drop}
 use Rattle.cfa_base.specs.lemmas.Results.{on_err}
 use Rattle.cfa_schema.specs.Seen.{tree_of}
-use Rattle.cfa_walk.specs.Bundles.{WalkEnds, sequence_walk}
+use Rattle.cfa_walk.specs.Steps.{WalkEnds, sequence_walk}
 use Rattle.cfa_walk.proofs.WalkLemmas.{names_then, names_stop}
 use Rattle.cfa_walk.proofs.walking.through_sequence.Goals as goal
 

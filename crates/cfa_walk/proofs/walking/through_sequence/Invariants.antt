@@ -1,7 +1,7 @@
 use Rattle.std.proofs.Common.{take}
 use Rattle.std.specs.Prelude.{Ok}
 use Rattle.cfa_schema.specs.Seen.{tree_of}
-use Rattle.cfa_walk.specs.Bundles.{WalkEnds, sequence_walk}
+use Rattle.cfa_walk.specs.Steps.{WalkEnds, sequence_walk}
 use Rattle.cfa_walk.proofs.walking.through_sequence.Given as goal
 
 -- the first bundles were gone through

@@ -4,7 +4,7 @@ use Rattle.clap.specs.Words.{App, Rule, Text, app_of, rule_of, with_rule}
 use Rattle.clap.specs.Simple.{app_of_fields}
 use Rattle.clap.specs.declared.builder.arg.Arg.{Arg}
 use Rattle.clap.specs.declared.builder.ArgAction.TheVariants.{SetTrue}
-use Rattle.cfa_words.specs.Parser.{argument_rule, bare_line, command_rule, define_rule, no_lock_rule, strict_rule}
+use Rattle.cfa_words.specs.OfTheCode.{argument_rule, bare_line, command_rule, define_rule, no_lock_rule, strict_rule}
 use Rattle.cfa_words.proofs.words.command_line.Goals as goal
 
 abbrev without_name : App → App

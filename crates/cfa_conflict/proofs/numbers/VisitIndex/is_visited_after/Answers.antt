@@ -1,6 +1,6 @@
 use Rattle.std.proofs.Common.{◌≡◌, ◌<◌, length, get_or, sym, ap, ◌∙◌, arith, ltb}
 use Rattle.std.proofs.lemmas.List.{get_or_read}
-use Rattle.cfa_conflict.specs.Numbers.{first_from}
+use Rattle.cfa_conflict.specs.Targets.{first_from}
 use Rattle.cfa_conflict.proofs.NumberLemmas.{visited_after}
 use Rattle.cfa_conflict.proofs.numbers.VisitIndex.is_visited_after.Goals as goal
 

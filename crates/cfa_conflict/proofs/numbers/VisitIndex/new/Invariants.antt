@@ -1,5 +1,5 @@
 use Rattle.std.proofs.Common.{◌≡◌, ℕ, ◌<◌, length, drop, get_or}
-use Rattle.cfa_conflict.specs.Numbers.{first_from, last_from}
+use Rattle.cfa_conflict.specs.Targets.{first_from, last_from}
 use Rattle.cfa_conflict.proofs.numbers.VisitIndex.new.Given as goal
 
 abbrev pub invariant-loop-i : goal.invariant-loop-i

@@ -3,7 +3,7 @@ use Rattle.std.proofs.lemmas.List.Folds.{list_any-append}
 use Rattle.std.proofs.lemmas.Result.{on_ok_weaker}
 use Rattle.std.specs.List.{list_any}
 use Rattle.std.specs.Prelude.{nat_eq}
-use Rattle.cfa_conflict.specs.TextPlaces.{places_of, seen_rows}
+use Rattle.cfa_conflict.specs.Targets.{places_of, seen_rows}
 use Rattle.cfa_conflict.proofs.text_places.TextPlaces.add_beneath.Goals as goal
 
 pub returns : goal.returns

@@ -1,7 +1,7 @@
 use Rattle.std.proofs.Common.{List, sym, ap, ◌∙◌}
 use Rattle.std.proofs.lemmas.List.Sorted.{list_any-IsPermutation, IsPermutation-map}
 use Rattle.std.specs.List.{list_any}
-use Rattle.cfa_conflict.specs.TextPlaces.{seen_row, seen_rows}
+use Rattle.cfa_conflict.specs.Targets.{seen_row, seen_rows}
 use Rattle.cfa_conflict.proofs.PlaceLemmas.{Seen}
 use Rattle.cfa_conflict.proofs.OrderLemmas.{AreSorted-from_sort}
 use Rattle.cfa_conflict.proofs.text_places.TextPlaces.put_in_order.Goals as goal

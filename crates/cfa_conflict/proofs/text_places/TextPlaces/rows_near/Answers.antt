@@ -1,7 +1,7 @@
 use Rattle.std.proofs.Common.{List, true, sym, ap, subst, ◌∙◌}
 use Rattle.std.specs.List.{list_any}
 use Rattle.std.specs.Prelude.{nat_eq}
-use Rattle.cfa_conflict.specs.TextPlaces.{AreSorted, IsOrderOf, Row, places_of, seen_rows}
+use Rattle.cfa_conflict.specs.Targets.{AreSorted, IsOrderOf, Row, places_of, seen_rows}
 use Rattle.cfa_conflict.proofs.PlaceLemmas.{Seen, among_same, places_begin}
 use Rattle.cfa_conflict.proofs.text_places.TextPlaces.rows_near.Goals as goal
 

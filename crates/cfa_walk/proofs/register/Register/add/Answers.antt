@@ -1,5 +1,5 @@
 use Rattle.std.proofs.Common.{rules, ◌≡◌, ℕ, ◌++◌, ◌∷◌, [], length, subst}
-use Rattle.cfa_walk.specs.Places.{NotesPlace}
+use Rattle.cfa_walk.specs.Logs.{NotesPlace}
 use Rattle.cfa_walk.proofs.PlaceLemmas.{has_more}
 use Rattle.cfa_walk.proofs.register.Register.add.Goals as goal
 

@@ -1,12 +1,23 @@
--- Of the code alone: how maps of nodes are told apart.
-use Rattle.std.specs.Prelude.{ℕ, ◌≡◌, refl, List, ◌⊎◌}
+-- Of the code alone: where the next slash of a path is, and how maps of nodes are told apart.
+use Rattle.std.specs.Prelude.{ℕ, ◌+◌, ◌<◌, ◌≤◌, ◌≡◌, List, ◌∷◌, length, slice_index, take, drop, refl, ◌⊎◌}
 use Rattle.std.specs.Coded.{Coded, code_by, coded×, coded⊎, coded_ℕ, coded_list}
-use Rattle.std.specs.FinMap as map
 use Rattle.std.proofs.Common.{inl, inr}
-use Rattle.cfa_outside.specs.Worlds.{NodeMap}
+use Rattle.std.specs.FinMap as map
+use Rattle.cfa_outside.specs.Worlds.{above_from, NodeMap}
 use Rattle.cfa_outside.specs.declared.worlds.Perms.{Perms}
 use Rattle.cfa_outside.specs.declared.worlds.Node.{Node}
 use Rattle.cfa_outside.specs.declared.worlds.Node.TheVariants.{File, Dir}
+
+-- Where the next slash of a path is.
+
+-- the next slash of a path from a place on is at i
+pub record IsNextSlash (path : List ℕ) (from i : ℕ) : Type 0 where
+  pub after : from ≤ i
+  pub before : i < length path
+  pub slash : slice_index path i ≡ 47
+  pub cuts : above_from path from (drop from path) ≡ take i path ∷ above_from path (i + 1) (drop (i + 1) path)
+
+-- How maps of nodes are told apart.
 
 abbrev pub perms_code : Coded Perms
 perms_code =
