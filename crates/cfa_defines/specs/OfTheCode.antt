@@ -1,5 +1,6 @@
--- Of the code alone: what several expressions say together and in a context, and the texts among what a promise reads.
-use Rattle.std.specs.Prelude.{List, ℕ, Bool, Option, Some, None}
+-- Of the code alone: what several expressions say together and in a context, the texts among what a promise reads, and what is
+-- read as it is.
+use Rattle.std.specs.Prelude.{ℕ, Bool, true, not, List, [], Option, Some, None}
 use Rattle.std.specs.List.{list_any}
 use Rattle.cfa_classes.specs.declared.levels.Status.{Status}
 use Rattle.cfa_classes.specs.Status.{lesser, greater}
@@ -8,7 +9,7 @@ use Rattle.cfa_defines.specs.declared.saying.Join.{Join}
 use Rattle.cfa_defines.specs.declared.saying.Join.TheVariants.{All as of_all, One as of_one}
 use Rattle.cfa_defines.specs.ClassPromises.{all_said, one_said, value_said, items_by, items_said, list_said, expressed}
 use Rattle.cfa_vars.specs.Scopes.{InScope, in_scope}
-use Rattle.cfa_vars.specs.Expansion.{Chosen, expanded}
+use Rattle.cfa_vars.specs.Expansion.{Chosen, is_done, expanded}
 use Rattle.cfa_defines.specs.declared.reads.Read.{Read}
 use Rattle.cfa_defines.specs.declared.reads.Read.TheVariants.{Text as a_text, List as a_list}
 use Rattle.cfa_defines.specs.OwnTexts.{is_past_limit}
@@ -35,6 +36,13 @@ text_read (a_list name) = None
 
 abbrev pub has_text_too_long : InScope → List (List ℕ) → Chosen → Bool
 has_text_too_long scopes texts choice = list_any (λ content. is_past_limit (expanded scopes choice content)) texts
+
+-- What is read as it is where no item of a list is chosen.
+
+-- a list, or a text that doesn't expand where no item of a list is chosen
+abbrev pub needs_choice : InScope → Read → Bool
+needs_choice scopes (a_text content) = not (is_done (expanded scopes [] content))
+needs_choice scopes (a_list name) = true
 
 -- What expressions say in a context, without where it lies in memory.
 

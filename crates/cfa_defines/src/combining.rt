@@ -4,14 +4,14 @@ ghost use Rattle.std.specs.List.{list_any, filter_map};
 ghost use Rattle.cfa_vars.specs.Scopes.{in_scope, look};
 ghost use Rattle.cfa_vars.specs.Expansion.{expanded};
 ghost use Rattle.cfa_defines.specs.OwnTexts.{held_list, lacking_in, first_lacking, is_long_list, has_too_many, choices_among, is_past_limit, found_or_too_long, combined};
-ghost use Rattle.cfa_defines.specs.OfTheCode.{text_read, has_text_too_long};
+ghost use Rattle.cfa_defines.specs.OfTheCode.{text_read, has_text_too_long, needs_choice};
 ghost use Rattle.cfa_defines.specs.VarsPromises.{choices_unless};
 
 use crate::reads::Read;
 use cfa_base::{MOST_COMBINATIONS, Name, Names, NoMemory};
 use cfa_vars::{
     Choice, ChoiceList, Choices, Expanded, Scopes, Variable, combinations, expand, first_unset_in,
-    look_up,
+    is_plain, look_up,
 };
 use std::alloc::Global;
 
@@ -196,9 +196,36 @@ pub(crate) fn choose(
     }
 }
 
-/// The combinations of what is read, or why there are none. It takes no longer than the expansion of the texts in each
-/// combination.
-pub fn combine(alloc: Global, reads: Vec<Read>, scopes: &Scopes<'_>) -> Result<Combined, NoMemory>
+fn needs_choice(read: &Read, scopes: &Scopes<'_>) -> bool
+    ensures { result ≡ needs_choice (in_scope scopes.now) read.now }
+{
+    match read {
+        Read::Text(text) => !is_plain(text.as_str(), scopes),
+        Read::List(_) => true,
+    }
+}
+
+fn needs_choices(reads: &[Read], scopes: &Scopes<'_>) -> bool
+    ensures { result ≡ list_any (needs_choice (in_scope scopes.now)) reads.now }
+{
+    for read in reads {
+        if needs_choice(read, scopes) {
+            return true;
+        }
+    }
+    false
+}
+
+// The choice of nothing.
+fn one_choice(alloc: Global) -> Result<ChoiceList, NoMemory>
+    ensures { IfOk result (λ c. c ≡ [] ∷ []) }
+{
+    let mut choices = Vec::new(alloc);
+    choices.push(Choice::from_vec(Vec::new(alloc)))?;
+    Ok(ChoiceList::from_vec(choices))
+}
+
+fn combine_each(alloc: Global, reads: Vec<Read>, scopes: &Scopes<'_>) -> Result<Combined, NoMemory>
     ensures { IfOk result (λ c. c ≡ combined (in_scope scopes.now) reads.items) }
 {
     if let Some(name) = first_lacking(&reads, scopes) {
@@ -213,4 +240,15 @@ pub fn combine(alloc: Global, reads: Vec<Read>, scopes: &Scopes<'_>) -> Result<C
         Choices::TooMany => Ok(Combined::TooMany),
         Choices::Found(choices) => found_or_too_long(alloc, &texts, scopes, choices),
     }
+}
+
+/// The combinations of what is read, or why there are none. It takes no longer than the expansion of the texts in each
+/// combination.
+pub fn combine(alloc: Global, reads: Vec<Read>, scopes: &Scopes<'_>) -> Result<Combined, NoMemory>
+    ensures { IfOk result (λ c. c ≡ combined (in_scope scopes.now) reads.items) }
+{
+    if needs_choices(&reads, scopes) {
+        return combine_each(alloc, reads, scopes);
+    }
+    Ok(Combined::Found(one_choice(alloc)?))
 }

@@ -1,13 +1,13 @@
 -- The names and the filled text of a text, from its first reference on.
-use Rattle.std.proofs.Common.{◌≡◌, ◌<◌, ◌≤◌, ℕ, Bool, true, false, cond, List, [], ◌∷◌, ◌++◌, length, map, find, is_none, MatchBool, Some, None, unwrap_or, refl, arith, ap, sym, ◌∙◌}
+use Rattle.std.proofs.Common.{◌≡◌, ◌<◌, ◌≤◌, ◌+◌, ℕ, nat_le, Bool, true, false, cond, List, [], ◌∷◌, ◌++◌, length, map, find, is_none, MatchBool, Option, Some, None, unwrap_or, refl, arith, ⊎_elim, ap, sym, ◌∙◌}
 use Rattle.std.specs.List.{flat_map}
 use Rattle.std.proofs.lemmas.List.{append-nil, append_assoc, length-append}
-use Rattle.std.proofs.lemmas.Bool.{false≢true}
+use Rattle.std.proofs.lemmas.Bool.{false≢true, cases_lt, le-leb, lt-leb}
 use Rattle.std.proofs.lemmas.Bool.Decides.{nat_tests}
 use Rattle.cfa_vars.specs.References.{Piece, literal, reference, pieces}
 use Rattle.cfa_vars.specs.Scopes.{InScope}
 use Rattle.cfa_vars.specs.lemmas.Names.{names_in_more, names_in_none}
-use Rattle.cfa_vars.specs.Expansion.{Chosen, scalar, filled_piece, filled, first_unresolved, within_limit}
+use Rattle.cfa_vars.specs.Expansion.{Chosen, scalar, filled_piece, filled, first_unresolved, within_limit, done_or_too_long, told_of, is_done, expanded}
 
 module _ (scopes : InScope) (choice : Chosen) where
   filled-literals : (bytes : List ℕ) (ps : List Piece) → flat_map (filled_piece scopes choice) (map literal bytes ++ ps) ≡ bytes ++ flat_map (filled_piece scopes choice) ps
@@ -75,3 +75,36 @@ module _ (scopes : InScope) (choice : Chosen) (done rest text : List ℕ) (so_fa
 
     pub write_last : (new : List ℕ) → new ≡ done ++ rest → length new ≤ 65536 → within_limit (filled scopes choice text) ≡ Some new
     write_last new e short = ap within_limit (sym (e ∙ whole_is)) ∙ in_limit new short
+
+-- ---- a text that expands where no item is chosen
+
+pub plain_unresolved : (found : Option (List ℕ)) (name whole : List ℕ) → found ≡ Some name → false ≡ is_done (told_of found whole)
+plain_unresolved found name whole h = ap (λ o. is_done (told_of o whole)) (sym h)
+
+pub plain_too_long : (found : Option (List ℕ)) (whole : List ℕ) → 65536 < length whole → false ≡ is_done (told_of found whole)
+plain_too_long None whole long = ap (λ o. is_done (done_or_too_long o)) (sym (past_limit whole [] whole (append-nil whole) long))
+plain_too_long (Some name) whole long = refl
+
+is_done-within : (t : Bool) (whole : List ℕ) → t ≡ is_done (done_or_too_long (cond t (Some whole) None))
+is_done-within true whole = refl
+is_done-within false whole = refl
+
+pub plain_last : (found : Option (List ℕ)) (whole : List ℕ) (t : Bool) → found ≡ None → t ≡ nat_le (length whole) 65536 → t ≡ is_done (told_of found whole)
+plain_last found whole t none h = h ∙ is_done-within (nat_le (length whole) 65536) whole ∙ ap (λ o. is_done (told_of o whole)) (sym none)
+
+pub length-filled_more : (scopes : InScope) (choice : Chosen) (rest before name after part : List ℕ) → pieces rest ≡ map literal before ++ reference name ∷ pieces after → part ≡ unwrap_or (scalar scopes choice name) [] → length (filled scopes choice rest) ≡ length before + (length part + length (filled scopes choice after))
+length-filled_more scopes choice rest before name after part first part_is =
+    ap length (filled_more scopes choice rest before name after first ∙ ap (λ p. before ++ (p ++ filled scopes choice after)) (sym part_is))
+    ∙ length-append before (part ++ filled scopes choice after) ∙ ap (λ n. length before + n) (length-append part (filled scopes choice after))
+
+pub as_long : (left rest whole : ℕ) → whole + left ≡ 65536 + rest → nat_le rest left ≡ nat_le whole 65536
+as_long left rest whole h =
+    ⊎_elim (λ over. lt-leb rest left over ∙ sym (lt-leb whole 65536 (omega arith)))
+    (λ within. le-leb rest left within ∙ sym (le-leb whole 65536 (omega arith))) (cases_lt left rest)
+
+-- ---- a text without any reference
+
+pub expanded_literal : (scopes : InScope) (choice : Chosen) (text : List ℕ) → pieces text ≡ map literal text → done_or_too_long (within_limit text) ≡ expanded scopes choice text
+unfolding expanded
+expanded_literal scopes choice text none =
+    sym (ap (λ o. told_of o (filled scopes choice text)) (unresolved_none scopes choice text none) ∙ ap (λ whole. done_or_too_long (within_limit whole)) (filled_none scopes choice text none))

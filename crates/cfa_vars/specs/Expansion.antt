@@ -1,7 +1,7 @@
 -- A text is expanded once: each reference is replaced by the text of its variable, or by the item that is chosen for
 -- its list, and what is put in is not read again. The first name without either is told; failing that, a text of more
 -- than 65,536 bytes is too long.
-use Rattle.std.specs.Prelude.{ℕ, List, [], ◌∷◌, length, nat_le, Option, Some, None, unwrap_or, find, is_none, if◌then◌else◌}
+use Rattle.std.specs.Prelude.{ℕ, Bool, true, false, List, [], ◌∷◌, length, nat_le, Option, Some, None, unwrap_or, find, is_none, if◌then◌else◌}
 use Rattle.std.specs.List.{flat_map}
 use Rattle.cfa_base.specs.declared.limits.TheConstants.{MOST_TEXT_BYTES}
 use Rattle.cfa_vars.specs.declared.scoping.Datum.{Datum}
@@ -50,3 +50,8 @@ told_of None whole = done_or_too_long (within_limit whole)
 
 unfoldable pub expanded : InScope → Chosen → List ℕ → Expanded
 expanded scopes choice text = told_of (first_unresolved scopes choice text) (filled scopes choice text)
+
+abbrev pub is_done : Expanded → Bool
+is_done (Done whole) = true
+is_done (Unresolved name) = false
+is_done TooLong = false

@@ -1,2 +1,3 @@
 -- Lemmas on these definitions that the proofs of the crates above cite. No contract names one.
 pub mod Names
+pub mod Plain

@@ -1,9 +1,10 @@
 // The expansion of a text.
-ghost use Rattle.std.specs.Prelude.{◌≡◌, ◌++◌, ◌<◌, ◌≤◌, IfOk, IfSome, MatchBool, None, is_none, length, option_copied};
+ghost use Rattle.std.specs.Prelude.{◌≡◌, [], ◌++◌, ◌<◌, ◌≤◌, IfOk, IfSome, MatchBool, None, is_none, length, map, option_copied};
 ghost use Rattle.std.specs.String.{string_bytes, string_len};
 ghost use Rattle.cfa_vars.specs.Named.{thing_at};
+ghost use Rattle.cfa_vars.specs.References.{literal, pieces};
 ghost use Rattle.cfa_vars.specs.Scopes.{in_scope};
-ghost use Rattle.cfa_vars.specs.Expansion.{scalar, filled, first_unresolved, within_limit, expanded};
+ghost use Rattle.cfa_vars.specs.Expansion.{scalar, filled, first_unresolved, within_limit, done_or_too_long, is_done, expanded};
 
 use crate::looking::{Scopes, Variable, list_key, look_up};
 use crate::references::first_reference;
@@ -93,7 +94,7 @@ fn fill(
         → first_unresolved (in_scope scopes.now) choice.now text.now ≡ None
         → within_limit (filled (in_scope scopes.now) choice.now text.now) ≡ None) }
 {
-    let mut whole = String::new(alloc);
+    let mut whole = String::with_capacity(alloc, text.len())?;
     let mut rest = text;
     while let Some(found) = first_reference(rest) {
         let part = match scalar(scopes, choice, found.name) {
@@ -114,14 +115,9 @@ fn fill(
     Ok(Some(whole))
 }
 
-/// A text with each of its references replaced once, from left to right: by the text of its variable, or, where the
-/// variable is a list, by the item that `choice` has under the key of that list (`list_key`); the first pair with the
-/// key counts. What is put in is not read again. A name stands for nothing, and is then told as `Unresolved`, where it
-/// refers to no variable that is set (`look_up`), or to a list of which no item is chosen. A `$` that begins no
-/// reference stays, and so does each `@`. `Unresolved` goes before `TooLong`. The time is linear in the text and in
-/// what is put in, besides a logarithm of the shared scopes for each qualified name and a pass over `choice` for each list.
+// A text with some references.
 #[tactic(auto, unfolding(crate::specs::Expansion::expanded))]
-pub fn expand(
+fn replace_each(
     alloc: Global,
     text: &Name,
     scopes: &Scopes<'_>,
@@ -136,4 +132,60 @@ pub fn expand(
         Some(name) => Ok(Expanded::Unresolved(Name::from_text(alloc, name)?)),
         None => Ok(Expanded::TooLong),
     }
+}
+
+// A text without any reference.
+fn keep(alloc: Global, text: &Name) -> Result<Expanded, NoMemory>
+    ensures { IfOk result (λ e. e ≡ done_or_too_long (within_limit text.now)) }
+{
+    if text.as_str().len() > MOST_TEXT_BYTES {
+        return Ok(Expanded::TooLong);
+    }
+    Ok(Expanded::Done(text.copy(alloc)?))
+}
+
+/// A text with each of its references replaced once, from left to right: by the text of its variable, or, where the
+/// variable is a list, by the item that `choice` has under the key of that list (`list_key`); the first pair with the
+/// key counts. What is put in is not read again. A name stands for nothing, and is then told as `Unresolved`, where it
+/// refers to no variable that is set (`look_up`), or to a list of which no item is chosen. A `$` that begins no
+/// reference stays, and so does each `@`. `Unresolved` goes before `TooLong`. The time is linear in the text and in
+/// what is put in, besides a logarithm of the shared scopes for each qualified name and a pass over `choice` for each list.
+/// A text without any reference is shared, not copied.
+pub fn expand(
+    alloc: Global,
+    text: &Name,
+    scopes: &Scopes<'_>,
+    choice: &[(Name, Name)],
+) -> Result<Expanded, NoMemory>
+    ensures { IfOk result (λ e. e ≡ expanded (in_scope scopes.now) choice.now text.now) }
+{
+    match first_reference(text.as_str()) {
+        None => keep(alloc, text),
+        Some(_) => replace_each(alloc, text, scopes, choice),
+    }
+}
+
+/// Whether a text expands where no item of a list is chosen, without taking memory: each of its references stands for a text,
+/// and the whole has no more than 65,536 bytes.
+pub fn is_plain(text: &str, scopes: &Scopes<'_>) -> bool
+    ensures { result ≡ is_done (expanded (in_scope scopes.now) [] text.now) }
+{
+    let mut left = MOST_TEXT_BYTES;
+    let mut rest = text;
+    while let Some(found) = first_reference(rest) {
+        let part = match scalar(scopes, &[], found.name) {
+            Some(part) => part,
+            None => return false,
+        };
+        if found.before.len() > left {
+            return false;
+        }
+        left -= found.before.len();
+        if part.len() > left {
+            return false;
+        }
+        left -= part.len();
+        rest = found.after;
+    }
+    rest.len() <= left
 }

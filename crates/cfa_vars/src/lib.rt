@@ -10,7 +10,7 @@ mod scoping;
 mod sharing;
 
 pub use choosing::{Choice, ChoiceList, Choices, combinations, first_unset_in};
-pub use expanding::{Expanded, expand};
+pub use expanding::{Expanded, expand, is_plain};
 pub use looking::{Scopes, Variable, constant, list_key, look_up};
 pub use references::{Reference, first_reference, list_reference, split_name};
 pub use scoping::{Datum, Scope};
