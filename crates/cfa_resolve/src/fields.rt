@@ -1,16 +1,13 @@
 // The fields of key texts.
-ghost use Rattle.std.specs.Prelude.{◌≡◌, ◌<◌, ◌==◌, ◌++◌, [], ◌∷◌, IfOk, OnOk, map, if◌then◌else◌};
-ghost use Rattle.std.specs.List.{flat_map, join_with_byte};
+ghost use Rattle.std.specs.Prelude.{◌≡◌, ◌==◌, ◌++◌, [], ◌∷◌, OnOk, map, if◌then◌else◌};
+ghost use Rattle.std.specs.List.{join_with_byte};
 ghost use Rattle.std.specs.String.{string_bytes};
 ghost use Rattle.cfa_base.specs.Escapes.{escaped};
 ghost use Rattle.cfa_base.specs.Octal.{octal_digit, mode_text};
-ghost use Rattle.cfa_resolve.specs.KeyTexts.{fields_after, mode_field, names_field, yes_or_no};
+ghost use Rattle.cfa_resolve.specs.KeyTexts.{mode_field, names_field, yes_or_no};
 
 use cfa_base::{Name, NoMemory, escape, octal_digit};
 use std::alloc::Global;
-
-// Few fields with a word before them are longer. Room for so many bytes is taken at once.
-const USUAL_LENGTH: usize = 64;
 
 /// Adds a separator and a text behind it.
 pub(crate) fn add_field(whole: &mut String, separator: &str, field: &str) -> Result<(), NoMemory>
@@ -22,54 +19,56 @@ pub(crate) fn add_field(whole: &mut String, separator: &str, field: &str) -> Res
     Ok(())
 }
 
+/// Adds a separator and a text behind it, escaped.
+pub(crate) fn add_escaped(
+    alloc: Global,
+    whole: &mut String,
+    separator: &str,
+    text: &Name,
+) -> Result<(), NoMemory>
+    ensures { OnOk result
+        (string_bytes whole.new ≡ string_bytes whole.old ++ (separator.now ++ escaped text.now)) }
+{
+    add_field(whole, separator, escape(alloc, text)?.as_str())
+}
+
 fn comma_before(place: usize) -> &'static str
     ensures { result.now ≡ (if place == 0 then [] else 44 ∷ []) }
 {
     if place == 0 { "" } else { "," }
 }
 
-/// Texts with a comma between each two.
-pub(crate) fn join_by_commas(alloc: Global, items: &[Name]) -> Result<Name, NoMemory>
-    ensures { IfOk result (λ text. text ≡ join_with_byte 44 items.now) }
+/// Adds texts with a comma between each two.
+pub(crate) fn add_joined(whole: &mut String, items: &[Name]) -> Result<(), NoMemory>
+    ensures { OnOk result
+        (string_bytes whole.new ≡ string_bytes whole.old ++ join_with_byte 44 items.now) }
 {
-    let mut whole = String::new(alloc);
     for (place, item) in items.iter().enumerate() {
-        add_field(&mut whole, comma_before(place), item.as_str())?;
+        add_field(whole, comma_before(place), item.as_str())?;
     }
-    Ok(Name::from_string(whole)?)
+    Ok(())
 }
 
-/// A word, and fields with a space before each.
-pub(crate) fn fields_after(alloc: Global, first: &str, fields: &[Name]) -> Result<Name, NoMemory>
-    ensures { IfOk result (λ text. text ≡ fields_after first.now fields.now) }
+fn add_joined_escaped(alloc: Global, whole: &mut String, names: &[Name]) -> Result<(), NoMemory>
+    ensures { OnOk result (string_bytes whole.new
+        ≡ string_bytes whole.old ++ join_with_byte 44 (map escaped names.now)) }
 {
-    let mut whole = String::with_capacity(alloc, USUAL_LENGTH)?;
-    whole.push_str(first)?;
-    for field in fields {
-        add_field(&mut whole, " ", field.as_str())?;
+    for (place, name) in names.iter().enumerate() {
+        add_escaped(alloc, whole, comma_before(place), name)?;
     }
-    Ok(Name::from_string(whole)?)
+    Ok(())
 }
 
-fn escape_all(alloc: Global, names: &[Name]) -> Result<Vec<Name>, NoMemory>
-    ensures { IfOk result (λ fields. fields.items ≡ map escaped names.now) }
+/// Adds a space and names as one field, an asterisk where there are none.
+pub(crate) fn add_names(alloc: Global, whole: &mut String, names: &[Name]) -> Result<(), NoMemory>
+    ensures { OnOk result
+        (string_bytes whole.new ≡ string_bytes whole.old ++ (32 ∷ names_field names.now)) }
 {
-    let mut fields = Vec::new(alloc);
-    for name in names {
-        fields.push(escape(alloc, name)?)?;
-    }
-    Ok(fields)
-}
-
-/// Names as one field, an asterisk where there are none.
-pub(crate) fn names_field(alloc: Global, names: &[Name]) -> Result<Name, NoMemory>
-    ensures { IfOk result (λ text. text ≡ names_field names.now) }
-{
+    whole.push(' ')?;
     if names.is_empty() {
-        return Name::from_text(alloc, "*");
+        whole.push('*')?;
     }
-    let fields = escape_all(alloc, names)?;
-    join_by_commas(alloc, &fields)
+    add_joined_escaped(alloc, whole, names)
 }
 
 fn push_digit(text: &mut String, number: u16) -> Result<(), NoMemory>
@@ -81,24 +80,24 @@ fn push_digit(text: &mut String, number: u16) -> Result<(), NoMemory>
 }
 
 #[tactic(auto, unfolding(cfa_base::specs::Octal::mode_text))]
-fn mode_text(alloc: Global, mode: u16) -> Result<Name, NoMemory>
-    ensures { IfOk result (λ text. text ≡ mode_text mode) }
+fn push_digits(text: &mut String, mode: u16) -> Result<(), NoMemory>
+    ensures { OnOk result (string_bytes text.new ≡ string_bytes text.old ++ mode_text mode) }
 {
-    let mut text = String::new(alloc);
-    push_digit(&mut text, mode / 512)?;
-    push_digit(&mut text, mode / 64)?;
-    push_digit(&mut text, mode / 8)?;
-    push_digit(&mut text, mode)?;
-    Ok(Name::from_string(text)?)
+    push_digit(text, mode / 512)?;
+    push_digit(text, mode / 64)?;
+    push_digit(text, mode / 8)?;
+    push_digit(text, mode)
 }
 
-/// A mode as a field, an asterisk where there is none.
-pub(crate) fn mode_field(alloc: Global, mode: Option<u16>) -> Result<Name, NoMemory>
-    ensures { IfOk result (λ text. text ≡ mode_field mode) }
+/// Adds a space and a mode as a field, an asterisk where there is none.
+pub(crate) fn add_mode(whole: &mut String, mode: Option<u16>) -> Result<(), NoMemory>
+    ensures { OnOk result
+        (string_bytes whole.new ≡ string_bytes whole.old ++ (32 ∷ mode_field mode)) }
 {
+    whole.push(' ')?;
     match mode {
-        None => Name::from_text(alloc, "*"),
-        Some(mode) => mode_text(alloc, mode),
+        None => Ok(whole.push('*')?),
+        Some(mode) => push_digits(whole, mode),
     }
 }
 

@@ -1,5 +1,5 @@
 // The key texts of instances.
-ghost use Rattle.std.specs.Prelude.{◌≡◌, ◌++◌, ◌∷◌, [], IfOk, OnOk, codes, map};
+ghost use Rattle.std.specs.Prelude.{◌≡◌, ◌++◌, ◌∷◌, IfOk, OnOk, codes, map};
 ghost use Rattle.std.specs.List.{flat_map};
 ghost use Rattle.std.specs.Fmt.{decimal};
 ghost use Rattle.std.specs.String.{string_bytes};
@@ -8,113 +8,54 @@ ghost use Rattle.cfa_resolve.specs.KeyTexts.{fields_after, act_text, datum_text,
 
 use crate::Work;
 use crate::classes::Outcomes;
-use crate::fields::{add_field, fields_after, join_by_commas, mode_field, names_field, yes_or_no};
+use crate::fields::{add_escaped, add_field, add_joined, add_mode, add_names, yes_or_no};
 use cfa_acts::Act;
-use cfa_base::{Name, NoMemory, PromiseId, escape, escape_bytes};
-use cfa_outside::Path;
+use cfa_base::{Name, NoMemory, PromiseId, escape_bytes};
 use cfa_vars::Datum;
 use std::alloc::Global;
 
 // Few key texts are longer. Room for so many bytes is taken at once.
 const USUAL_LENGTH: usize = 96;
 
-// A word and the field of a text.
-fn one_field(alloc: Global, word: &str, text: &Name) -> Result<Name, NoMemory>
-    ensures { IfOk result (λ t. t ≡ fields_after word.now (escaped text.now ∷ [])) }
-{
-    let fields = [escape(alloc, text)?];
-    fields_after(alloc, word, &fields)
-}
-
-// A word, the field of a path, and another field.
-fn path_and_field(alloc: Global, word: &str, path: &Path, field: Name) -> Result<Name, NoMemory>
-    ensures { IfOk result (λ t. t ≡ fields_after word.now (escaped path.now ∷ field ∷ [])) }
-{
-    let fields = [escape(alloc, path.text())?, field];
-    fields_after(alloc, word, &fields)
-}
-
-fn perms_text(
-    alloc: Global,
-    path: &Path,
-    mode: Name,
-    owners: Name,
-    groups: Name,
-) -> Result<Name, NoMemory>
-    ensures { IfOk result (λ t. t ≡ fields_after (codes "perms")
-        (escaped path.now ∷ mode ∷ owners ∷ groups ∷ [])) }
-{
-    let fields = [escape(alloc, path.text())?, mode, owners, groups];
-    fields_after(alloc, "perms", &fields)
-}
-
-fn act_text(alloc: Global, promiser: &Name, act: &Act) -> Result<Name, NoMemory>
-    ensures { IfOk result (λ t. t ≡ act_text promiser.now act.now) }
+// Adds the text of an act, `;` before it.
+fn add_act(alloc: Global, promiser: &Name, act: &Act, whole: &mut String) -> Result<(), NoMemory>
+    ensures { OnOk result (string_bytes whole.new
+        ≡ string_bytes whole.old ++ (59 ∷ act_text promiser.now act.now)) }
 {
     match act {
-        Act::Create(path) => one_field(alloc, "create", path.text()),
-        Act::MakeDir(path) => one_field(alloc, "mkdir", path.text()),
+        Act::Create(path) => add_escaped(alloc, whole, ";create ", path.text()),
+        Act::MakeDir(path) => add_escaped(alloc, whole, ";mkdir ", path.text()),
         Act::Delete(path, with_directories) => {
-            let flag = Name::from_text(alloc, yes_or_no(*with_directories))?;
-            path_and_field(alloc, "delete", path, flag)
+            add_escaped(alloc, whole, ";delete ", path.text())?;
+            add_field(whole, " ", yes_or_no(*with_directories))
         }
         Act::Content(path, bytes) => {
-            path_and_field(
-                alloc,
-                "content",
-                path,
-                escape_bytes(alloc, bytes.as_slice())?,
-            )
+            add_escaped(alloc, whole, ";content ", path.text())?;
+            add_field(whole, " ", escape_bytes(alloc, bytes.as_slice())?.as_str())
         }
         Act::Copy(source, path) => {
-            path_and_field(alloc, "copy", source, escape(alloc, path.text())?)
+            add_escaped(alloc, whole, ";copy ", source.text())?;
+            add_escaped(alloc, whole, " ", path.text())
         }
         Act::Edit(path, script) => {
-            path_and_field(alloc, "edit", path, script.text().copy(alloc)?)
+            add_escaped(alloc, whole, ";edit ", path.text())?;
+            add_field(whole, " ", script.text().as_str())
         }
-        Act::Perms(path, mode, owners, groups) => perms_text(
-            alloc,
-            path,
-            mode_field(alloc, *mode)?,
-            names_field(alloc, owners.as_slice())?,
-            names_field(alloc, groups.as_slice())?,
-        ),
-        Act::Start(name) => one_field(alloc, "start", name),
-        Act::Stop(name) => one_field(alloc, "stop", name),
-        Act::Enable(name) => one_field(alloc, "enable", name),
-        Act::Disable(name) => one_field(alloc, "disable", name),
-        Act::Restart(name) => one_field(alloc, "restart", name),
+        Act::Perms(path, mode, owners, groups) => {
+            add_escaped(alloc, whole, ";perms ", path.text())?;
+            add_mode(whole, *mode)?;
+            add_names(alloc, whole, owners.as_slice())?;
+            add_names(alloc, whole, groups.as_slice())
+        }
+        Act::Start(name) => add_escaped(alloc, whole, ";start ", name),
+        Act::Stop(name) => add_escaped(alloc, whole, ";stop ", name),
+        Act::Enable(name) => add_escaped(alloc, whole, ";enable ", name),
+        Act::Disable(name) => add_escaped(alloc, whole, ";disable ", name),
+        Act::Restart(name) => add_escaped(alloc, whole, ";restart ", name),
         Act::Bust(reason) => {
-            let fields = [
-                Name::from_text(alloc, reason.code())?,
-                escape(alloc, promiser)?,
-            ];
-            fields_after(alloc, "bust", &fields)
+            add_field(whole, ";bust ", reason.code())?;
+            add_escaped(alloc, whole, " ", promiser)
         }
-    }
-}
-
-fn list_text(alloc: Global, items: &[Name]) -> Result<Name, NoMemory>
-    ensures { IfOk result
-        (λ t. t ≡ codes "l" ++ flat_map (λ item. 44 ∷ escaped item) items.now) }
-{
-    let mut whole = String::from_str(alloc, "l")?;
-    for item in items {
-        add_field(&mut whole, ",", escape(alloc, item)?.as_str())?;
-    }
-    Ok(Name::from_string(whole)?)
-}
-
-fn datum_text(alloc: Global, datum: &Datum) -> Result<Name, NoMemory>
-    ensures { IfOk result (λ t. t ≡ datum_text datum.now) }
-{
-    match datum {
-        Datum::Text(content) => {
-            let field = escape(alloc, content)?;
-            let field = field.as_str();
-            Ok(Name::from_string(format!(in alloc; "t{field}")?)?)
-        }
-        Datum::List(items) => list_text(alloc, items.as_slice()),
     }
 }
 
@@ -129,21 +70,49 @@ fn add_acts(
         ++ flat_map (λ act. 59 ∷ act_text promiser.now act) acts.now) }
 {
     for act in acts {
-        add_field(whole, ";", act_text(alloc, promiser, act)?.as_str())?;
+        add_act(alloc, promiser, act, whole)?;
     }
     Ok(())
 }
 
-fn call_text(alloc: Global, name: &Name, arguments: &[Datum]) -> Result<Name, NoMemory>
-    ensures { IfOk result
-        (λ t. t ≡ fields_after (codes "call") (name.now ∷ map datum_text arguments.now)) }
+// Adds a space and the text of a list.
+fn add_list(alloc: Global, items: &[Name], whole: &mut String) -> Result<(), NoMemory>
+    ensures { OnOk result (string_bytes whole.new ≡ string_bytes whole.old
+        ++ (codes " l" ++ flat_map (λ item. 44 ∷ escaped item) items.now)) }
 {
-    let mut fields = Vec::new(alloc);
-    fields.push(name.copy(alloc)?)?;
-    for datum in arguments {
-        fields.push(datum_text(alloc, datum)?)?;
+    whole.push_str(" l")?;
+    for item in items {
+        add_escaped(alloc, whole, ",", item)?;
     }
-    fields_after(alloc, "call", &fields)
+    Ok(())
+}
+
+// Adds a space and the text of an argument.
+fn add_datum(alloc: Global, datum: &Datum, whole: &mut String) -> Result<(), NoMemory>
+    ensures { OnOk result
+        (string_bytes whole.new ≡ string_bytes whole.old ++ (32 ∷ datum_text datum.now)) }
+{
+    match datum {
+        Datum::Text(content) => add_escaped(alloc, whole, " t", content),
+        Datum::List(items) => add_list(alloc, items.as_slice(), whole),
+    }
+}
+
+// Adds the text of a call, `;` before it.
+fn add_call(
+    alloc: Global,
+    name: &Name,
+    arguments: &[Datum],
+    whole: &mut String,
+) -> Result<(), NoMemory>
+    ensures { OnOk result (string_bytes whole.new ≡ string_bytes whole.old
+        ++ (59 ∷ fields_after (codes "call") (name.now ∷ map datum_text arguments.now))) }
+{
+    add_field(whole, ";call ", name.as_str())?;
+    for datum in arguments {
+        add_datum(alloc, datum, whole)?;
+    }
+    Ok(())
 }
 
 // Adds the parts of a work.
@@ -153,30 +122,18 @@ fn add_work(alloc: Global, promiser: &Name, work: &Work, whole: &mut String) -> 
 {
     match work {
         Work::Acts(acts) => add_acts(alloc, promiser, acts.as_slice(), whole),
-        Work::Call(name, data) => {
-            add_field(
-                whole,
-                ";",
-                call_text(alloc, name, data.as_slice())?.as_str(),
-            )
-        }
-        Work::Report(content) => {
-            add_field(whole, ";", one_field(alloc, "report", content)?.as_str())
-        }
+        Work::Call(name, data) => add_call(alloc, name, data.as_slice(), whole),
+        Work::Report(content) => add_escaped(alloc, whole, ";report ", content),
     }
 }
 
 // Adds what stands before the classes of an outcome, and the classes.
-fn add_classes(
-    alloc: Global,
-    before: &str,
-    classes: &[Name],
-    whole: &mut String,
-) -> Result<(), NoMemory>
+fn add_classes(before: &str, classes: &[Name], whole: &mut String) -> Result<(), NoMemory>
     ensures { OnOk result (string_bytes whole.new
         ≡ string_bytes whole.old ++ (before.now ++ classes_text classes.now)) }
 {
-    add_field(whole, before, join_by_commas(alloc, classes)?.as_str())
+    whole.push_str(before)?;
+    add_joined(whole, classes)
 }
 
 /// The key text of an instance. What couldn't be made tells this promiser there.
@@ -196,9 +153,9 @@ pub(crate) fn key_text(
     let mut text = String::with_capacity(alloc, USUAL_LENGTH)?;
     write!(text, "{bundle} {number}")?;
     add_work(alloc, promiser, work, &mut text)?;
-    add_classes(alloc, ";k=", outcomes.kept.as_slice(), &mut text)?;
-    add_classes(alloc, ";r=", outcomes.repaired.as_slice(), &mut text)?;
-    add_classes(alloc, ";f=", outcomes.failed.as_slice(), &mut text)?;
+    add_classes(";k=", outcomes.kept.as_slice(), &mut text)?;
+    add_classes(";r=", outcomes.repaired.as_slice(), &mut text)?;
+    add_classes(";f=", outcomes.failed.as_slice(), &mut text)?;
     write!(text, ";e={minutes}")?;
     Ok(Name::from_string(text)?)
 }

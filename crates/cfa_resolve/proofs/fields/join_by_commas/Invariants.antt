@@ -1,7 +1,0 @@
-use Rattle.std.proofs.Common.{◌≡◌, take}
-use Rattle.std.specs.List.{join_with_byte}
-use Rattle.std.specs.String.{string_bytes}
-use Rattle.cfa_resolve.proofs.fields.join_by_commas.Given as goal
-
-abbrev pub invariant-loop-place : goal.invariant-loop-place
-invariant-loop-place l = string_bytes l.whole ≡ join_with_byte 44 (take l.place l.items)
