@@ -6,6 +6,7 @@ pub mod CommonLemmas
 pub mod SharedLemmas
 pub mod KeptLemmas
 pub mod WaitLemmas
+pub mod FirstPlaces
 pub mod IndexLemmas
 pub mod ListingLemmas
 pub mod LogLemmas

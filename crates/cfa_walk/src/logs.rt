@@ -1,8 +1,9 @@
 // What is kept of a walk while it is made.
-ghost use Rattle.std.specs.Prelude.{◌≡◌, ◌∷◌, [], IfOk, List, OnOk, OnErr, map, option_copied};
+ghost use Rattle.std.specs.Prelude.{◌≡◌, ◌∷◌, [], ◌++◌, IfOk, List, OnOk, OnErr, length, map, option_copied, unwrap_or};
+ghost use Rattle.cfa_base.specs.Index.{pair_place_of};
 ghost use Rattle.cfa_resolve.specs.declared.instances.Instance.{Instance as AnyInstance};
 ghost use Rattle.cfa_walk.specs.Logs.{IsOf, first_place, name_at, visit_at, with_visit, with_blames, walk_of};
-ghost use Rattle.cfa_walk.specs.Names.{names_of};
+ghost use Rattle.cfa_walk.specs.Names.{name_of, names_of};
 ghost use Rattle.cfa_walk.specs.Walks.{blame_for, blame_by, place_among, with_first};
 
 use crate::register::{Register, short};
@@ -178,22 +179,22 @@ fn first_of(names: &PairIndex<'_>, path: &str, text: &str) -> usize
     names.find(path, text).unwrap_or(0)
 }
 
-// The first place of the names of each instance.
-fn firsts_of(
-    alloc: Global,
-    names: &PairIndex<'_>,
-    instances: &[Instance],
-) -> Result<Vec<usize>, NoMemory>
-    requires { names.now ≡ names_of instances.now }
-    ensures { IfOk result (λ firsts.
-        firsts.items ≡ map (first_place instances.now) instances.now) }
+// Adds the names of the instance at a place, which is their first one where they are new, and answers their first place.
+fn add_names<'a>(
+    names: &mut PairIndex<'a>,
+    instance: &'a Instance,
+    place: usize,
+) -> Result<usize, NoMemory>
+    requires { length names.old ≡ place }
+    ensures names { OnOk result (names.new ≡ names.old ++ name_of instance.now ∷ []) }
+    ensures first { IfOk result (λ first. first ≡ unwrap_or (pair_place_of
+        (names.old ++ name_of instance.now ∷ []) (name_of instance.now)) 0) }
 {
-    let mut firsts = Vec::new(alloc);
-    for instance in instances {
-        let (path, text) = (instance.path.as_str(), instance.text.as_str());
-        firsts.push(first_of(names, path, text))?;
+    let (path, text) = (instance.path.as_str(), instance.text.as_str());
+    if names.add(path, text)? {
+        return Ok(place);
     }
-    Ok(firsts)
+    Ok(names.find(path, text).unwrap_or(0))
 }
 
 // Instances with their first places, by their names, and by their places, so that a visit that has a place hashes no key text.
@@ -204,6 +205,21 @@ struct Located<'a> {
     firsts: Vec<usize>,
     ghost named: { names ≡ names_of instances.now },
     ghost placed: { firsts.items ≡ map (first_place instances.now) instances.now },
+}
+
+fn locate<'a>(alloc: Global, instances: &'a [Instance]) -> Result<Located<'a>, NoMemory>
+    ensures { IfOk result (λ located. located.instances.now ≡ instances.entry.now) }
+{
+    let mut names = PairIndex::new(alloc);
+    let mut firsts = Vec::new(alloc);
+    for (place, instance) in instances.iter().enumerate() {
+        firsts.push(add_names(&mut names, instance, place)?)?;
+    }
+    Ok(Located {
+        instances,
+        names,
+        firsts,
+    })
 }
 
 // The first place of the names of a visit, or 0.
@@ -239,13 +255,7 @@ fn visits_at(
 ) -> Result<Parts<Visit>, NoMemory>
     ensures { IfOk result (λ visits. visits ≡ map (visit_at instances.now) rows.items) }
 {
-    let names = names_of(alloc, instances)?;
-    let firsts = firsts_of(alloc, &names, instances)?;
-    let located = Located {
-        instances,
-        names,
-        firsts,
-    };
+    let located = locate(alloc, instances)?;
     let mut visits = Vec::new(alloc);
     for row in rows {
         visits.push(visit_at(&located, row)?)?;
