@@ -58,6 +58,26 @@ fn first_calls_on_cycles(rt: HostRuntime) -> Result<(), Fail> {
     Ok(())
 }
 
+// Adds the call of a bundle in a bundle, by their numbers, on a line, where there are bundles of these numbers.
+fn add_call<'a>(
+    calls: &mut Vec<Call<'a>>,
+    names: &'a [String],
+    line: u32,
+    from: usize,
+    to: usize,
+) -> Result<(), NoMemory> {
+    if let (Some(caller), Some(callee)) = (names.get(from), names.get(to)) {
+        let place = at(line);
+        let (caller, callee) = (caller.as_str(), callee.as_str());
+        calls.push(Call {
+            caller,
+            callee,
+            place,
+        })?;
+    }
+    Ok(())
+}
+
 // Bundles of which each calls the next, and some further calls by their numbers.
 fn check_chain(
     rt: &impl Abort,
@@ -68,25 +88,13 @@ fn check_chain(
 ) -> Result<(), NoMemory> {
     let mut calls = Vec::new(alloc);
     let mut line = 0u32;
-    for pair in names.windows(2) {
+    for from in 0..names.len() {
         line = line.saturating_add(1);
-        if let [caller, callee] = pair {
-            calls.push(Call {
-                caller: caller.as_str(),
-                callee: callee.as_str(),
-                place: at(line),
-            })?;
-        }
+        add_call(&mut calls, names, line, from, from.saturating_add(1))?;
     }
     for (from, to) in back {
         line = line.saturating_add(1);
-        if let (Some(caller), Some(callee)) = (names.get(*from), names.get(*to)) {
-            calls.push(Call {
-                caller: caller.as_str(),
-                callee: callee.as_str(),
-                place: at(line),
-            })?;
-        }
+        add_call(&mut calls, names, line, *from, *to)?;
     }
     let found = first_on_cycle(alloc, &calls)?;
     let line = found.map(|place| place.line);

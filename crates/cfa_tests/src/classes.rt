@@ -164,19 +164,35 @@ fn raises_classes(rt: HostRuntime) -> Result<(), Fail> {
 fn written(alloc: Global, postfix: &str) -> Result<Expr, NoMemory> {
     let mut parts: Vec<Expr> = Vec::new(alloc);
     for symbol in postfix.as_bytes() {
-        let part = match symbol {
-            b'!' => Expr::Not(Box::new(alloc, parts.pop().ok_or(NoMemory)?)?),
-            b'.' => Expr::And(last_two(alloc, &mut parts)?),
-            b'|' => Expr::Or(last_two(alloc, &mut parts)?),
-            b'1' => Expr::And(Vec::new(alloc)),
-            b'0' => Expr::Or(Vec::new(alloc)),
-            b'a' => Expr::Class(Name::from_text(alloc, "a")?),
-            b'b' => Expr::Class(Name::from_text(alloc, "b")?),
-            _ => Expr::Class(Name::from_text(alloc, "c")?),
-        };
+        let part = next_part(alloc, *symbol, &mut parts)?;
         parts.push(part)?;
     }
     parts.pop().ok_or(NoMemory)
+}
+
+fn next_part(alloc: Global, symbol: u8, parts: &mut Vec<Expr>) -> Result<Expr, NoMemory> {
+    match symbol {
+        b'!' => negated(alloc, parts),
+        b'.' => Ok(Expr::And(last_two(alloc, parts)?)),
+        b'|' => Ok(Expr::Or(last_two(alloc, parts)?)),
+        b'1' => Ok(Expr::And(Vec::new(alloc))),
+        b'0' => Ok(Expr::Or(Vec::new(alloc))),
+        letter => class_of(alloc, letter),
+    }
+}
+
+fn negated(alloc: Global, parts: &mut Vec<Expr>) -> Result<Expr, NoMemory> {
+    let inner = parts.pop().ok_or(NoMemory)?;
+    Ok(Expr::Not(Box::new(alloc, inner)?))
+}
+
+fn class_of(alloc: Global, letter: u8) -> Result<Expr, NoMemory> {
+    let name = match letter {
+        b'a' => "a",
+        b'b' => "b",
+        _ => "c",
+    };
+    Ok(Expr::Class(Name::from_text(alloc, name)?))
 }
 
 fn last_two(alloc: Global, parts: &mut Vec<Expr>) -> Result<Vec<Expr>, NoMemory> {

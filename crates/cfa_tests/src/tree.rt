@@ -5,31 +5,27 @@ use std::alloc::Global;
 use std::process::Abort;
 use std::test::Fail;
 
+#[cycle(spelling)]
 fn spell(out: &mut String, expr: &Expr) -> Result<(), NoMemory> {
     match expr {
-        Expr::Class(name) => out.push_str(name.as_str())?,
+        Expr::Class(name) => Ok(out.push_str(name.as_str())?),
         Expr::Not(inner) => {
             out.push('!')?;
-            spell(out, inner)?;
+            spell(out, inner)
         }
-        Expr::And(parts) => {
-            out.push_str("and(")?;
-            for part in parts {
-                spell(out, part)?;
-                out.push(' ')?;
-            }
-            out.push(')')?;
-        }
-        Expr::Or(parts) => {
-            out.push_str("or(")?;
-            for part in parts {
-                spell(out, part)?;
-                out.push(' ')?;
-            }
-            out.push(')')?;
-        }
+        Expr::And(parts) => spell_each(out, "and(", parts),
+        Expr::Or(parts) => spell_each(out, "or(", parts),
     }
-    Ok(())
+}
+
+#[cycle(spelling)]
+fn spell_each(out: &mut String, word: &str, parts: &[Expr]) -> Result<(), NoMemory> {
+    out.push_str(word)?;
+    for part in parts {
+        spell(out, part)?;
+        out.push(' ')?;
+    }
+    Ok(out.push(')')?)
 }
 
 // The text reads as the expression that is spelled so, or is none.
