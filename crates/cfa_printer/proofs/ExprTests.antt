@@ -1,8 +1,7 @@
 -- The test of two expressions with parts, from the tests of their parts.
-use Rattle.std.proofs.Common.{◌≡◌, refl, sym, ◌∙◌, ap, ℕ, suc, ◌+◌, ◌<◌, ◌≤◌, Bool, true, false, ◌&&◌, List, [], ◌∷◌, length, get_or, drop, add-one, drop-cons, arith}
+use Rattle.std.proofs.Common.{◌≡◌, refl, sym, ◌∙◌, ap, suc, Bool, true, false, ◌&&◌, List, [], ◌∷◌, length}
 use Rattle.std.specs.declared.alloc.Global.{Global}
 use Rattle.std.specs.declared.vec.Vec.{Vec}
-use Rattle.std.proofs.lemmas.List.{drop_all}
 use Rattle.cfa_tree.specs.declared.expressions.Expr.{Expr, Class, Not', And, And', Or, Or', roll-out-Expr}
 use Rattle.cfa_tree.specs.declared.expressions.Expr as declared
 use denote.Hole.Carrier
@@ -78,23 +77,3 @@ other_length (e ∷ es) (f ∷ fs) not = and_false (same_expr (plain_expr e) (pl
     and_false : (p q : Bool) → false ≡ q → false ≡ (p && q)
     and_false true q is = is
     and_false false q is = refl
-
-module _ (es fs : List Expr) (i : ℕ) (e f : Expr) (below : i < length es) (also : i < length fs) (is : e ≡ get_or es i e) (too : f ≡ get_or fs i f) where
-  part_apart : same_exprs (plain_parts (drop i es)) (plain_parts (drop i fs)) ≡ (same_expr (plain_expr e) (plain_expr f) && same_exprs (plain_parts (drop (i + 1) es)) (plain_parts (drop (i + 1) fs)))
-  part_apart = rw (add-one, drop-cons es i e, drop-cons fs i f, ← is, ← too) refl
-
-  -- a part that differs
-  pub part_differs : (whole : Bool) → same_expr (plain_expr e) (plain_expr f) ≡ false → same_exprs (plain_parts (drop i es)) (plain_parts (drop i fs)) ≡ whole → false ≡ whole
-  part_differs whole differs so_far = sym (ap (λ b. b && same_exprs (plain_parts (drop (i + 1) es)) (plain_parts (drop (i + 1) fs))) differs) ∙ (sym part_apart ∙ so_far)
-
-  -- a part that is the same
-  pub part_is_same : (whole : Bool) → same_expr (plain_expr e) (plain_expr f) ≡ true → same_exprs (plain_parts (drop i es)) (plain_parts (drop i fs)) ≡ whole →
-      same_exprs (plain_parts (drop (i + 1) es)) (plain_parts (drop (i + 1) fs)) ≡ whole
-  part_is_same whole same so_far = sym (ap (λ b. b && same_exprs (plain_parts (drop (i + 1) es)) (plain_parts (drop (i + 1) fs))) same) ∙ (sym part_apart ∙ so_far)
-
--- no part is left
-pub no_part_left : (es fs : List Expr) (i : ℕ) (whole : Bool) → length es ≡ length fs → length es ≤ i → same_exprs (plain_parts (drop i es)) (plain_parts (drop i fs)) ≡ whole → true ≡ whole
-no_part_left es fs i whole same past so_far =
-    let beyond : length fs ≤ i = omega arith in
-    let none : same_exprs (plain_parts (drop i es)) (plain_parts (drop i fs)) ≡ true = rw (drop_all i es past, drop_all i fs beyond) refl in
-    sym none ∙ so_far

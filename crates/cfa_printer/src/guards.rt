@@ -1,47 +1,43 @@
 // Guards of promises.
-ghost use Rattle.std.specs.Prelude.{◌≡◌, OnOk};
+ghost use Rattle.std.specs.Prelude.{◌≡◌, OnOk, map};
 ghost use Rattle.cfa_printer.specs.OfTheCode.{Appends, guard_tree};
 ghost use Rattle.cfa_tree.specs.Plain.{plain_expr};
+ghost use Rattle.cfa_tree.specs.Tree.{expr_trees};
 ghost use Rattle.cfa_printer.specs.Printing.{printed_guard, guard_line};
-ghost use Rattle.cfa_printer.specs.SameExpr.{same_expr, same_guard};
+ghost use Rattle.cfa_printer.specs.SameExpr.{same_expr, same_exprs, same_guard};
 
 use crate::expressions::{Around, push_expr};
 use cfa_base::NoMemory;
 use cfa_tree::Expr;
 
 // Whether two class expressions are the same, part by part.
+#[cycle(comparing)]
 fn same_expr(a: &Expr, b: &Expr) -> bool
     ensures { result ≡ same_expr (plain_expr a.now) (plain_expr b.now) }
 {
     match (a, b) {
         (Expr::Class(name), Expr::Class(other)) => name.as_str() == other.as_str(),
         (Expr::Not(inner), Expr::Not(other)) => same_expr(inner, other),
-        (Expr::And(parts), Expr::And(others)) => {
-            let (parts, others) = (parts.as_slice(), others.as_slice());
-            if parts.len() != others.len() {
-                return false;
-            }
-            for i in 0..parts.len() {
-                if !same_expr(&parts[i], &others[i]) {
-                    return false;
-                }
-            }
-            true
-        }
-        (Expr::Or(parts), Expr::Or(others)) => {
-            let (parts, others) = (parts.as_slice(), others.as_slice());
-            if parts.len() != others.len() {
-                return false;
-            }
-            for i in 0..parts.len() {
-                if !same_expr(&parts[i], &others[i]) {
-                    return false;
-                }
-            }
-            true
-        }
+        (Expr::And(parts), Expr::And(others)) => same_exprs(parts.as_slice(), others.as_slice()),
+        (Expr::Or(parts), Expr::Or(others)) => same_exprs(parts.as_slice(), others.as_slice()),
         _ => false,
     }
+}
+
+#[cycle(comparing)]
+fn same_exprs(parts: &[Expr], others: &[Expr]) -> bool
+    ensures { result ≡ same_exprs (expr_trees (map plain_expr parts.now))
+        (expr_trees (map plain_expr others.now)) }
+{
+    if parts.len() != others.len() {
+        return false;
+    }
+    for i in 0..parts.len() {
+        if !same_expr(&parts[i], &others[i]) {
+            return false;
+        }
+    }
+    true
 }
 
 fn same_guard(a: Option<&Expr>, b: Option<&Expr>) -> bool
