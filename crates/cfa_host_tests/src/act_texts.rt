@@ -71,12 +71,12 @@ fn pattern_of(alloc: Global, text: &str, how: How) -> Result<Pattern, Fail>
 fn value_of(alloc: Global, text: &str) -> Result<Name, Fail>
     ensures { IfOk result IsOneLine }
 {
-    Ok(match text {
-        "aa" => Name::from_text(alloc, "aa")?,
-        "x" => Name::from_text(alloc, "x")?,
-        "y" => Name::from_text(alloc, "y")?,
-        _ => Name::from_text(alloc, "*")?,
-    })
+    match text {
+        "aa" => Ok(Name::from_text(alloc, "aa")?),
+        "x" => Ok(Name::from_text(alloc, "x")?),
+        "y" => Ok(Name::from_text(alloc, "y")?),
+        _ => Ok(Name::from_text(alloc, "*")?),
+    }
 }
 
 // The value at the end, before a line `c`, in a field of each line, or for each `a`.
@@ -111,33 +111,63 @@ fn script_of(rt: &impl Abort, alloc: Global, text: &str) -> Result<Script, Fail>
     Ok(Script::new(alloc, Parts::from_vec(edits))?)
 }
 
+fn path_act(alloc: Global, word: &str, path: &str) -> Result<Act, Fail>
+    ensures { IfOk result IsAct }
+{
+    let path = path_of(alloc, path)?;
+    Ok(match word {
+        "create" => Act::Create(path),
+        "mkdir" => Act::MakeDir(path),
+        "delete" => Act::Delete(path, false),
+        _ => Act::Delete(path, true),
+    })
+}
+
+fn service_act(alloc: Global, word: &str, name: &str) -> Result<Act, Fail>
+    ensures { IfOk result IsAct }
+{
+    let name = Name::from_text(alloc, name)?;
+    Ok(match word {
+        "start" => Act::Start(name),
+        "stop" => Act::Stop(name),
+        "enable" => Act::Enable(name),
+        "disable" => Act::Disable(name),
+        _ => Act::Restart(name),
+    })
+}
+
+fn copy_act(alloc: Global, source: &str, path: &str) -> Result<Act, Fail>
+    ensures { IfOk result IsAct }
+{
+    Ok(Act::Copy(path_of(alloc, source)?, path_of(alloc, path)?))
+}
+
+fn edit_act(rt: &impl Abort, alloc: Global, path: &str, script: &str) -> Result<Act, Fail>
+    ensures { IfOk result IsAct }
+{
+    Ok(Act::Edit(path_of(alloc, path)?, script_of(rt, alloc, script)?))
+}
+
+fn act_of_two(rt: &impl Abort, alloc: Global, word: &str, text: &str) -> Result<Act, Fail>
+    ensures { IfOk result IsAct }
+{
+    let (first, second) = pair(rt, text, " ");
+    match word {
+        "content" => content_act(rt, alloc, first, second),
+        "copy" => copy_act(alloc, first, second),
+        _ => edit_act(rt, alloc, first, second),
+    }
+}
+
 pub fn act_of(rt: &impl Abort, alloc: Global, text: &str) -> Result<Act, Fail>
     ensures { IfOk result IsAct }
 {
     let (word, rest) = pair(rt, text, " ");
-    Ok(match word {
-        "create" => Act::Create(path_of(alloc, rest)?),
-        "mkdir" => Act::MakeDir(path_of(alloc, rest)?),
-        "delete" => Act::Delete(path_of(alloc, rest)?, false),
-        "rmdir" => Act::Delete(path_of(alloc, rest)?, true),
-        "content" => {
-            let (path, bytes) = pair(rt, rest, " ");
-            content_act(rt, alloc, path, bytes)?
-        }
-        "copy" => {
-            let (source, path) = pair(rt, rest, " ");
-            Act::Copy(path_of(alloc, source)?, path_of(alloc, path)?)
-        }
-        "edit" => {
-            let (path, script) = pair(rt, rest, " ");
-            Act::Edit(path_of(alloc, path)?, script_of(rt, alloc, script)?)
-        }
-        "perms" => perms_act(rt, alloc, rest)?,
-        "start" => Act::Start(Name::from_text(alloc, rest)?),
-        "stop" => Act::Stop(Name::from_text(alloc, rest)?),
-        "enable" => Act::Enable(Name::from_text(alloc, rest)?),
-        "disable" => Act::Disable(Name::from_text(alloc, rest)?),
-        "restart" => Act::Restart(Name::from_text(alloc, rest)?),
-        _ => Act::Bust(Reason::BadValue),
-    })
+    match word {
+        "create" | "mkdir" | "delete" | "rmdir" => path_act(alloc, word, rest),
+        "content" | "copy" | "edit" => act_of_two(rt, alloc, word, rest),
+        "perms" => perms_act(rt, alloc, rest),
+        "start" | "stop" | "enable" | "disable" | "restart" => service_act(alloc, word, rest),
+        _ => Ok(Act::Bust(Reason::BadValue)),
+    }
 }

@@ -8,7 +8,7 @@ use cfa_acts::{
     needed_change_keeps_post, needed_change_makes_post, settles_as_lines,
 };
 use cfa_base::{Bytes, Name, escape};
-use cfa_outside::{Change, MemorySite, Node, Perms, ServiceRow, World};
+use cfa_outside::{Change, MemorySite, Node, Path, Perms, ServiceRow, World};
 use std::alloc::Global;
 use std::process::Abort;
 use std::test::Fail;
@@ -31,23 +31,21 @@ fn add_file(alloc: Global, world: &mut World, text: &str, bytes: &[u8]) -> Resul
     Ok(world.nodes.add(alloc, &path_of(alloc, text)?, file)?)
 }
 
-// The files `/d/f` and `/f` with an `x`, `/g` with a `y`, three files to edit and one that is no text, the empty directory
-// `/e`, and three services. Calls of that number fail.
-fn site_of(alloc: Global, failing_call: u32) -> Result<MemorySite, Fail> {
-    let mut world = World::new(alloc);
-    add_dir(alloc, &mut world, "/d")?;
-    add_file(alloc, &mut world, "/d/f", b"x")?;
-    add_dir(alloc, &mut world, "/e")?;
+fn add_files(alloc: Global, world: &mut World) -> Result<(), Fail> {
     for (path, text) in [
+        ("/d/f", "x"),
         ("/f", "x"),
         ("/g", "y"),
         ("/a", "a\n"),
         ("/p", "root:x:0\n"),
         ("/q", "root:*:0\n"),
     ] {
-        add_file(alloc, &mut world, path, text.as_bytes())?;
+        add_file(alloc, world, path, text.as_bytes())?;
     }
-    add_file(alloc, &mut world, "/raw", &[0xff])?;
+    add_file(alloc, world, "/raw", &[0xff])
+}
+
+fn add_services(alloc: Global, world: &mut World) -> Result<(), Fail> {
     for (name, running, enabled, restarts) in [
         ("on", true, true, 3),
         ("off", false, false, 0),
@@ -60,6 +58,17 @@ fn site_of(alloc: Global, failing_call: u32) -> Result<MemorySite, Fail> {
         };
         world.services.insert(Name::from_text(alloc, name)?, row)?;
     }
+    Ok(())
+}
+
+// The files `/d/f` and `/f` with an `x`, `/g` with a `y`, three files to edit and one that is no text, the empty directory
+// `/e`, and three services. Calls of that number fail.
+fn site_of(alloc: Global, failing_call: u32) -> Result<MemorySite, Fail> {
+    let mut world = World::new(alloc);
+    add_dir(alloc, &mut world, "/d")?;
+    add_dir(alloc, &mut world, "/e")?;
+    add_files(alloc, &mut world)?;
+    add_services(alloc, &mut world)?;
     Ok(MemorySite::new(alloc, world, vec![in alloc; failing_call]?, None)?)
 }
 
@@ -71,35 +80,42 @@ fn told_bytes(alloc: Global, bytes: &Bytes) -> Result<Name, Fail> {
     }
 }
 
+fn told_file(alloc: Global, path: &Path, bytes: &Bytes) -> Result<String, Fail> {
+    let text = told_bytes(alloc, bytes)?;
+    let (path, text) = (path.text().as_str(), text.as_str());
+    Ok(format!(in alloc; "put {path} '{text}'")?)
+}
+
+fn told_perms(alloc: Global, path: &Path, perms: &Perms) -> Result<String, Fail> {
+    let (path, mode) = (path.text().as_str(), perms.mode);
+    let (owner, group) = (perms.owner.as_str(), perms.group.as_str());
+    Ok(format!(in alloc; "set {path} {mode} {owner} {group}")?)
+}
+
+fn told_row(alloc: Global, name: &Name, row: &ServiceRow) -> Result<String, Fail> {
+    let (name, running, enabled) = (name.as_str(), row.running, row.enabled);
+    let restarts = row.restarts;
+    Ok(format!(in alloc; "row {name} {running} {enabled} {restarts}")?)
+}
+
 fn told_change(alloc: Global, change: &Change) -> Result<String, Fail> {
-    Ok(match change {
-        Change::PutFile(path, bytes) => {
-            let (path, text) = (path.text().as_str(), told_bytes(alloc, bytes)?);
-            format!(in alloc; "put {path} '{}'", text.as_str())?
-        }
-        Change::PutDir(path) => format!(in alloc; "dir {}", path.text().as_str())?,
-        Change::Remove(path) => format!(in alloc; "remove {}", path.text().as_str())?,
-        Change::SetPerms(path, perms) => {
-            let (path, mode) = (path.text().as_str(), perms.mode);
-            let (owner, group) = (perms.owner.as_str(), perms.group.as_str());
-            format!(in alloc; "set {path} {mode} {owner} {group}")?
-        }
-        Change::PutService(name, row) => {
-            let (name, running, enabled) = (name.as_str(), row.running, row.enabled);
-            let restarts = row.restarts;
-            format!(in alloc; "row {name} {running} {enabled} {restarts}")?
-        }
-        _ => String::from_str(alloc, "other")?,
-    })
+    match change {
+        Change::PutFile(path, bytes) => told_file(alloc, path, bytes),
+        Change::PutDir(path) => Ok(format!(in alloc; "dir {}", path.text().as_str())?),
+        Change::Remove(path) => Ok(format!(in alloc; "remove {}", path.text().as_str())?),
+        Change::SetPerms(path, perms) => told_perms(alloc, path, perms),
+        Change::PutService(name, row) => told_row(alloc, name, row),
+        _ => Ok(String::from_str(alloc, "other")?),
+    }
 }
 
 pub fn told(alloc: Global, decision: &Decision) -> Result<String, Fail> {
-    Ok(match decision {
-        Decision::Kept => String::from_str(alloc, "kept")?,
-        Decision::Needs(change) => told_change(alloc, change)?,
-        Decision::Fail(reason) => String::from_str(alloc, reason.code())?,
-        Decision::Fault(call) => format!(in alloc; "fault {call:?}")?,
-    })
+    match decision {
+        Decision::Kept => Ok(String::from_str(alloc, "kept")?),
+        Decision::Needs(change) => told_change(alloc, change),
+        Decision::Fail(reason) => Ok(String::from_str(alloc, reason.code())?),
+        Decision::Fault(call) => Ok(format!(in alloc; "fault {call:?}")?),
+    }
 }
 
 fn told_of(alloc: Global, failing_call: u32, act: &Act) -> Result<String, Fail>

@@ -1,27 +1,19 @@
 // Journals and records.
-use cfa_base::{Bytes, Key, Name, NoMemory, PromiseId};
+use crate::tables::{ZEROS, with_zeros};
+use cfa_base::{Bytes, Key, Name, PromiseId};
 use cfa_journal::{JournalErr, MOST_JOURNAL_BYTES, Record, audit, read, write};
 use std::alloc::Global;
 use std::test::Fail;
 
-const ZEROS: &str = "0000000000000000000000000000000000000000000000000000000000000000";
-
-// A text with 64 zeros for each `Z`.
-fn journal_of(alloc: Global, text: &str) -> Result<Bytes, NoMemory> {
-    let mut bytes = Bytes::from_slice(alloc, &[])?;
-    for part in text.split_inclusive('Z') {
-        match part.strip_suffix("Z") {
-            Some(front) => {
-                bytes.append(front.as_bytes())?;
-                bytes.append(ZEROS.as_bytes())?;
-            }
-            None => bytes.append(part.as_bytes())?,
-        }
+// The number of records and of torn bytes of a journal, or of its first bad line, with `Z` for 64 zeros.
+fn read_as(alloc: Global, text: &str) -> Result<Result<(usize, u64), u32>, Fail> {
+    match read(alloc, &with_zeros(alloc, text)?) {
+        Ok(journal) => Ok(Ok((journal.records.as_slice().len(), journal.torn))),
+        Err(JournalErr::BadRecord(line)) => Ok(Err(line)),
+        Err(_) => Ok(Err(0)),
     }
-    Ok(bytes)
 }
 
-// The texts of journals, with `Z` for 64 zeros: the number of records and of torn bytes, or of the first bad line.
 #[test]
 fn journals(rt: HostRuntime) -> Result<(), Fail> {
     let alloc = rt.alloc();
@@ -55,22 +47,14 @@ fn journals(rt: HostRuntime) -> Result<(), Fail> {
         ("run 5\nstop 6\nrun 7", Err(2)),
     ];
     for (text, answer) in rows {
-        let bytes = journal_of(alloc, text)?;
-        match read(alloc, &bytes) {
-            Ok(journal) => {
-                let found = (journal.records.as_slice().len(), journal.torn);
-                assert!(rt; answer == Ok(found), "{text}");
-            }
-            Err(JournalErr::BadRecord(line)) => assert!(rt; answer == Err(line), "{text}"),
-            Err(_) => assert!(rt; false, "{text}"),
-        }
+        assert!(rt; read_as(alloc, text)? == answer, "{text}");
     }
     Ok(())
 }
 
 // Of each run of the journal its moment, and what was repaired, failed and left open.
 fn runs_of(alloc: Global, text: &str) -> Result<String, Fail> {
-    let journal = read(alloc, &journal_of(alloc, text)?)?;
+    let journal = read(alloc, &with_zeros(alloc, text)?)?;
     let mut told = String::new(alloc);
     for run in audit(alloc, &journal)?.as_slice() {
         let (repaired, failed, opened) = (run.repaired, run.failed, run.opened);

@@ -6,7 +6,7 @@ use cfa_hostdir::{
 use std::alloc::Global;
 use std::test::Fail;
 
-const ZEROS: &str = "0000000000000000000000000000000000000000000000000000000000000000";
+pub const ZEROS: &str = "0000000000000000000000000000000000000000000000000000000000000000";
 
 // The rows of a table, written again.
 fn rewritten(alloc: Global, kind: &str, bytes: &Bytes) -> Result<Bytes, TableErr> {
@@ -21,19 +21,11 @@ fn rewritten(alloc: Global, kind: &str, bytes: &Bytes) -> Result<Bytes, TableErr
     }
 }
 
-// The bytes of a text, with 64 zeros for each `Z`.
-fn with_zeros(alloc: Global, text: &str) -> Result<Bytes, NoMemory> {
-    let mut bytes = Bytes::from_vec(Vec::new(alloc));
-    for part in text.split_inclusive('Z') {
-        match part.strip_suffix("Z") {
-            Some(front) => {
-                bytes.append(front.as_bytes())?;
-                bytes.append(ZEROS.as_bytes())?;
-            }
-            None => bytes.append(part.as_bytes())?,
-        }
-    }
-    Ok(bytes)
+/// The bytes of a text, with 64 zeros for each `Z`.
+pub fn with_zeros(alloc: Global, text: &str) -> Result<Bytes, NoMemory> {
+    let parts: Vec<&str> = text.split('Z').collect(alloc)?;
+    let whole = parts.join(alloc, ZEROS)?;
+    Bytes::from_slice(alloc, whole.as_bytes())
 }
 
 // Whether the table is read and written again as it was, where no bad line is given, and else is refused at that line.

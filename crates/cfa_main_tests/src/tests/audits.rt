@@ -1,6 +1,5 @@
 // Audits of journals: their lines, and the refusals of journals.
 use super::{Case, PLAIN, compare_on, empty_site, inputs_of};
-use cfa_base::{Bytes, NoMemory};
 use std::alloc::Global;
 use std::process::Abort;
 use std::test::Fail;
@@ -127,18 +126,10 @@ const AUDITS: [Case<'static>; 20] = [
     },
 ];
 
-fn journal_of(alloc: Global, text: &str) -> Result<Bytes, NoMemory> {
-    let mut bytes = Bytes::from_slice(alloc, &[])?;
-    for part in text.split_inclusive('Z') {
-        match part.strip_suffix("Z") {
-            Some(front) => {
-                bytes.append(front.as_bytes())?;
-                bytes.append(ZEROS.as_bytes())?;
-            }
-            None => bytes.append(part.as_bytes())?,
-        }
-    }
-    Ok(bytes)
+// A text with 64 zeros for each `Z`.
+fn journal_of(alloc: Global, text: &str) -> Result<String, Fail> {
+    let parts: Vec<&str> = text.split('Z').collect(alloc)?;
+    Ok(parts.join(alloc, ZEROS)?)
 }
 
 // Audits a journal of these bytes on a site that would fail, and compares.
@@ -152,7 +143,7 @@ fn compare_audit(rt: &impl Abort, alloc: Global, case: &Case, journal: &[u8]) ->
 fn audits_journals(rt: HostRuntime) -> Result<(), Fail> {
     for case in &AUDITS {
         let journal = journal_of(rt.alloc(), case.text)?;
-        compare_audit(&rt, rt.alloc(), case, journal.as_slice())?;
+        compare_audit(&rt, rt.alloc(), case, journal.as_bytes())?;
     }
     Ok(())
 }
