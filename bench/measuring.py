@@ -1,6 +1,7 @@
 """What the scripts of this folder share: a command that is run and measured, and the program where it isn't given."""
 
 import os
+import statistics
 import subprocess
 import time
 
@@ -45,4 +46,21 @@ def program_of(words):
 
 def growth(value, before):
     """How many times more than before, as text."""
-    return f"{value / before:7.1f}" if before else "      -"
+    return times(value / before if before else None)
+
+
+def times(number):
+    """How many times more, as text, where it is known."""
+    return f"{number:7.1f}" if number else "      -"
+
+
+def in_turns(run, before=None, rounds=5):
+    """A run of some, the one with the median of their processor time, and how many times more of it they take than runs of what
+    was measured before, in the median. The speed of a machine may change from one second to the next by far more than a growth
+    that is looked for, so ten runs of what was measured before stand beside each run."""
+    runs, times = [], []
+    for _ in range(rounds):
+        beside = [before().cpu for _ in range(10)] if before else []
+        runs.append(run())
+        times += [runs[-1].cpu / statistics.mean(beside)] if before else []
+    return sorted(runs, key=lambda one: one.cpu)[rounds // 2], statistics.median(times) if before else None
