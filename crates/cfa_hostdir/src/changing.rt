@@ -6,13 +6,40 @@ use crate::kept_rows::KeptRows;
 use crate::layout::Table;
 use crate::looking::{Spot, ends_component};
 use crate::putting::{Leaf, put, remove};
-use cfa_base::{Key, Name};
+use cfa_base::{Bytes, Key, Name};
 use cfa_outside::{Change, Path, Perms, ServiceRow};
 use cfa_tables::{RowChange, change_line};
 use std::alloc::Global;
 use std::fs::OpenFile;
 use std::io::Write;
 use std::rt::Files;
+
+// The line of a changed row that is made for it alone.
+fn line_of(alloc: Global, change: RowChange) -> Result<Bytes, HostErr> {
+    Ok(change_line(alloc, &change)?)
+}
+
+// The row of a node's permissions.
+fn perms_row(alloc: Global, path: &Path, perms: &Perms) -> Result<(Path, Perms), HostErr> {
+    Ok((path.copy(alloc)?, perms.copy(alloc)?))
+}
+
+fn perms_line(alloc: Global, path: &Path, perms: &Perms) -> Result<Bytes, HostErr> {
+    let (path, perms) = perms_row(alloc, path, perms)?;
+    line_of(alloc, RowChange::Permissions(path, perms))
+}
+
+fn gone_line(alloc: Global, path: &Path) -> Result<Bytes, HostErr> {
+    line_of(alloc, RowChange::Gone(path.copy(alloc)?))
+}
+
+fn service_line(alloc: Global, name: &Name, row: ServiceRow) -> Result<Bytes, HostErr> {
+    line_of(alloc, RowChange::Service(name.copy(alloc)?, row))
+}
+
+fn lock_line(alloc: Global, key: &Key, moment: u64) -> Result<Bytes, HostErr> {
+    line_of(alloc, RowChange::Lock(key.copy(), moment))
+}
 
 // A row that was put stays where its line was written, and gives way to what it replaced where it wasn't.
 fn keep_if<V: Drop>(
@@ -36,7 +63,7 @@ impl<F: Write + OpenFile> Held<F> {
         path: &str,
     ) -> Result<(), HostErr> {
         let line = match self.tables.perms.get(path) {
-            Some(row) => change_line(alloc, &RowChange::Gone(row.0.copy(alloc)?))?,
+            Some(row) => gone_line(alloc, &row.0)?,
             None => return Ok(()),
         };
         self.note(rt, Table::Perms, &line)?;
@@ -102,6 +129,35 @@ impl<F: Write + OpenFile> Held<F> {
         Ok(())
     }
 
+    // Refuses a path at which no node stands.
+    fn find_node<R: Files<File = F>>(
+        &mut self,
+        rt: &R,
+        alloc: Global,
+        text: &str,
+    ) -> Result<(), HostErr> {
+        let real = self.layout.real(alloc, text)?;
+        match self.spot(rt, real.as_str())? {
+            Spot::File(_) | Spot::Dir => Ok(()),
+            Spot::Missing(_) | Spot::Blocked => Err(HostErr::Refused),
+        }
+    }
+
+    fn put_perms_row<R: Files<File = F>>(
+        &mut self,
+        rt: &R,
+        alloc: Global,
+        path: &Path,
+        perms: &Perms,
+        line: &Bytes,
+    ) -> Result<(), HostErr> {
+        let text = path.text().as_str();
+        let row = perms_row(alloc, path, perms)?;
+        let old = self.tables.perms.put_at(alloc, text, row)?;
+        let noted = self.note(rt, Table::Perms, line);
+        keep_if(noted, &mut self.tables.perms, text, old)
+    }
+
     fn set_perms<R: Files<File = F>>(
         &mut self,
         rt: &R,
@@ -109,18 +165,9 @@ impl<F: Write + OpenFile> Held<F> {
         path: &Path,
         perms: &Perms,
     ) -> Result<(), HostErr> {
-        let text = path.text().as_str();
-        let real = self.layout.real(alloc, text)?;
-        match self.spot(rt, real.as_str())? {
-            Spot::File(_) | Spot::Dir => {}
-            Spot::Missing(_) | Spot::Blocked => return Err(HostErr::Refused),
-        }
-        let change = RowChange::Permissions(path.copy(alloc)?, perms.copy(alloc)?);
-        let line = change_line(alloc, &change)?;
-        let row = (path.copy(alloc)?, perms.copy(alloc)?);
-        let old = self.tables.perms.put(String::from_str(alloc, text)?, row)?;
-        let noted = self.note(rt, Table::Perms, &line);
-        keep_if(noted, &mut self.tables.perms, text, old)
+        self.find_node(rt, alloc, path.text().as_str())?;
+        let line = perms_line(alloc, path, perms)?;
+        self.put_perms_row(rt, alloc, path, perms, &line)
     }
 
     fn put_service<R: Files<File = F>>(
@@ -134,9 +181,9 @@ impl<F: Write + OpenFile> Held<F> {
         if !self.tables.services.has(text) {
             return Err(HostErr::Refused);
         }
-        let line = change_line(alloc, &RowChange::Service(name.copy(alloc)?, row))?;
-        let key = String::from_str(alloc, text)?;
-        let old = self.tables.services.put(key, (name.copy(alloc)?, row))?;
+        let line = service_line(alloc, name, row)?;
+        let kept = (name.copy(alloc)?, row);
+        let old = self.tables.services.put_at(alloc, text, kept)?;
         let noted = self.note(rt, Table::Services, &line);
         keep_if(noted, &mut self.tables.services, text, old)
     }
@@ -149,9 +196,9 @@ impl<F: Write + OpenFile> Held<F> {
         moment: u64,
     ) -> Result<(), HostErr> {
         let text = key.text();
-        let line = change_line(alloc, &RowChange::Lock(key.copy(), moment))?;
+        let line = lock_line(alloc, key, moment)?;
         let row = (key.copy(), moment);
-        let old = self.tables.locks.put(String::from_str(alloc, text)?, row)?;
+        let old = self.tables.locks.put_at(alloc, text, row)?;
         let noted = self.note(rt, Table::Locks, &line);
         keep_if(noted, &mut self.tables.locks, text, old)
     }
@@ -166,7 +213,7 @@ impl<F: Write + OpenFile> Held<F> {
         if !self.is_sound() {
             return Err(HostErr::Refused);
         }
-        match change {
+        let made = match change {
             Change::PutFile(path, bytes) => {
                 self.put_leaf(rt, alloc, path, Leaf::File(bytes.as_slice()))
             }
@@ -176,6 +223,8 @@ impl<F: Write + OpenFile> Held<F> {
             Change::PutService(name, row) => self.put_service(rt, alloc, name, *row),
             Change::PutLock(key, moment) => self.put_lock(rt, alloc, key, *moment),
             Change::Append(bytes) => self.append(rt, bytes),
-        }
+        };
+        self.forget_file();
+        made
     }
 }

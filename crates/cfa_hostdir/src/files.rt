@@ -1,6 +1,6 @@
 // Real files, read and written whole.
 use crate::errors::HostErr;
-use crate::looking::{Kind, kind_at};
+use crate::looking::{Found, Kind, kind_at};
 use cfa_base::Bytes;
 use std::alloc::Global;
 use std::fs;
@@ -49,19 +49,21 @@ fn read_to_end<F: Read>(
     Err(HostErr::Refused)
 }
 
-/// The bytes of a regular file of no more than `most` bytes. What was opened is held against what was looked at, so that
-/// a file that was put in its place meanwhile isn't read.
-pub fn read_file<R: Files>(rt: &R, alloc: Global, path: &str, most: u64) -> Result<Bytes, HostErr> {
-    let named = rt.symlink_metadata(path)?;
-    if !named.is_file() || named.len() > most {
-        return Err(HostErr::Refused);
-    }
+/// The bytes of a regular file of no more than `most` bytes. What is opened is held against what was found,
+/// so that a file that was put in its place meanwhile isn't read.
+pub fn read_found<R: Files>(
+    rt: &R,
+    alloc: Global,
+    path: &str,
+    found: Found,
+    most: u64,
+) -> Result<Bytes, HostErr> {
     let mut file = fs::open(rt, path)?;
-    let found = file.metadata()?;
-    if found.dev() != named.dev() || found.ino() != named.ino() {
+    let opened = file.metadata()?;
+    if opened.dev() != found.device || opened.ino() != found.inode || opened.len() > most {
         return Err(HostErr::Refused);
     }
-    read_to_end(alloc, &mut file, found.len(), most)
+    read_to_end(alloc, &mut file, opened.len(), most)
 }
 
 /// The bytes of a regular file, none where nothing stands there.
@@ -73,7 +75,7 @@ pub fn read_if_there<R: Files>(
 ) -> Result<Bytes, HostErr> {
     match kind_at(rt, path)? {
         Kind::Missing => Ok(Bytes::from_vec(Vec::new(alloc))),
-        Kind::File(_) => read_file(rt, alloc, path, most),
+        Kind::File(found) => read_found(rt, alloc, path, found, most),
         Kind::Dir | Kind::Other => Err(HostErr::Refused),
     }
 }

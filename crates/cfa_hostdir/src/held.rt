@@ -1,11 +1,12 @@
 // A host whose folder is held: what it answers, and how it writes its tables.
 use crate::errors::HostErr;
-use crate::files::read_file;
+use crate::files::read_found;
 use crate::growing::Growing;
 use crate::kept_rows::HostTables;
 use crate::layout::{Layout, Table};
-use crate::looking::{Spot, folder_of, has_nodes, is_beneath, walk};
+use crate::looking::{Found, Spot, has_nodes, walk};
 use crate::putting::{Lasting, Leaf, put};
+use crate::walked::Walked;
 use cfa_base::{Bytes, MOST_FILE_BYTES};
 use cfa_outside::{Look, Path, Perms, root_perms};
 use std::alloc::Global;
@@ -70,9 +71,7 @@ pub struct Held<F> {
     most_changes: u64,
     // False once a change of the tree is seen that may not last.
     sound: bool,
-    // The real path of the directory in which a file was found last, empty where there is none. It was walked to, and no part of
-    // it was a link.
-    walked: String,
+    walked: Walked,
 }
 
 impl<F: Write + OpenFile> Held<F> {
@@ -83,7 +82,7 @@ impl<F: Write + OpenFile> Held<F> {
         changed: Changed,
         changes: Growing<F>,
         journal: Growing<F>,
-        walked: String,
+        walked: Walked,
     ) -> Held<F> {
         Held {
             layout,
@@ -114,35 +113,36 @@ impl<F: Write + OpenFile> Held<F> {
         }
     }
 
-    // Keeps the folder of a file that was found.
-    fn keep_walked(&mut self, real: &str) -> Result<(), HostErr> {
-        let folder = folder_of(real)?;
-        if self.walked.as_str() != folder {
-            self.walked.clear();
-            self.walked.push_str(folder)?;
-        }
-        Ok(())
-    }
-
     /// What stands at a real path of the host. Where it is in the directory in which a file was found last, it is walked
     /// to from there.
     pub fn spot<R: Files<File = F>>(&mut self, rt: &R, real: &str) -> Result<Spot, HostErr> {
-        let walked = self.walked.as_str();
-        let from = if is_beneath(real, walked) {
-            walked.len().saturating_add(1)
-        } else {
-            self.layout.tree.len()
-        };
+        let from = self.walked.start_of(real, self.layout.tree.len());
         let spot = walk(rt, real, from)?;
-        if let Spot::File(_) = spot {
-            self.keep_walked(real)?;
+        if let Spot::File(found) = spot {
+            self.walked.keep(real, found)?;
         }
         Ok(spot)
     }
 
     /// Directories may be gone: each path is walked to from the root again.
     pub fn forget_walked(&mut self) {
-        self.walked.clear();
+        self.walked.forget();
+    }
+
+    /// Another file may stand where one was found.
+    pub fn forget_file(&mut self) {
+        self.walked.forget_file();
+    }
+
+    // The file at a real path, which is looked at unless it is the one that was found last.
+    fn file_at<R: Files<File = F>>(&mut self, rt: &R, real: &str) -> Result<Found, HostErr> {
+        if let Some(found) = self.walked.file_at(real) {
+            return Ok(found);
+        }
+        match self.spot(rt, real)? {
+            Spot::File(found) => Ok(found),
+            Spot::Missing(_) | Spot::Blocked | Spot::Dir => Err(HostErr::Refused),
+        }
     }
 
     pub fn look<R: Files<File = F>>(
@@ -155,7 +155,7 @@ impl<F: Write + OpenFile> Held<F> {
         match self.spot(rt, real.as_str())? {
             Spot::Missing(_) => Ok(Look::Nothing),
             Spot::Blocked => Ok(Look::Blocked),
-            Spot::File(size) => Ok(Look::File(size)),
+            Spot::File(found) => Ok(Look::File(found.size)),
             Spot::Dir => Ok(Look::Dir(!has_nodes(rt, real.as_str())?)),
         }
     }
@@ -167,12 +167,8 @@ impl<F: Write + OpenFile> Held<F> {
         path: &Path,
     ) -> Result<Bytes, HostErr> {
         let real = self.layout.real(alloc, path.text().as_str())?;
-        if folder_of(real.as_str())? != self.walked.as_str() {
-            let Spot::File(_) = self.spot(rt, real.as_str())? else {
-                return Err(HostErr::Refused);
-            };
-        }
-        read_file(rt, alloc, real.as_str(), MOST_FILE_BYTES as u64)
+        let found = self.file_at(rt, real.as_str())?;
+        read_found(rt, alloc, real.as_str(), found, MOST_FILE_BYTES as u64)
     }
 
     pub fn perms<R: Files<File = F>>(

@@ -29,9 +29,15 @@ impl<V: Drop> KeptRows<V> {
         self.rows.contains_key(key)
     }
 
-    /// Puts a row, and gives the one that it replaces.
-    pub fn put(&mut self, key: String, row: V) -> Result<Option<V>, AllocFailed<(String, V)>> {
+    // Puts a row, and gives the one that it replaces.
+    fn put(&mut self, key: String, row: V) -> Result<Option<V>, AllocFailed<(String, V)>> {
         self.rows.insert(key, row)
+    }
+
+    /// Puts a row at the text of its key, and gives the one that it replaces.
+    pub fn put_at(&mut self, alloc: Global, key: &str, row: V) -> Result<Option<V>, HostErr> {
+        let key = String::from_str(alloc, key)?;
+        Ok(self.put(key, row)?)
     }
 
     pub fn remove(&mut self, key: &str) {
@@ -107,21 +113,29 @@ impl HostTables {
     /// Takes the rows of a table's text.
     pub fn take_table(&mut self, alloc: Global, table: Table, text: &Bytes) -> Result<(), HostErr> {
         match table {
-            Table::Perms => {
-                for (path, perms) in read_perms(alloc, text)? {
-                    self.put_perms(alloc, path, perms)?;
-                }
-            }
-            Table::Services => {
-                for (name, row) in read_services(alloc, text)? {
-                    self.put_service(alloc, name, row)?;
-                }
-            }
-            Table::Locks => {
-                for (key, moment) in read_locks(alloc, text)? {
-                    self.put_lock(alloc, key, moment)?;
-                }
-            }
+            Table::Perms => self.take_perms(alloc, text),
+            Table::Services => self.take_services(alloc, text),
+            Table::Locks => self.take_locks(alloc, text),
+        }
+    }
+
+    fn take_perms(&mut self, alloc: Global, text: &Bytes) -> Result<(), HostErr> {
+        for (path, perms) in read_perms(alloc, text)? {
+            self.put_perms(alloc, path, perms)?;
+        }
+        Ok(())
+    }
+
+    fn take_services(&mut self, alloc: Global, text: &Bytes) -> Result<(), HostErr> {
+        for (name, row) in read_services(alloc, text)? {
+            self.put_service(alloc, name, row)?;
+        }
+        Ok(())
+    }
+
+    fn take_locks(&mut self, alloc: Global, text: &Bytes) -> Result<(), HostErr> {
+        for (key, moment) in read_locks(alloc, text)? {
+            self.put_lock(alloc, key, moment)?;
         }
         Ok(())
     }

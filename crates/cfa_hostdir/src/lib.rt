@@ -16,6 +16,7 @@ mod layout;
 mod looking;
 mod opening;
 mod putting;
+mod walked;
 
 pub use cfa_tables::{
     TableErr, read_locks, read_perms, read_services, tables_tell_rows, write_locks, write_perms,

@@ -1,14 +1,23 @@
 // What stands at a real path. No symbolic link is followed: each component is looked at by itself.
 use crate::errors::HostErr;
 use std::io::{ErrorKind, Read};
+use std::os::unix::fs::MetadataExt;
 use std::rt::Files;
+
+/// A regular file that was found: its size, and which file it is.
+#[derive(Clone, Copy, PartialEq, Eq)]
+pub struct Found {
+    pub size: u64,
+    pub device: u64,
+    pub inode: u64,
+}
 
 /// What stands at the end of a real path.
 #[derive(Clone, Copy, PartialEq, Eq)]
 pub enum Kind {
     Missing,
-    /// A regular file, with its size.
-    File(u64),
+    /// A regular file.
+    File(Found),
     Dir,
     /// A symbolic link or a special file.
     Other,
@@ -21,13 +30,17 @@ pub enum Spot {
     Missing(usize),
     /// Nothing, and a file stands above.
     Blocked,
-    File(u64),
+    File(Found),
     Dir,
 }
 
 pub fn kind_at<R: Files>(rt: &R, path: &str) -> Result<Kind, HostErr> {
     match rt.symlink_metadata(path) {
-        Ok(found) if found.is_file() => Ok(Kind::File(found.len())),
+        Ok(found) if found.is_file() => Ok(Kind::File(Found {
+            size: found.len(),
+            device: found.dev(),
+            inode: found.ino(),
+        })),
         Ok(found) if found.is_dir() => Ok(Kind::Dir),
         Ok(_) => Ok(Kind::Other),
         Err(error) if error.kind() == ErrorKind::NotFound => Ok(Kind::Missing),
@@ -75,7 +88,7 @@ pub fn walk<R: Files>(rt: &R, path: &str, from: usize) -> Result<Spot, HostErr> 
     match kind_at(rt, path)? {
         Kind::Missing => Ok(Spot::Missing(path.len())),
         Kind::Dir => Ok(Spot::Dir),
-        Kind::File(size) => Ok(Spot::File(size)),
+        Kind::File(found) => Ok(Spot::File(found)),
         Kind::Other => Err(HostErr::Refused),
     }
 }

@@ -7,12 +7,13 @@ use crate::held::{Changed, Held};
 use crate::kept_rows::HostTables;
 use crate::layout::{Layout, Table};
 use crate::looking::{Kind, kind_at};
+use crate::walked::Walked;
 use cfa_rows::read_rows;
 use cfa_tables::RowChanges;
 use std::alloc::Global;
 use std::fs;
 use std::fs::{OpenFile, OpenOptions};
-use std::io::{ErrorKind, Read, Seek, SeekFrom};
+use std::io::{ErrorKind, Read, Seek, SeekFrom, Write};
 use std::rt::Files;
 
 /// A file that can be taken hold of, against every other opening of it, as long as it is open. The system lets it go
@@ -118,7 +119,7 @@ fn whole_lines<F: Read + Seek>(file: &mut F, len: u64) -> Result<u64, HostErr> {
 fn cut_journal<R: Files>(rt: &R, path: &str) -> Result<u64, HostErr> {
     let len = match kind_at(rt, path)? {
         Kind::Missing => return Ok(0),
-        Kind::File(len) => len,
+        Kind::File(found) => found.size,
         Kind::Dir | Kind::Other => return Err(HostErr::Refused),
     };
     let whole = whole_lines(&mut fs::open(rt, path)?, len)?;
@@ -132,6 +133,56 @@ fn cut_journal<R: Files>(rt: &R, path: &str) -> Result<u64, HostErr> {
     Ok(whole)
 }
 
+// The tables with the rows that changed since they were written, and the length of these rows' lines.
+fn open_tables<R: Files>(
+    rt: &R,
+    alloc: Global,
+    layout: &Layout,
+) -> Result<(HostTables, u64), HostErr> {
+    let mut tables = written_tables(rt, alloc, layout)?;
+    let changes = take_changes(rt, alloc, layout, &mut tables)?;
+    Ok((tables, changes))
+}
+
+// A file that grows, of which so many bytes count.
+fn growing<F: Write + OpenFile>(
+    alloc: Global,
+    path: &str,
+    len: u64,
+) -> Result<Growing<F>, HostErr> {
+    Ok(Growing::new(String::from_str(alloc, path)?, len))
+}
+
+// The journal, without a last line that was cut off.
+fn open_journal<R: Files>(
+    rt: &R,
+    alloc: Global,
+    layout: &Layout,
+) -> Result<Growing<R::File>, HostErr> {
+    let path = layout.journal.as_str();
+    let len = cut_journal(rt, path)?;
+    growing(alloc, path, len)
+}
+
+// The host in a folder that is held.
+fn open_held<R: Files>(
+    rt: &R,
+    alloc: Global,
+    layout: Layout,
+    folder: R::File,
+) -> Result<Held<R::File>, HostErr> {
+    let (tables, len) = open_tables(rt, alloc, &layout)?;
+    let journal = open_journal(rt, alloc, &layout)?;
+    let changes = growing(alloc, layout.changes.as_str(), len)?;
+    let changed = if len == 0 {
+        Changed::NONE
+    } else {
+        Changed::ALL
+    };
+    let walked = Walked::new(alloc);
+    Ok(Held::new(layout, folder, tables, changed, changes, journal, walked))
+}
+
 /// The host in a folder, which is held from then on.
 pub fn open_host<R: Files>(rt: &R, alloc: Global, root: &str) -> Result<Held<R::File>, HostErr>
 where
@@ -139,23 +190,5 @@ where
 {
     let layout = Layout::new(alloc, root)?;
     let folder = hold(rt, root)?;
-    let mut tables = written_tables(rt, alloc, &layout)?;
-    let changes = take_changes(rt, alloc, &layout, &mut tables)?;
-    let journal = cut_journal(rt, layout.journal.as_str())?;
-    let changes_path = String::from_str(alloc, layout.changes.as_str())?;
-    let journal_path = String::from_str(alloc, layout.journal.as_str())?;
-    let changed = if changes == 0 {
-        Changed::NONE
-    } else {
-        Changed::ALL
-    };
-    Ok(Held::new(
-        layout,
-        folder,
-        tables,
-        changed,
-        Growing::new(changes_path, changes),
-        Growing::new(journal_path, journal),
-        String::new(alloc),
-    ))
+    open_held(rt, alloc, layout, folder)
 }
