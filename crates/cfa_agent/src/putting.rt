@@ -9,16 +9,16 @@ use crate::actuating::Actuation;
 use crate::running::Tally;
 use cfa_acts::Reason;
 use cfa_base::{Name, PromiseId};
-use cfa_output::{Item, Stop, line, put_all};
+use cfa_output::{Item, Stop, line_of, put_all};
 use cfa_outside::Sink;
 use cfa_resolve::copy_id;
 use std::alloc::Global;
 
 // Puts the line of an item.
-fn put_item<O: Sink>(alloc: Global, item: &Item, out: &mut O) -> Result<(), Stop>
-    ensures { LinePut (line_of item.now) (O.shown out.old) (O.shown out.new) result }
+fn put_item<O: Sink>(alloc: Global, item: Item, out: &mut O) -> Result<(), Stop>
+    ensures { LinePut (line_of item) (O.shown out.old) (O.shown out.new) result }
 {
-    let text = line(alloc, item)?;
+    let text = line_of(alloc, item)?;
     put_all(out, text.as_str().as_bytes())?;
     Ok(())
 }
@@ -35,7 +35,7 @@ fn put_failed<O: Sink>(
     let id = copy_id(alloc, id)?;
     let code = Name::from_text(alloc, reason.code())?;
     let word = Name::from_text(alloc, reason.word())?;
-    put_item(alloc, &Item::Failed(id, code, word), out)
+    put_item(alloc, Item::Failed(id, code, word), out)
 }
 
 // Without a change nothing was repaired.
@@ -51,7 +51,7 @@ fn put_repaired<O: Sink>(
         return Ok(());
     }
     let id = copy_id(alloc, id)?;
-    put_item(alloc, &Item::Repaired(id, u64::from(changes)), out)
+    put_item(alloc, Item::Repaired(id, u64::from(changes)), out)
 }
 
 /// Puts the line of an instance with acts that has ended. A kept one has none.
@@ -74,7 +74,7 @@ pub fn put_report<O: Sink>(alloc: Global, text: &Name, out: &mut O) -> Result<()
     ensures { LinePut (report_line text.now) (O.shown out.old) (O.shown out.new) result }
 {
     let text = text.copy(alloc)?;
-    put_item(alloc, &Item::Report(text), out)
+    put_item(alloc, Item::Report(text), out)
 }
 
 /// Puts the line of the total.
@@ -82,5 +82,5 @@ pub fn put_total<O: Sink>(alloc: Global, tally: Tally, out: &mut O) -> Result<()
     ensures { LinePut (last_line (counts_of tally)) (O.shown out.old) (O.shown out.new) result }
 {
     let item = Item::Total(tally.kept, tally.repaired, tally.failed, tally.skipped);
-    put_item(alloc, &item, out)
+    put_item(alloc, item, out)
 }

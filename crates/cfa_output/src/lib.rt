@@ -8,5 +8,5 @@ mod puts;
 
 pub use ends::{Failure, Object, Stop};
 pub use items::{End, Halt, Item};
-pub use lines::line;
+pub use lines::{line, line_of};
 pub use puts::{SinkFailed, put_all};

@@ -14,6 +14,13 @@ pub fn line(alloc: Global, item: &Item) -> Result<Name, NoMemory>
     Ok(Name::from_string(text(alloc, item)?)?)
 }
 
+/// The line of an item that is made for it alone, and let go.
+pub fn line_of(alloc: Global, item: Item) -> Result<Name, NoMemory>
+    ensures { IfOk result (λ name. name ≡ line_of item) }
+{
+    line(alloc, &item)
+}
+
 fn text(alloc: Global, item: &Item) -> Result<String, AllocError>
     ensures { IfOk result (λ text. string_bytes text ≡ line_of item.now) }
 {

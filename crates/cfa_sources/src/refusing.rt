@@ -1,5 +1,6 @@
 // The lines of refusals.
 ghost use Rattle.std.specs.Prelude.{◌≡◌, IfOk};
+ghost use Rattle.cfa_output.specs.Lines.{source_long_line};
 ghost use Rattle.cfa_sources.specs.Lines.{line_at};
 ghost use Rattle.cfa_sources.specs.Checks.{file_name, schema_line};
 ghost use Rattle.cfa_sources.specs.Steps.{LexTells, ParseTells};
@@ -7,7 +8,7 @@ ghost use Rattle.cfa_sources.specs.Steps.{LexTells, ParseTells};
 use crate::headings::heading_of;
 use cfa_base::{Name, NoMemory, Place};
 use cfa_lexer::LexErr;
-use cfa_output::{Item, Stop, line};
+use cfa_output::{Item, Stop, line_of};
 use cfa_parser::ParseErr;
 use cfa_schema::Refusal;
 use std::alloc::Global;
@@ -25,10 +26,17 @@ fn line_at(
     let code = Name::from_text(alloc, code)?;
     let word = Name::from_text(alloc, word)?;
     let (row, col) = (u64::from(place.line), u64::from(place.col));
-    line(
+    line_of(
         alloc,
-        &Item::Refused(name.copy(alloc)?, row, col, code, word),
+        Item::Refused(name.copy(alloc)?, row, col, code, word),
     )
+}
+
+// The line of a file that is too long.
+fn long_line(alloc: Global, name: &Name) -> Result<Name, NoMemory>
+    ensures { IfOk result (λ line. line ≡ source_long_line name.now) }
+{
+    line_of(alloc, Item::SourceLong(name.copy(alloc)?))
 }
 
 /// The line of the lexer's refusal of a file.
@@ -36,7 +44,7 @@ pub fn lex_line(alloc: Global, name: &Name, error: LexErr) -> Result<Name, Stop>
     ensures { LexTells name.now error result }
 {
     match error {
-        LexErr::TooLong => Ok(line(alloc, &Item::SourceLong(name.copy(alloc)?))?),
+        LexErr::TooLong => Ok(long_line(alloc, name)?),
         LexErr::NotText(place) => Ok(line_at(alloc, name, place, "L3", "NotText")?),
         LexErr::BadByte(place) => Ok(line_at(alloc, name, place, "L1", "BadByte")?),
         LexErr::UnclosedText(place) => Ok(line_at(alloc, name, place, "L2", "UnclosedText")?),
