@@ -10,16 +10,11 @@ use Rattle.cfa_lexer.specs.declared.tokens.Token.{Token}
 use Rattle.cfa_lexer.specs.Lexed.{plain}
 use Rattle.cfa_tree.specs.declared.blocks.Policy.{Policy}
 use Rattle.cfa_tree.specs.Plain.{plain_policy}
-use Rattle.cfa_tree.specs.Tree.{PolicyTree}
 use Rattle.cfa_tree.specs.Grammar.{unlimited, depth_limit, ReadsWithin}
 use Rattle.cfa_parser.specs.declared.errors.ParseErr.{ParseErr}
 use Rattle.cfa_parser.specs.declared.errors.ParseErr.TheVariants.{Unexpected, TooDeep, NoMemory}
-use Rattle.cfa_parser.specs.declared.headings.HeadingState.{HeadingState}
-use Rattle.cfa_parser.specs.declared.headings.HeadingState.TheVariants.{HasBlockWord, HasKind, HasBlockName, WantsFirstParam, HasParam, WantsParam, HasParams}
-use Rattle.cfa_parser.specs.declared.reader.State.{State}
-use Rattle.cfa_parser.specs.declared.reader.State.TheVariants.{BetweenBlocks, InHeading, InBundle, InBody}
-use Rattle.cfa_parser.specs.Machine.{Machine, start, step, run, whole, whole_at}
-use Rattle.cfa_parser.specs.Seen.{seen_heading_state, seen_state, Refused, StopsAtToken}
+use Rattle.cfa_parser.specs.Machine.{Machine, start, step, run, whole}
+use Rattle.cfa_parser.specs.Seen.{Refused, StopsAtToken}
 use Rattle.cfa_parser.specs.Reading.{UnexpectedAt}
 use Rattle.cfa_parser.proofs.Limits.{run_beyond}
 use Rattle.cfa_parser.proofs.Readings.{run_append, run_begins, stop_ends, whole_reads, unended}
@@ -81,18 +76,3 @@ read_err ts m None end is ends place h =
     let same : end ≡ place = cc in
     subst (λ (z : Place). UnexpectedAt ts end z) same (ends_open ts end m is (sym ends))
 read_err ts m (Some policy) end is ends place h = absurd (cc)
-
-heading_open : (blocks : PolicyTree) (h : HeadingState) → None ≡ whole_at blocks (seen_heading_state h)
-heading_open blocks (HasBlockWord block place) = refl
-heading_open blocks (HasKind block place kind) = refl
-heading_open blocks (HasBlockName heading) = refl
-heading_open blocks (WantsFirstParam heading) = refl
-heading_open blocks (HasParam heading) = refl
-heading_open blocks (WantsParam heading) = refl
-heading_open blocks (HasParams heading) = refl
-
-pub still_open : (blocks : PolicyTree) (state : State) → (state ≡ BetweenBlocks → ⊥) → None ≡ whole_at blocks (seen_state state)
-still_open blocks BetweenBlocks isnt = absurd (isnt refl)
-still_open blocks (InHeading heading) isnt = heading_open blocks heading
-still_open blocks (InBundle heading sections state) isnt = refl
-still_open blocks (InBody heading attributes state) isnt = refl

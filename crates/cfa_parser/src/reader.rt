@@ -1,5 +1,5 @@
 // The reading of a policy, token by token.
-ghost use Rattle.std.specs.Prelude.{◌≡◌, ◌++◌, ◌∷◌, [], Some, IfOk, IfErr, IsErrOf, map, option_map};
+ghost use Rattle.std.specs.Prelude.{◌≡◌, ◌↔◌, ◌++◌, ◌∷◌, [], Some, IfOk, IfErr, IsErrOf, IsTrue, map, option_map};
 ghost use Rattle.cfa_base.specs.declared.places.Place as declared;
 ghost use Rattle.cfa_lexer.specs.Lexed.{plain};
 ghost use Rattle.cfa_tree.specs.Grammar.{depth_limit, ReadsWithin};
@@ -217,16 +217,27 @@ fn take_all(alloc: Global, tokens: &[Token<'_>]) -> Result<Reader, ParseErr>
     Ok(reader)
 }
 
-// The policy, where no block is open.
+// Whether no block is open.
+fn is_between_blocks(state: &State) -> bool
+    ensures { IsTrue result ↔ state.now ≡ State.BetweenBlocks }
+{
+    matches!(state, State::BetweenBlocks)
+}
+
+// The policy, where no block is open. The state is let go by a call: taken apart here, its many cases would cost more than all other functions
+// of this file.
 fn whole_policy(reader: Reader) -> Option<Policy>
     ensures { option_map plain_policy result ≡ whole (seen_reader reader) }
 {
     let Reader { blocks, state } = reader;
-    match state {
-        State::BetweenBlocks => Some(Policy {
+    let is_whole = is_between_blocks(&state);
+    drop(state);
+    if is_whole {
+        Some(Policy {
             blocks: Parts::from_vec(blocks),
-        }),
-        _ => None,
+        })
+    } else {
+        None
     }
 }
 

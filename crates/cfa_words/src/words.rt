@@ -74,27 +74,25 @@ fn texts_of<'a>(alloc: Global, words: &'a [Name]) -> Result<Vec<&'a str>, NoMemo
 fn command_line<'a>(alloc: Global) -> Result<Command<'a>, AllocError>
     ensures { IfOk result (λ c. app_of c ≡ command_line_app) }
 {
-    let command = Arg::new(alloc, "command").required(true);
-    let argument = Arg::new(alloc, "argument").required(true);
-    let extra = Arg::new(alloc, "extra");
-    let no_lock = Arg::new(alloc, "no-lock")
-        .short('K')
-        .long("no-lock")
-        .action(ArgAction::SetTrue);
-    let strict = Arg::new(alloc, "strict")
-        .long("strict")
-        .action(ArgAction::SetTrue);
-    let define = Arg::new(alloc, "define").short('D').long("define");
     Command::new(alloc, "diwalmeq")
         .no_binary_name(true)
         .disable_help_flag(true)
         .disable_version_flag(true)
-        .arg(command)?
-        .arg(argument)?
-        .arg(extra)?
-        .arg(no_lock)?
-        .arg(strict)?
-        .arg(define)
+        .arg(Arg::new(alloc, "command").required(true))?
+        .arg(Arg::new(alloc, "argument").required(true))?
+        .arg(Arg::new(alloc, "extra"))?
+        .arg(
+            Arg::new(alloc, "no-lock")
+                .short('K')
+                .long("no-lock")
+                .action(ArgAction::SetTrue),
+        )?
+        .arg(
+            Arg::new(alloc, "strict")
+                .long("strict")
+                .action(ArgAction::SetTrue),
+        )?
+        .arg(Arg::new(alloc, "define").short('D').long("define"))
 }
 
 // What the words give, or `None` where the parser refuses them.
