@@ -38,11 +38,23 @@ fn call<I: Inputs, S: Site, O: Sink, P: Patterns>(
         (P.shown pats.old) (P.shown pats.new) result }
 {
     match prepare(alloc, words, moment, inputs, pats) {
-        Ok(work) => match perform(alloc, &work, moment, site, out, pats) {
-            Ok(end) => end_status(end),
-            Err(stop) => put_stop(&stop, out),
-        },
-        Err(failure) => put_failure(&failure, out),
+        Ok(work) => {
+            let done = perform(alloc, &work, moment, site, out, pats);
+            drop(work);
+            match done {
+                Ok(end) => end_status(end),
+                Err(stop) => {
+                    let status = put_stop(&stop, out);
+                    drop(stop);
+                    status
+                }
+            }
+        }
+        Err(failure) => {
+            let status = put_failure(&failure, out);
+            drop(failure);
+            status
+        }
     }
 }
 

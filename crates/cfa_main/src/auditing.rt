@@ -7,7 +7,7 @@ ghost use Rattle.cfa_main.specs.Stages.{BytesRead, JournalTells, JournalAudited}
 
 use cfa_base::{Bytes, Name, NoMemory};
 use cfa_journal::{Journal, JournalErr, MOST_JOURNAL_BYTES, audit, read};
-use cfa_output::{Failure, Item, Object, Stop, line};
+use cfa_output::{Failure, Item, Object, Stop, line_of};
 use cfa_outside::{Inputs, OutsideErr};
 use std::alloc::Global;
 
@@ -33,18 +33,18 @@ fn refusal_line(alloc: Global, name: &Name, error: JournalErr) -> Result<Name, S
     let name = name.copy(alloc)?;
     match error {
         JournalErr::BadRecord(number) => {
-            Ok(line(alloc, &Item::JournalBad(name, u64::from(number)))?)
+            Ok(line_of(alloc, Item::JournalBad(name, u64::from(number)))?)
         }
-        JournalErr::TooLong => Ok(line(alloc, &Item::JournalLong(name))?),
+        JournalErr::TooLong => Ok(line_of(alloc, Item::JournalLong(name))?),
         JournalErr::NoMemory => Err(Stop::Memory),
     }
 }
 
 // Adds the line of an item.
-fn append_line(alloc: Global, text: &mut String, item: &Item) -> Result<(), NoMemory>
-    ensures { OnOk result (string_bytes text.new ≡ string_bytes text.old ++ line_of item.now) }
+fn append_line(alloc: Global, text: &mut String, item: Item) -> Result<(), NoMemory>
+    ensures { OnOk result (string_bytes text.new ≡ string_bytes text.old ++ line_of item) }
 {
-    let line = line(alloc, item)?;
+    let line = line_of(alloc, item)?;
     text.push_str(line.as_str())?;
     Ok(())
 }
@@ -58,10 +58,10 @@ fn audit_lines(alloc: Global, journal: &Journal) -> Result<Name, NoMemory>
     let mut text = String::new(alloc);
     for run in runs.as_slice() {
         let item = Item::Audit(run.moment, run.repaired, run.failed, run.opened);
-        append_line(alloc, &mut text, &item)?;
+        append_line(alloc, &mut text, item)?;
     }
     if journal.torn > 0 {
-        append_line(alloc, &mut text, &Item::Torn(journal.torn))?;
+        append_line(alloc, &mut text, Item::Torn(journal.torn))?;
     }
     Ok(Name::from_string(text)?)
 }

@@ -11,7 +11,7 @@ use cfa_agent::Tally;
 use cfa_base::{LAST_MOMENT, Name, NoMemory, Patterns};
 use cfa_conflict::{Conflict, Verdict, analyse};
 use cfa_convergence::run;
-use cfa_output::{End as SettledEnd, Item, Stop, line, put_all};
+use cfa_output::{End as SettledEnd, Item, Stop, line_of, put_all};
 use cfa_outside::{Sink, Site};
 use cfa_walk::WalkErr;
 use std::alloc::Global;
@@ -66,8 +66,7 @@ fn put_verdict<O: Sink>(alloc: Global, verdict: Verdict, out: &mut O) -> Result<
     ensures { VerdictPut verdict (O.shown out.old) (O.shown out.new) result }
 {
     let end = verdict_end(&verdict);
-    let item = verdict_item(alloc, verdict)?;
-    let text = line(alloc, &item)?;
+    let text = line_of(alloc, verdict_item(alloc, verdict)?)?;
     put_all(out, text.as_str().as_bytes())?;
     Ok(end)
 }

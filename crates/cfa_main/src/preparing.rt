@@ -9,7 +9,7 @@ use crate::auditing::audit_journal;
 use crate::work::{PolicyInContext, PolicyRun, Work};
 use cfa_base::{LAST_MOMENT, Name, Names, NoMemory, Patterns};
 use cfa_classes::hard;
-use cfa_output::{Failure, Item, line};
+use cfa_output::{Failure, Item, line_of};
 use cfa_outside::Inputs;
 use cfa_printer::print;
 use cfa_sources::{read_policy, read_tree_of};
@@ -99,10 +99,10 @@ fn prepare_request<I: Inputs, P: Patterns>(
 }
 
 // The refusal that this item tells.
-fn refusal(alloc: Global, item: &Item) -> Failure
-    ensures { IsRefusalWith (line_of item.now) result }
+fn refusal(alloc: Global, item: Item) -> Failure
+    ensures { IsRefusalWith (line_of item) result }
 {
-    match line(alloc, item) {
+    match line_of(alloc, item) {
         Ok(line) => Failure::Refused(line),
         Err(error) => Failure::from(error),
     }
@@ -120,10 +120,10 @@ pub fn prepare<I: Inputs, P: Patterns>(
         (P.shown pats.old) (P.shown pats.new) result }
 {
     let Some(request) = read_words(alloc, words)? else {
-        return Err(refusal(alloc, &Item::WordsRefused));
+        return Err(refusal(alloc, Item::WordsRefused));
     };
     if moment > LAST_MOMENT {
-        return Err(refusal(alloc, &Item::MomentRefused));
+        return Err(refusal(alloc, Item::MomentRefused));
     }
     prepare_request(alloc, &request, moment, inputs, pats)
 }

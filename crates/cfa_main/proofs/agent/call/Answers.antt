@@ -26,13 +26,13 @@ module _ (words : List (List ℕ)) (moment : ℕ) (inputs inputs' : Shown Librar
       Called words moment inputs inputs' site site' out out' pats pats' status
   at_stop stop mid done put = stopped_at_work stop mid prepared (subst (λ k. Performed work moment site site' out mid k pats' (Err stop)) kept_is done) put
 
-pub returns-in-Ok-perform : goal.returns-in-Ok-perform
-returns-in-Ok-perform g c = at_end c.args.words.now c.args.moment (g.I.Inputs.shown c.args.inputs.now) (g.I.Inputs.shown c.prepare.new.inputs) (g.S.Site.shown c.args.site.now) (g.S.Site.shown c.perform.new.site) (g.O.Sink.shown c.args.out.now) (g.O.Sink.shown c.perform.new.out)
-    (g.P.Patterns.shown c.args.pats.now) (g.P.Patterns.shown c.prepare.new.pats) (g.P.Patterns.shown c.perform.new.pats) c.end_status.result c.in-Ok.work c.in-Ok.ensures c.in-Ok-perform.end c.in-Ok-perform.ensures c.end_status.ensures
+pub returns-in-Ok-done : goal.returns-in-Ok-done
+returns-in-Ok-done g c = at_end c.args.words.now c.args.moment (g.I.Inputs.shown c.args.inputs.now) (g.I.Inputs.shown c.prepare.new.inputs) (g.S.Site.shown c.args.site.now) (g.S.Site.shown c.perform-done.new.site) (g.O.Sink.shown c.args.out.now) (g.O.Sink.shown c.perform-done.new.out)
+    (g.P.Patterns.shown c.args.pats.now) (g.P.Patterns.shown c.prepare.new.pats) (g.P.Patterns.shown c.perform-done.new.pats) c.end_status.result c.in-Ok.work c.in-Ok.ensures c.in-Ok-done.end c.in-Ok-done.ensures c.end_status.ensures
 
-pub returns-in-Ok : goal.returns-in-Ok
-returns-in-Ok g c = at_stop c.args.words.now c.args.moment (g.I.Inputs.shown c.args.inputs.now) (g.I.Inputs.shown c.prepare.new.inputs) (g.S.Site.shown c.args.site.now) (g.S.Site.shown c.perform.new.site) (g.O.Sink.shown c.args.out.now) (g.O.Sink.shown c.put_stop.new.out)
-    (g.P.Patterns.shown c.args.pats.now) (g.P.Patterns.shown c.prepare.new.pats) (g.P.Patterns.shown c.perform.new.pats) c.put_stop.result c.in-Ok.work c.in-Ok.ensures c.in-Err-perform.stop (g.O.Sink.shown c.perform.new.out) c.in-Err-perform.ensures c.put_stop.ensures
+pub returns-in-Err-done : goal.returns-in-Err-done
+returns-in-Err-done g c = at_stop c.args.words.now c.args.moment (g.I.Inputs.shown c.args.inputs.now) (g.I.Inputs.shown c.prepare.new.inputs) (g.S.Site.shown c.args.site.now) (g.S.Site.shown c.perform-done.new.site) (g.O.Sink.shown c.args.out.now) (g.O.Sink.shown c.put_stop-status.new.out)
+    (g.P.Patterns.shown c.args.pats.now) (g.P.Patterns.shown c.prepare.new.pats) (g.P.Patterns.shown c.perform-done.new.pats) c.put_stop-status.result c.in-Ok.work c.in-Ok.ensures c.in-Err-done.stop (g.O.Sink.shown c.perform-done.new.out) c.in-Err-done.ensures c.put_stop-status.ensures
 
-pub returns : goal.returns
-returns g c = not_prepared c.in-Err.ensures refl c.put_failure.ensures
+pub returns-in-Err : goal.returns-in-Err
+returns-in-Err g c = not_prepared c.in-Err.ensures refl c.put_failure-status.ensures
