@@ -1,12 +1,11 @@
-// The tables of a host.
+// The tables of a host: which texts are tables, and what is written of their rows.
+use crate::texts::{parts, text_of};
 use cfa_base::{Bytes, NoMemory};
 use cfa_hostdir::{
     TableErr, read_locks, read_perms, read_services, write_locks, write_perms, write_services,
 };
 use std::alloc::Global;
 use std::test::Fail;
-
-pub const ZEROS: &str = "0000000000000000000000000000000000000000000000000000000000000000";
 
 // The rows of a table, written again.
 fn rewritten(alloc: Global, kind: &str, bytes: &Bytes) -> Result<Bytes, TableErr> {
@@ -21,95 +20,77 @@ fn rewritten(alloc: Global, kind: &str, bytes: &Bytes) -> Result<Bytes, TableErr
     }
 }
 
-/// The bytes of a text, with 64 zeros for each `Z`.
-pub fn with_zeros(alloc: Global, text: &str) -> Result<Bytes, NoMemory> {
-    let parts: Vec<&str> = text.split('Z').collect(alloc)?;
-    let whole = parts.join(alloc, ZEROS)?;
-    Bytes::from_slice(alloc, whole.as_bytes())
-}
-
-// Whether the table is read and written again as it was, where no bad line is given, and else is refused at that line.
-fn reads_as(alloc: Global, kind: &str, text: &str, bad_line: u64) -> Result<bool, NoMemory> {
-    let bytes = with_zeros(alloc, text)?;
+// The first bad line from 1, or 0 where the text is a table that is written again as it was.
+fn bad_line(alloc: Global, kind: &str, text: &str) -> Result<u64, Fail> {
+    let text = text_of(alloc, text)?;
+    let bytes = Bytes::from_slice(alloc, text.as_bytes())?;
     match rewritten(alloc, kind, &bytes) {
-        Ok(again) => Ok(bad_line == 0 && again.as_slice() == bytes.as_slice()),
-        Err(TableErr::BadTable(line)) => Ok(line == bad_line),
-        Err(TableErr::NoMemory) => Err(NoMemory),
+        Ok(again) if again.as_slice() == bytes.as_slice() => Ok(0),
+        Ok(_) => Ok(u64::MAX),
+        Err(TableErr::BadTable(line)) => Ok(line),
+        Err(TableErr::NoMemory) => Err(Fail::from("no memory")),
     }
 }
 
-// A kind of tables, a text, and its first bad line from 1, or 0 where it is a table.
-const TABLES: [(&str, &str, u64); 49] = [
-    ("services", "", 0),
-    ("services", "sshd running enabled 0\n", 0),
-    ("services", "sshd on\n", 1),
-    (
-        "services",
-        "a stopped disabled 4294967295\nb running enabled 7\n",
-        0,
-    ),
-    ("services", "b running enabled 0\na running enabled 0\n", 2),
-    ("services", "a running enabled 0\na stopped enabled 0\n", 2),
-    ("services", "a running enabled 4294967296\n", 1),
-    ("services", "a running enabled 01\n", 1),
-    ("services", "a running enabled +1\n", 1),
-    ("services", "a running enabled\n", 1),
-    ("services", "a running enabled 0", 1),
-    ("services", "a running enabled 0\nb running enabled 0", 2),
-    ("services", "a running enabled 0\n\n", 2),
-    ("services", "\n", 1),
-    ("services", " running enabled 0\n", 1),
-    ("services", "a b running enabled 0\n", 1),
-    ("services", "a  running enabled 0\n", 1),
-    ("services", "a running enabled 0 \n", 1),
-    ("services", "a Running enabled 0\n", 1),
-    ("services", "a%20b running enabled 0\n", 0),
-    ("services", "%2F running enabled 0\n", 1),
-    ("services", "%C3%BC running enabled 0\n", 0),
-    ("services", "%c3%bc running enabled 0\n", 1),
-    ("services", "%C3 running enabled 0\n", 1),
-    (
-        "services",
-        "ab running enabled 0\na%7D running enabled 0\n",
-        0,
-    ),
-    (
-        "services",
-        "a%7D running enabled 0\nab running enabled 0\n",
-        2,
-    ),
-    ("perms", "", 0),
-    ("perms", "/etc/motd 0600 root root\n", 0),
-    ("perms", "/etc/motd 600 root root\n", 1),
-    ("perms", "/a 7777 a b\n/a/b 0000 a b\n", 0),
-    ("perms", "/a/b 7777 a b\n/a 0000 a b\n", 2),
-    ("perms", "/a 0608 root root\n", 1),
-    ("perms", "/a 00600 root root\n", 1),
-    ("perms", "/a 0600 root\n", 1),
-    ("perms", "/a 0600  root\n", 1),
-    ("perms", "/a 0600 root \n", 1),
-    ("perms", "/a 0600 root root x\n", 1),
-    ("perms", "/etc//motd 0600 root root\n", 1),
-    ("perms", "/etc%2Fmotd 0600 root root\n", 1),
-    ("perms", "/a/ 0600 root root\n", 1),
-    ("perms", "/ 0600 root root\n", 1),
-    ("perms", "a 0600 root root\n", 1),
-    ("locks", "", 0),
-    ("locks", "Z 5\n", 0),
-    ("locks", "Z 18446744073709551615\n", 0),
-    ("locks", "Z 18446744073709551616\n", 1),
-    ("locks", "Z 5\nZ 6\n", 2),
-    ("locks", "0 5\n", 1),
-    ("locks", "Z 05\n", 1),
-];
+// A kind of tables, the first bad line or 0, and the text.
+const TABLES: &str = "services 0
+services 0 sshd running enabled 0|
+services 1 sshd on|
+services 0 a stopped disabled 4294967295|b running enabled 7|
+services 2 b running enabled 0|a running enabled 0|
+services 2 a running enabled 0|a stopped enabled 0|
+services 1 a running enabled 4294967296|
+services 1 a running enabled 01|
+services 1 a running enabled +1|
+services 1 a running enabled|
+services 1 a running enabled 0
+services 2 a running enabled 0|b running enabled 0
+services 2 a running enabled 0||
+services 1 |
+services 1  running enabled 0|
+services 1 a b running enabled 0|
+services 1 a  running enabled 0|
+services 1 a running enabled 0 |
+services 1 a Running enabled 0|
+services 0 a%20b running enabled 0|
+services 1 %2F running enabled 0|
+services 0 %C3%BC running enabled 0|
+services 1 %c3%bc running enabled 0|
+services 1 %C3 running enabled 0|
+services 0 ab running enabled 0|a%7D running enabled 0|
+services 2 a%7D running enabled 0|ab running enabled 0|
+perms 0
+perms 0 /etc/motd 0600 root root|
+perms 1 /etc/motd 600 root root|
+perms 0 /a 7777 a b|/a/b 0000 a b|
+perms 2 /a/b 7777 a b|/a 0000 a b|
+perms 1 /a 0608 root root|
+perms 1 /a 00600 root root|
+perms 1 /a 0600 root|
+perms 1 /a 0600  root|
+perms 1 /a 0600 root |
+perms 1 /a 0600 root root x|
+perms 1 /etc//motd 0600 root root|
+perms 1 /etc%2Fmotd 0600 root root|
+perms 1 /a/ 0600 root root|
+perms 1 / 0600 root root|
+perms 1 a 0600 root root|
+locks 0
+locks 0 Z 5|
+locks 0 Z 18446744073709551615|
+locks 1 Z 18446744073709551616|
+locks 2 Z 5|Z 6|
+locks 1 0 5|
+locks 1 Z 05|";
 
 #[test]
 fn tables_read_back(rt: HostRuntime) -> Result<(), Fail> {
-    for (kind, text, bad_line) in TABLES {
-        assert!(rt;
-            reads_as(rt.alloc(), kind, text, bad_line)?,
-            "{kind}: {text}"
-        );
+    for row in TABLES.lines() {
+        let (kind, rest) = parts(row, " ");
+        let (line, text) = parts(rest, " ");
+        let wanted = line.parse::<u64>().unwrap_or(u64::MAX);
+        let found = bad_line(rt.alloc(), kind, text)?;
+        assert_eq!(rt; found, wanted, "{row}");
     }
     Ok(())
 }

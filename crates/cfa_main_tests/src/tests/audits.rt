@@ -1,165 +1,145 @@
 // Audits of journals: their lines, and the refusals of journals.
-use super::{Case, PLAIN, compare_on, empty_site, inputs_of};
-use std::alloc::Global;
-use std::process::Abort;
+use super::run_tables::compare_table;
 use std::test::Fail;
 
-const ZEROS: &str = "0000000000000000000000000000000000000000000000000000000000000000";
+// The journal is the file `j`. A call on the site would fail.
+const AUDITS: &str = "== the agent was stopped in the second repair, and what follows is torn
+! 1
+& j
+run 5
+open 1 main:1@4 0000000000000000000000000000000000000000000000000000000000000000
+done 1 repaired 1
+open 2 main:2@5 0000000000000000000000000000000000000000000000000000000000000000
+run
+$ 0 audit j
+run 5 repaired 1 failed 0 open 1
+torn 3
+$ 0 audit j <2
+run 5 repaired 1 failed 0 open 1
+torn 3
+$ 1 audit j -K
+words: refused
+$ 1 audit
+words: refused
+$ 1 audit j @253370764800
+moment: refused
+$ 4 audit k
+stopped: outside
+$ 4 audit j <1
+stopped: outside
+$ 4 audit j >1
+$ 4 audit j #20
+run 5 repaired 1 failed 0 open 1
+torn 3
+$ 4 audit k >1
+== an empty journal
+! 1
+& j
 
-// One repair was finished, and the agent was stopped in the next.
-const STOPPED: &str = "run 5\nopen 1 main:1@4 Z\ndone 1 repaired 1\nopen 2 main:2@5 Z\nrun";
+$ 0 audit j
+== a repair that stays open
+! 1
+& j
+run 1704103200
+open 1 main:2@6 0000000000000000000000000000000000000000000000000000000000000000
 
-// A case's text is that of the journal `j`, with `Z` for 64 zeros.
-const AUDITED: Case<'static> = Case {
-    words: "audit j",
-    text: STOPPED,
-    lines: "run 5 repaired 1 failed 0 open 1\ntorn 3\n",
-    entries: 0,
-    ..PLAIN
-};
+$ 0 audit j
+run 1704103200 repaired 0 failed 0 open 1
+== two runs
+! 1
+& j
+run 1704103200
+open 1 main:2@6 0000000000000000000000000000000000000000000000000000000000000000
+run 1704103200
+open 1 main:2@6 0000000000000000000000000000000000000000000000000000000000000000
+done 1 repaired 1
+open 2 main:3@11 0000000000000000000000000000000000000000000000000000000000000000
+done 2 repaired 1
 
-const REFUSED: Case<'static> = Case {
-    status: 1,
-    ..AUDITED
-};
+$ 0 audit j
+run 1704103200 repaired 0 failed 0 open 1
+run 1704103200 repaired 2 failed 0 open 0
+== failures
+! 1
+& j
+run 5
+fail 1 a:1@1 0000000000000000000000000000000000000000000000000000000000000000 F5
+open 2 a:1@1 0000000000000000000000000000000000000000000000000000000000000000
+done 2 failed F11
+run 6
 
-const STOPS: Case<'static> = Case {
-    lines: "",
-    status: 4,
-    ..AUDITED
-};
+$ 0 audit j
+run 5 repaired 0 failed 2 open 0
+run 6 repaired 0 failed 0 open 0
+== a torn record of a run
+! 1
+& j
+run 5
+run 6
+$ 0 audit j
+run 5 repaired 0 failed 0 open 0
+torn 5
+== a torn record of an end
+! 1
+& j
+run 5
+open 1 a:1@1 0000000000000000000000000000000000000000000000000000000000000000
+done 1 repaired 1
+$ 0 audit j
+run 5 repaired 0 failed 0 open 1
+torn 17
+== what is torn is no record
+! 1
+& j
+what is torn is no record
+$ 0 audit j
+torn 25
+== an end without its beginning
+! 1
+& j
+run 5
+done 1 repaired 1
 
-const AUDITS: [Case<'static>; 20] = [
-    AUDITED,
-    Case {
-        failing_read: 2,
-        ..AUDITED
-    },
-    Case {
-        text: "",
-        lines: "",
-        ..AUDITED
-    },
-    Case {
-        text: "run 1704103200\nopen 1 main:2@6 Z\n",
-        lines: "run 1704103200 repaired 0 failed 0 open 1\n",
-        ..AUDITED
-    },
-    Case {
-        text: "run 1704103200\nopen 1 main:2@6 Z\nrun 1704103200\nopen 1 main:2@6 Z\ndone 1 repaired 1\nopen 2 main:3@11 Z\ndone 2 repaired 1\n",
-        lines: "run 1704103200 repaired 0 failed 0 open 1\nrun 1704103200 repaired 2 failed 0 open 0\n",
-        ..AUDITED
-    },
-    Case {
-        text: "run 5\nfail 1 a:1@1 Z F5\nopen 2 a:1@1 Z\ndone 2 failed F11\nrun 6\n",
-        lines: "run 5 repaired 0 failed 2 open 0\nrun 6 repaired 0 failed 0 open 0\n",
-        ..AUDITED
-    },
-    Case {
-        text: "run 5\nrun 6",
-        lines: "run 5 repaired 0 failed 0 open 0\ntorn 5\n",
-        ..AUDITED
-    },
-    Case {
-        text: "run 5\nopen 1 a:1@1 Z\ndone 1 repaired 1",
-        lines: "run 5 repaired 0 failed 0 open 1\ntorn 17\n",
-        ..AUDITED
-    },
-    Case {
-        text: "what is torn is no record",
-        lines: "torn 25\n",
-        ..AUDITED
-    },
-    Case {
-        text: "run 5\ndone 1 repaired 1\n",
-        lines: "j:2 J1 BadRecord\n",
-        ..REFUSED
-    },
-    Case {
-        text: "run 5\nopen 1 a:1@1 Z\nopen 2 a:1@1 Z\nrun 05\n",
-        lines: "j:3 J1 BadRecord\n",
-        ..REFUSED
-    },
-    Case {
-        words: "audit j -K",
-        lines: "words: refused\n",
-        ..REFUSED
-    },
-    Case {
-        words: "audit",
-        lines: "words: refused\n",
-        ..REFUSED
-    },
-    Case {
-        moment: 253_370_764_800,
-        lines: "moment: refused\n",
-        ..REFUSED
-    },
-    Case {
-        words: "audit k",
-        lines: "stopped: outside\n",
-        ..STOPS
-    },
-    Case {
-        failing_read: 1,
-        lines: "stopped: outside\n",
-        ..STOPS
-    },
-    Case {
-        failing_put: 1,
-        ..STOPS
-    },
-    Case {
-        room: 20,
-        lines: "run 5 repaired 1 fai",
-        ..STOPS
-    },
-    Case {
-        text: "run 5\nstop\n",
-        failing_put: 1,
-        ..STOPS
-    },
-    Case {
-        words: "audit k",
-        failing_put: 1,
-        ..STOPS
-    },
-];
+$ 1 audit j
+j:2 J1 BadRecord
+== a repair within another
+! 1
+& j
+run 5
+open 1 a:1@1 0000000000000000000000000000000000000000000000000000000000000000
+open 2 a:1@1 0000000000000000000000000000000000000000000000000000000000000000
+run 05
 
-// A text with 64 zeros for each `Z`.
-fn journal_of(alloc: Global, text: &str) -> Result<String, Fail> {
-    let parts: Vec<&str> = text.split('Z').collect(alloc)?;
-    Ok(parts.join(alloc, ZEROS)?)
-}
+$ 1 audit j
+j:3 J1 BadRecord
+== a record of no kind
+! 1
+& j
+run 5
+stop
 
-// Audits a journal of these bytes on a site that would fail, and compares.
-fn compare_audit(rt: &impl Abort, alloc: Global, case: &Case, journal: &[u8]) -> Result<(), Fail> {
-    let mut inputs = inputs_of(alloc, &[("j", journal)], case.failing_read)?;
-    let mut site = empty_site(alloc, 1)?;
-    compare_on(rt, alloc, case, &mut inputs, &mut site)
-}
+$ 4 audit j >1
+";
 
 #[test]
 fn audits_journals(rt: HostRuntime) -> Result<(), Fail> {
-    for case in &AUDITS {
-        let journal = journal_of(rt.alloc(), case.text)?;
-        compare_audit(&rt, rt.alloc(), case, journal.as_bytes())?;
-    }
-    Ok(())
+    compare_table(&rt, rt.alloc(), AUDITS)
 }
 
+// A journal has 16 mebibytes at most.
+const LONGEST: &str = "== a journal of sixteen mebibytes
+! 1
+& long j 16777216
+$ 0 audit j
+torn 16777216
+== a longer journal
+! 1
+& long j 16777217
+$ 1 audit j
+j J2 TooLong
+";
+
 #[test]
-fn a_journal_has_16_mebibytes_at_most(rt: HostRuntime) -> Result<(), Fail> {
-    let over = Case {
-        lines: "j J2 TooLong\n",
-        ..REFUSED
-    };
-    let full = Case {
-        lines: "torn 16777216\n",
-        ..AUDITED
-    };
-    let longer = vec![in rt.alloc(); b'r'; 16_777_217]?;
-    compare_audit(&rt, rt.alloc(), &over, longer.as_slice())?;
-    let longest = vec![in rt.alloc(); b'r'; 16_777_216]?;
-    compare_audit(&rt, rt.alloc(), &full, longest.as_slice())
+fn the_longest_journal(rt: HostRuntime) -> Result<(), Fail> {
+    compare_table(&rt, rt.alloc(), LONGEST)
 }

@@ -6,54 +6,39 @@ use std::alloc::Global;
 use std::fs;
 use std::test::Fail;
 
-fn file_in(alloc: Global, folder: &str, name: &str) -> Result<String, Fail> {
-    Ok(format!(in alloc; "{folder}/{name}")?)
-}
-
-fn write_in(rt: &HostRuntime, folder: &str, name: &str, text: &str) -> Result<(), Fail> {
-    let file = file_in(rt.alloc(), folder, name)?;
-    fs::write(rt, file.as_str(), text)?;
-    Ok(())
-}
-
 // Makes a new folder with an empty tree.
 fn make_folder(rt: &HostRuntime, folder: &str) -> Result<(), Fail> {
     let _ = fs::remove_dir_all(rt, folder);
     fs::create_dir(rt, folder)?;
-    let tree = file_in(rt.alloc(), folder, "tree")?;
+    let tree = format!(in rt.alloc(); "{folder}/tree")?;
     fs::create_dir(rt, tree.as_str())?;
     Ok(())
 }
 
-fn put_dir(rt: &HostRuntime, folder: &str, path: &str) -> Result<(), Fail> {
-    let dir = format!(in rt.alloc(); "{folder}/tree{path}")?;
-    fs::create_dir(rt, dir.as_str())?;
+// Writes a file, whose bytes are told as an escaped field.
+fn put_file(rt: &HostRuntime, file: &str, field: &str) -> Result<(), Fail> {
+    let content = unescape(rt.alloc(), &Name::from_text(rt.alloc(), field)?)?;
+    fs::write(rt, file, content.as_str())?;
     Ok(())
 }
 
-// Writes a file, whose bytes are told as an escaped field.
-fn put_file(rt: &HostRuntime, folder: &str, path: &str, field: &str) -> Result<(), Fail> {
-    let content = unescape(rt.alloc(), &Name::from_text(rt.alloc(), field)?)?;
-    let name = format!(in rt.alloc(); "tree{path}")?;
-    write_in(rt, folder, name.as_str(), content.as_str())
-}
-
 // Makes a directory or a file: `dir PATH` or `file PATH BYTES`.
-fn put_node(rt: &HostRuntime, folder: &str, thing: &str) -> Result<(), Fail> {
-    let (kind, rest) = parts(thing, " ");
+fn put_node(rt: &HostRuntime, folder: &str, given: &str) -> Result<(), Fail> {
+    let (kind, rest) = parts(given, " ");
     let (path, field) = parts(rest, " ");
+    let node = format!(in rt.alloc(); "{folder}/tree{path}")?;
     match kind {
-        "dir" => put_dir(rt, folder, path),
-        "file" => put_file(rt, folder, path, field),
+        "dir" => Ok(fs::create_dir(rt, node.as_str())?),
+        "file" => put_file(rt, node.as_str(), field),
         _ => Ok(()),
     }
 }
 
-// The rows of the services among the things of a host, each `service ROW`.
-fn services_of(alloc: Global, things: &str) -> Result<String, Fail> {
+// The rows of the services of a host.
+fn services_of(alloc: Global, host: &str) -> Result<String, Fail> {
     let mut services = String::new(alloc);
-    for thing in things.lines() {
-        if let Some(row) = thing.strip_prefix("service ") {
+    for line in host.lines() {
+        if let Some(row) = line.strip_prefix("+ service ") {
             services.push_str(row)?;
             services.push_str("\n")?;
         }
@@ -61,17 +46,15 @@ fn services_of(alloc: Global, things: &str) -> Result<String, Fail> {
     Ok(services)
 }
 
-// The host in a new folder that has these things, each on a line of its own.
-pub fn host_in(
-    rt: &HostRuntime,
-    folder: &str,
-    things: &str,
-) -> Result<HostSite<HostRuntime>, Fail> {
+// The host in a new folder, by its lines (`worlds`), which are of directories, files of text and services.
+pub fn host_in(rt: &HostRuntime, folder: &str, host: &str) -> Result<HostSite<HostRuntime>, Fail> {
     make_folder(rt, folder)?;
-    for thing in things.lines() {
-        put_node(rt, folder, thing)?;
+    for line in host.lines() {
+        if let Some(given) = line.strip_prefix("+ ") {
+            put_node(rt, folder, given)?;
+        }
     }
-    let services = services_of(rt.alloc(), things)?;
-    write_in(rt, folder, "services.tab", services.as_str())?;
+    let table = format!(in rt.alloc(); "{folder}/services.tab")?;
+    fs::write(rt, table.as_str(), services_of(rt.alloc(), host)?.as_str())?;
     Ok(HostSite::new(rt.clone()?, Name::from_text(rt.alloc(), folder)?))
 }

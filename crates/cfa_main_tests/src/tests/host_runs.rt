@@ -1,9 +1,8 @@
-// Runs on the real host, in folders that each test makes where it runs. They put what runs on a host in memory put.
-use super::folders::host_in;
-use super::run_tables::{compare_row_on, marked_lines};
+// Runs on the real host, in a folder that the test makes where it runs. They put what runs on a host in memory put.
+use super::run_tables::compare_in_folder;
 use std::test::Fail;
 
-const PASSES: &str = "passes
+const RUNS: &str = "== passes
 bundle agent main
 {
   files:
@@ -31,9 +30,7 @@ settled: no (locks)
 $ 0 run a.cf
 total kept 0 repaired 0 failed 0 skipped 1
 settled: no (locks)
-";
-
-const SETTINGS: &str = "settings
+== settings
 + file /sshd_config Port%2022%0A
 + service sshd running enabled 0
 bundle agent main
@@ -56,9 +53,7 @@ settled: yes
 $ 0 run a.cf -K
 total kept 1 repaired 0 failed 0 skipped 0
 settled: yes
-";
-
-const LINES: &str = "lines
+== lines
 + file /t x
 bundle agent main { files: '/t' edit_line => add('x'); '/t' edit_line => add('y'); '/d/.' create => 'true', perms => m('750');
   '/d/f' content => 'f', perms => m('640'); '/d' delete => tidy; '/no' copy_from => local_cp('/none'); }
@@ -78,11 +73,6 @@ settled: no (failed)
 ";
 
 #[test]
-fn runs_in_folders(rt: HostRuntime) -> Result<(), Fail> {
-    for (folder, row) in [("passes", PASSES), ("settings", SETTINGS), ("lines", LINES)] {
-        let things = marked_lines(rt.alloc(), row, "+ ")?;
-        let mut site = host_in(&rt, folder, things.as_str())?;
-        compare_row_on(&rt, rt.alloc(), row, &mut site)?;
-    }
-    Ok(())
+fn runs_in_a_folder(rt: HostRuntime) -> Result<(), Fail> {
+    compare_in_folder(&rt, &rt, "runs", RUNS)
 }

@@ -1,276 +1,259 @@
 // Policies of several files: which inputs are read, and in which file the first refusal stands.
-use super::{compare_files, compare_inputs};
-use cfa_base::{Bytes, Name};
-use cfa_outside::MemoryInputs;
-use std::alloc::Global;
-use std::process::Abort;
+use super::run_tables::{compare_filled, compare_table};
 use std::test::Fail;
 
-// The texts of a policy's main file and of `b.cf` and `c.cf`, and what a check answers.
-#[derive(Clone, Copy)]
-struct Files<'a> {
-    main: &'a str,
-    b: &'a str,
-    c: &'a str,
-    answer: &'a str,
+const OF_SEVERAL_FILES: &str = "== two inputs
+& a.cf
+body common control { inputs => { 'b.cf', 'c.cf' }; }
+bundle agent main { }
+& b.cf
+bundle agent b { }
+& c.cf
+bundle agent c { }
+$ 0 check a.cf
+valid
+== an input without an ending
+& a.cf
+body common control { inputs => { b, 'b.cf', 'c.cf' }; }
+bundle agent main { }
+& b.cf
+& c.cf
+& b
+$ 0 check a.cf
+valid
+== an item that is a reference is passed over when inputs are read, and refused later
+& a.cf
+body common control { inputs => { $(x), 'b.cf' }; }
+bundle agent main { }
+& b.cf
+$ 1 check a.cf
+a.cf:1:35 S4 WrongValue
+== a fault of an input goes before it
+& a.cf
+body common control { inputs => { $(x), 'b.cf' }; }
+bundle agent main { }
+& b.cf
+%
+$ 1 check a.cf
+b.cf:1:1 L1 BadByte
+== items with references and lists
+& a.cf
+body common control { inputs => { 'a$(x)', '@(l)', @(l), 'c.cf' }; }
+bundle agent main { }
+& b.cf
+%
+& c.cf
 }
+$ 1 check a.cf
+c.cf:1:1 P1 Unexpected
+== an input that stands twice
+& a.cf
+body common control { inputs => { 'b.cf', 'b.cf' }; }
+bundle agent main { }
+& b.cf
+$ 1 check a.cf
+a.cf:1:43 S8 Duplicate
+== an input with a bundle that stands twice
+& a.cf
+body common control { inputs => { 'b.cf', 'b.cf' }; }
+bundle agent main { }
+& b.cf
+bundle agent b { }
+$ 1 check a.cf
+a.cf:1:43 S8 Duplicate
+== an input with a fault that stands twice
+& a.cf
+body common control { inputs => { 'b.cf', 'b.cf' }; }
+bundle agent main { }
+& b.cf
+%
+$ 1 check a.cf
+b.cf:1:1 L1 BadByte
+== an input that stands twice behind another
+& a.cf
+body common control { inputs => { b, 'b', 'c.cf' }; }
+bundle agent main { }
+& c.cf
+& b
+$ 1 check a.cf
+a.cf:1:38 S8 Duplicate
+== inputs that are no list
+& a.cf
+body common control { inputs => 'b.cf'; }
+bundle agent main { }
+& b.cf
+%
+& c.cf
+%
+$ 1 check a.cf
+a.cf:1:33 S4 WrongValue
+== inputs that are a reference to a list
+& a.cf
+body common control { inputs => @(l); }
+bundle agent main { }
+& b.cf
+%
+& c.cf
+%
+$ 1 check a.cf
+a.cf:1:33 S4 WrongValue
+== a name with what looks like a reference
+& a.cf
+body common control { inputs => { '$(a b)' }; }
+bundle agent main { }
+& $(a b)
+$ 1 check a.cf
+a.cf:1:35 S12 ReferenceOutOfScope
+== a body and a bundle of an input
+& a.cf
+body common control { inputs => { 'c.cf' }; }
+bundle agent main { }
+bundle agent d { files: '/a' perms => p; methods: 'm' usebundle => c; }
+& b.cf
+%
+& c.cf
+body perms p { } bundle agent c { }
+$ 0 check a.cf
+valid
+== a fault of the main file goes before those of its inputs
+& a.cf
+body common control { inputs => { 'c.cf', 'b.cf' }; }
+bundle agent main { }
+bundle agent d { filez: }
+& b.cf
+bundle foo b { }
+& c.cf
+bundle foo c { }
+$ 1 check a.cf
+a.cf:3:18 S1 UnknownType
+== then a body that is named in the first input
+& a.cf
+body common control { inputs => { 'c.cf', 'b.cf' }; }
+bundle agent main { }
+& b.cf
+bundle foo b { }
+& c.cf
 
-// Items with references are passed over when inputs are read, and refused later.
-const OF_SEVERAL_FILES: [Files<'static>; 23] = [
-    Files {
-        main: "body common control { inputs => { 'b.cf', 'c.cf' }; }\nbundle agent main { }\n",
-        b: "bundle agent b { }",
-        c: "bundle agent c { }",
-        answer: "valid",
-    },
-    Files {
-        main: "body common control { inputs => { b, 'b.cf', 'c.cf' }; }\nbundle agent main { }\n",
-        b: "",
-        c: "",
-        answer: "valid",
-    },
-    Files {
-        main: "body common control { inputs => { $(x), 'b.cf' }; }\nbundle agent main { }\n",
-        b: "",
-        c: "",
-        answer: "a.cf:1:35 S4 WrongValue",
-    },
-    Files {
-        main: "body common control { inputs => { $(x), 'b.cf' }; }\nbundle agent main { }\n",
-        b: "%",
-        c: "",
-        answer: "b.cf:1:1 L1 BadByte",
-    },
-    Files {
-        main: "body common control { inputs => { 'a$(x)', '@(l)', @(l), 'c.cf' }; }\nbundle agent main { }\n",
-        b: "%",
-        c: "}",
-        answer: "c.cf:1:1 P1 Unexpected",
-    },
-    Files {
-        main: "body common control { inputs => { 'b.cf', 'b.cf' }; }\nbundle agent main { }\n",
-        b: "",
-        c: "",
-        answer: "a.cf:1:43 S8 Duplicate",
-    },
-    Files {
-        main: "body common control { inputs => { 'b.cf', 'b.cf' }; }\nbundle agent main { }\n",
-        b: "bundle agent b { }",
-        c: "",
-        answer: "a.cf:1:43 S8 Duplicate",
-    },
-    Files {
-        main: "body common control { inputs => { 'b.cf', 'b.cf' }; }\nbundle agent main { }\n",
-        b: "%",
-        c: "",
-        answer: "b.cf:1:1 L1 BadByte",
-    },
-    Files {
-        main: "body common control { inputs => { b, 'b', 'c.cf' }; }\nbundle agent main { }\n",
-        b: "",
-        c: "",
-        answer: "a.cf:1:38 S8 Duplicate",
-    },
-    Files {
-        main: "body common control { inputs => 'b.cf'; }\nbundle agent main { }\n",
-        b: "%",
-        c: "%",
-        answer: "a.cf:1:33 S4 WrongValue",
-    },
-    Files {
-        main: "body common control { inputs => @(l); }\nbundle agent main { }\n",
-        b: "%",
-        c: "%",
-        answer: "a.cf:1:33 S4 WrongValue",
-    },
-    Files {
-        main: "body common control { inputs => { '$(a b)' }; }\nbundle agent main { }\n",
-        b: "",
-        c: "",
-        answer: "a.cf:1:35 S12 ReferenceOutOfScope",
-    },
-    Files {
-        main: "body common control { inputs => { 'c.cf' }; }\nbundle agent main { }\nbundle agent d { files: '/a' perms => p; methods: 'm' usebundle => c; }\n",
-        b: "%",
-        c: "body perms p { } bundle agent c { }",
-        answer: "valid",
-    },
-    Files {
-        main: "body common control { inputs => { 'c.cf', 'b.cf' }; }\nbundle agent main { }\nbundle agent d { filez: }\n",
-        b: "bundle foo b { }",
-        c: "bundle foo c { }",
-        answer: "a.cf:3:18 S1 UnknownType",
-    },
-    Files {
-        main: "body common control { inputs => { 'c.cf', 'b.cf' }; }\nbundle agent main { }\n",
-        b: "bundle foo b { }",
-        c: "\n\nbundle agent c { files: '/a' perms => p; }",
-        answer: "c.cf:3:39 S5 UnknownBody",
-    },
-    Files {
-        main: "body common control { inputs => { 'c.cf', 'b.cf' }; }\nbundle agent main { }\n",
-        b: "bundle agent d { }",
-        c: "bundle agent d { }",
-        answer: "b.cf:1:14 S8 Duplicate",
-    },
-    Files {
-        main: "body common control { inputs => { 'b.cf' }; }\nbundle agent main { }\n",
-        b: "body common control { inputs => { 'd.cf' }; }",
-        c: "",
-        answer: "b.cf:1:13 S8 Duplicate",
-    },
-    Files {
-        main: "body common control { inputs => { 'b.cf' }; }\nbundle agent main { }\nbundle agent d { methods: 'm' usebundle => b; }\n",
-        b: "bundle agent b { methods: 'm' usebundle => d; }",
-        c: "",
-        answer: "a.cf:3:44 S9 CallCycle",
-    },
-    Files {
-        main: "body common control { inputs => { 'b.cf', 'c.cf' }; }\nbundle agent main { }\nbundle edit_line d { delete_lines: '('; }\n",
-        b: "bundle edit_line b { delete_lines: '('; }",
-        c: "bundle foo c { }",
-        answer: "c.cf:1:8 S1 UnknownType",
-    },
-    Files {
-        main: "body common control { inputs => { 'b.cf', 'c.cf' }; }\nbundle agent main { }\n",
-        b: "bundle edit_line b { delete_lines: 'a'; }",
-        c: "bundle edit_line c { delete_lines: '('; }",
-        answer: "c.cf:1:36 S13 BadPattern",
-    },
-    Files {
-        main: "body common control { inputs => { 'b.cf', 'c.cf' }; }\nbundle agent d { }\n",
-        b: "bundle edit_line b { delete_lines: '('; }",
-        c: "",
-        answer: "a.cf:1:1 S10 NoSequence",
-    },
-    Files {
-        main: "bundle agent main { files: '/a' content => '$(b.x)'; }\nbody common control { inputs => { 'b.cf' }; }\n",
-        b: "bundle common b { }",
-        c: "",
-        answer: "valid",
-    },
-    Files {
-        main: "bundle agent main { files: '/a' content => '$(b.x)'; }\nbody common control { inputs => { 'b.cf' }; }\n",
-        b: "bundle agent b { }",
-        c: "",
-        answer: "a.cf:1:44 S12 ReferenceOutOfScope",
-    },
-];
 
-// The empty files `b` and `$(a b)` are there too.
-fn check_files(rt: &impl Abort, alloc: Global, row: &Files) -> Result<(), Fail> {
-    let files = [
-        ("a.cf", row.main.as_bytes()),
-        ("b.cf", row.b.as_bytes()),
-        ("c.cf", row.c.as_bytes()),
-        ("b", b"".as_slice()),
-        ("$(a b)", b"".as_slice()),
-    ];
-    let lines = format!(in alloc; "{}\n", row.answer)?;
-    compare_files(
-        rt,
-        alloc,
-        &files,
-        lines.as_str(),
-        u8::from(row.answer != "valid"),
-    )
-}
+bundle agent c { files: '/a' perms => p; }
+$ 1 check a.cf
+c.cf:3:39 S5 UnknownBody
+== a bundle of both inputs
+& a.cf
+body common control { inputs => { 'c.cf', 'b.cf' }; }
+bundle agent main { }
+& b.cf
+bundle agent d { }
+& c.cf
+bundle agent d { }
+$ 1 check a.cf
+b.cf:1:14 S8 Duplicate
+== an input that has control too
+& a.cf
+body common control { inputs => { 'b.cf' }; }
+bundle agent main { }
+& b.cf
+body common control { inputs => { 'd.cf' }; }
+$ 1 check a.cf
+b.cf:1:13 S8 Duplicate
+== a cycle over two files
+& a.cf
+body common control { inputs => { 'b.cf' }; }
+bundle agent main { }
+bundle agent d { methods: 'm' usebundle => b; }
+& b.cf
+bundle agent b { methods: 'm' usebundle => d; }
+$ 1 check a.cf
+a.cf:3:44 S9 CallCycle
+== a type goes before a pattern
+& a.cf
+body common control { inputs => { 'b.cf', 'c.cf' }; }
+bundle agent main { }
+bundle edit_line d { delete_lines: '('; }
+& b.cf
+bundle edit_line b { delete_lines: '('; }
+& c.cf
+bundle foo c { }
+$ 1 check a.cf
+c.cf:1:8 S1 UnknownType
+== a pattern of the second input
+& a.cf
+body common control { inputs => { 'b.cf', 'c.cf' }; }
+bundle agent main { }
+& b.cf
+bundle edit_line b { delete_lines: 'a'; }
+& c.cf
+bundle edit_line c { delete_lines: '('; }
+$ 1 check a.cf
+c.cf:1:36 S13 BadPattern
+== no bundle to begin with goes before a pattern
+& a.cf
+body common control { inputs => { 'b.cf', 'c.cf' }; }
+bundle agent d { }
+& b.cf
+bundle edit_line b { delete_lines: '('; }
+& c.cf
+$ 1 check a.cf
+a.cf:1:1 S10 NoSequence
+== a variable of a common bundle of an input
+& a.cf
+bundle agent main { files: '/a' content => '$(b.x)'; }
+body common control { inputs => { 'b.cf' }; }
+& b.cf
+bundle common b { }
+$ 0 check a.cf
+valid
+== a variable of an agent bundle of an input
+& a.cf
+bundle agent main { files: '/a' content => '$(b.x)'; }
+body common control { inputs => { 'b.cf' }; }
+& b.cf
+bundle agent b { }
+$ 1 check a.cf
+a.cf:1:44 S12 ReferenceOutOfScope
+";
 
 #[test]
 fn checks_policies_of_several_files(rt: HostRuntime) -> Result<(), Fail> {
-    for row in &OF_SEVERAL_FILES {
-        check_files(&rt, rt.alloc(), row)?;
-    }
-    Ok(())
+    compare_table(&rt, rt.alloc(), OF_SEVERAL_FILES)
 }
 
-// The items of a list of inputs, the text of the sixteenth file, and what a check answers.
-const OF_MANY_FILES: [(&str, &str, &str); 6] = [
-    (
-        "{ i1, i2, i3, i4, i5, i6, i7, i8, i9, i10, i11, i12, i13, i14, i15, i16 }",
-        "",
-        "valid",
-    ),
-    (
-        "{ i1, i2, i3, i4, i5, i6, i7, i8, i9, i10, i11, i12, i13, i14, i15, i16, i17 }",
-        "",
-        "a.cf:1:33 S4 WrongValue",
-    ),
-    (
-        "{ i1, i2, i3, i4, i5, i6, i7, i8, i9, i10, i11, i12, i13, i14, i15, i16, i17 }",
-        "%",
-        "i16:1:1 L1 BadByte",
-    ),
-    (
-        "{ $(x), i1, i2, i3, i4, i5, i6, i7, i8, i9, i10, i11, i12, i13, i14, i15, i16 }",
-        "",
-        "a.cf:1:33 S4 WrongValue",
-    ),
-    (
-        "{ $(x), i1, i2, i3, i4, i5, i6, i7, i8, i9, i10, i11, i12, i13, i14, i15, i16 }",
-        "%",
-        "i16:1:1 L1 BadByte",
-    ),
-    (
-        "{ $(x), i1, i2, i3, i4, i5, i6, i7, i8, i9, i10, i11, i12, i13, i14, i15 }",
-        "",
-        "a.cf:1:35 S4 WrongValue",
-    ),
-];
+// A policy of sixteen files beside its own.
+const OF_MANY_FILES: &str = "== <1>
+& a.cf
+body common control { inputs => <1>; }
+bundle agent main { }
+& i1
+& i2
+& i3
+& i4
+& i5
+& i6
+& i7
+& i8
+& i9
+& i10
+& i11
+& i12
+& i13
+& i14
+& i15
+& i16
+<2>
+$ <0> check a.cf
+<3>
+";
 
-fn add_text(
-    alloc: Global,
-    texts: &mut Vec<(Name, Bytes)>,
-    name: &str,
-    text: &str,
-) -> Result<(), Fail> {
-    let bytes = Bytes::from_slice(alloc, text.as_bytes())?;
-    texts.push((Name::from_text(alloc, name)?, bytes))?;
-    Ok(())
-}
-
-// The main file, and the files `i1` to `i16`, of which the last alone has a text.
-fn sixteen_inputs(alloc: Global, main: &str, last: &str) -> Result<MemoryInputs, Fail> {
-    let mut texts = Vec::new(alloc);
-    add_text(alloc, &mut texts, "a.cf", main)?;
-    for number in 1..17 {
-        let name = format!(in alloc; "i{number}")?;
-        let text = if number == 16 { last } else { "" };
-        add_text(alloc, &mut texts, name.as_str(), text)?;
-    }
-    Ok(MemoryInputs::new(alloc, texts, Vec::new(alloc))?)
-}
-
-fn check_many_files(
-    rt: &impl Abort,
-    alloc: Global,
-    items: &str,
-    last: &str,
-    answer: &str,
-) -> Result<(), Fail> {
-    let main = format!(in alloc;
-        "body common control {{ inputs => {items}; }}
-bundle agent main {{ }}
-"
-    )?;
-    let mut inputs = sixteen_inputs(alloc, main.as_str(), last)?;
-    let lines = format!(in alloc;
-        "{answer}
-"
-    )?;
-    compare_inputs(
-        rt,
-        alloc,
-        &mut inputs,
-        lines.as_str(),
-        u8::from(answer != "valid"),
-    )
-}
+// The status, the items of the list of inputs, the text of the sixteenth file, and what a check answers.
+const ITEMS: &str =
+    "0 | { i1, i2, i3, i4, i5, i6, i7, i8, i9, i10, i11, i12, i13, i14, i15, i16 } |  | valid
+1 | { i1, i2, i3, i4, i5, i6, i7, i8, i9, i10, i11, i12, i13, i14, i15, i16, i17 } |  | a.cf:1:33 S4 WrongValue
+1 | { i1, i2, i3, i4, i5, i6, i7, i8, i9, i10, i11, i12, i13, i14, i15, i16, i17 } | % | i16:1:1 L1 BadByte
+1 | { $(x), i1, i2, i3, i4, i5, i6, i7, i8, i9, i10, i11, i12, i13, i14, i15, i16 } |  | a.cf:1:33 S4 WrongValue
+1 | { $(x), i1, i2, i3, i4, i5, i6, i7, i8, i9, i10, i11, i12, i13, i14, i15, i16 } | % | i16:1:1 L1 BadByte
+1 | { $(x), i1, i2, i3, i4, i5, i6, i7, i8, i9, i10, i11, i12, i13, i14, i15 } |  | a.cf:1:35 S4 WrongValue";
 
 #[test]
 fn reads_sixteen_inputs(rt: HostRuntime) -> Result<(), Fail> {
-    for row in &OF_MANY_FILES {
-        check_many_files(&rt, rt.alloc(), row.0, row.1, row.2)?;
-    }
-    Ok(())
+    compare_filled(&rt, rt.alloc(), OF_MANY_FILES, ITEMS)
 }

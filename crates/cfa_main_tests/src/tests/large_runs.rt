@@ -1,186 +1,196 @@
-// Runs of many combinations, and of many files.
-use super::empty_site;
-use super::repeats::{items, repeated};
-use super::run_logs::{Run, compare_lines, compare_run, unlocked_run};
-use super::worlds::site_of;
-use cfa_outside::MemorySite;
-use std::alloc::Global;
-use std::process::Abort;
+// Runs of many combinations, and of many files; and checks and runs of many visits. Each of these tables takes long.
+use super::run_tables::compare_table;
 use std::test::Fail;
 
-// Two lists of so many items each, up to the reports behind them.
-fn lists_of(alloc: Global, first: u32, second: u32) -> Result<String, Fail> {
-    let (first, second) = (items(alloc, first, ".")?, items(alloc, second, "")?);
-    let (first, second) = (first.as_str(), second.as_str());
-    Ok(format!(in alloc;
-        "bundle agent main\n{{\n  vars:\n    'a' slist => {{ {first}}};\n    'b' slist => {{ {second}}};\n  reports:\n"
-    )?)
+const COMBINATIONS: &str = "== 4,096 combinations of two lists, the first list outermost
+& a.cf
+bundle agent main
+{
+  reports:
+    '$(a)$(b)';
+  vars:
+    'a' slist => {
+* 0 16 '#.',
+};
+    'b' slist => {
+* 0 256 '#',
+};
 }
-
-// Two lists, and a report of their combinations.
-fn policy_of_lists(alloc: Global, first: u32, second: u32) -> Result<String, Fail> {
-    let mut text = lists_of(alloc, first, second)?;
-    text.push_str("    '$(a)$(b)';\n}\n")?;
-    Ok(text)
+$ 0 run a.cf -K
+* 0 256 R: 0.#
+* 0 256 R: 1.#
+* 0 256 R: 2.#
+* 0 256 R: 3.#
+* 0 256 R: 4.#
+* 0 256 R: 5.#
+* 0 256 R: 6.#
+* 0 256 R: 7.#
+* 0 256 R: 8.#
+* 0 256 R: 9.#
+* 0 256 R: 10.#
+* 0 256 R: 11.#
+* 0 256 R: 12.#
+* 0 256 R: 13.#
+* 0 256 R: 14.#
+* 0 256 R: 15.#
+total kept 4096 repaired 0 failed 0 skipped 0
+settled: yes
+== 4,097 combinations
+& a.cf
+bundle agent main
+{
+  reports:
+    '$(a)$(b)';
+  vars:
+    'a' slist => {
+* 0 17 '#.',
+};
+    'b' slist => {
+* 0 241 '#',
+};
 }
-
-// Two lists of 64 items each, and so many reports of their combinations, each of which makes 12,288 visits in its three passes. Each
-// variable makes three.
-fn policy_of_reports(alloc: Global, count: u32) -> Result<String, Fail> {
-    let mut text = lists_of(alloc, 64, 64)?;
-    for number in 0..count {
-        text.push_str(format!(in alloc; "    '{number}$(a)$(b)';\n")?.as_str())?;
-    }
-    text.push_str("}\n")?;
-    Ok(text)
-}
-
-// The reports of their combinations, the first list outermost, and the lines behind them.
-fn reports_of(alloc: Global, first: u32, second: u32) -> Result<String, Fail> {
-    let mut lines = String::new(alloc);
-    for a in 0..first {
-        for b in 0..second {
-            lines.push_str(format!(in alloc; "R: {a}.{b}\n")?.as_str())?;
-        }
-    }
-    let count = u64::from(first) * u64::from(second);
-    let total = format!(in alloc;
-        "total kept {count} repaired 0 failed 0 skipped 0\nsettled: yes\n"
-    )?;
-    lines.push_str(total.as_str())?;
-    Ok(lines)
-}
-
-const LOG_OF_TOO_MANY: &str =
-    "append run 1704103200\nappend fail 1 main:3@7 |main 3;bust F13 %24%28a%29%24%28b%29;k=;r=;f=;e=1| F13\n";
-
-const LINES_OF_TOO_MANY: &str =
-    "failed main:3@7 F13 TooMany\ntotal kept 0 repaired 0 failed 1 skipped 0\nsettled: no (failed)\n";
+$ 2 run a.cf -K
+> append run 1704103200
+> append fail 1 main:1@4 |main 1;bust F13 %24%28a%29%24%28b%29;k=;r=;f=;e=1| F13
+failed main:1@4 F13 TooMany
+total kept 0 repaired 0 failed 1 skipped 0
+settled: no (failed)
+";
 
 #[test]
 fn combinations_of_lists(rt: HostRuntime) -> Result<(), Fail> {
-    let text = policy_of_lists(rt.alloc(), 64, 64)?;
-    let lines = reports_of(rt.alloc(), 64, 64)?;
-    let many = unlocked_run(text.as_str(), "", lines.as_str());
-    compare_run(&rt, rt.alloc(), &many, &mut empty_site(rt.alloc(), 0)?)
+    compare_table(&rt, rt.alloc(), COMBINATIONS)
 }
 
-#[test]
-fn too_many_combinations_of_lists(rt: HostRuntime) -> Result<(), Fail> {
-    let text = policy_of_lists(rt.alloc(), 64, 65)?;
-    let too_many = Run {
-        status: 2,
-        ..unlocked_run(text.as_str(), LOG_OF_TOO_MANY, LINES_OF_TOO_MANY)
-    };
-    compare_run(&rt, rt.alloc(), &too_many, &mut empty_site(rt.alloc(), 0)?)
+const FILES: &str = "== 3,000 files, whose paths don't come in the order of their texts
+& a.cf
+bundle agent main { files: '/data/part-0/f0' create => 'true';
+* 1 100 '/data/part-#/f0' create => 'true';
+* 0 100 '/data/part-#/f1' create => 'true';
+* 0 100 '/data/part-#/f2' create => 'true';
+* 0 100 '/data/part-#/f3' create => 'true';
+* 0 100 '/data/part-#/f4' create => 'true';
+* 0 100 '/data/part-#/f5' create => 'true';
+* 0 100 '/data/part-#/f6' create => 'true';
+* 0 100 '/data/part-#/f7' create => 'true';
+* 0 100 '/data/part-#/f8' create => 'true';
+* 0 100 '/data/part-#/f9' create => 'true';
+* 0 100 '/data/part-#/f10' create => 'true';
+* 0 100 '/data/part-#/f11' create => 'true';
+* 0 100 '/data/part-#/f12' create => 'true';
+* 0 100 '/data/part-#/f13' create => 'true';
+* 0 100 '/data/part-#/f14' create => 'true';
+* 0 100 '/data/part-#/f15' create => 'true';
+* 0 100 '/data/part-#/f16' create => 'true';
+* 0 100 '/data/part-#/f17' create => 'true';
+* 0 100 '/data/part-#/f18' create => 'true';
+* 0 100 '/data/part-#/f19' create => 'true';
+* 0 100 '/data/part-#/f20' create => 'true';
+* 0 100 '/data/part-#/f21' create => 'true';
+* 0 100 '/data/part-#/f22' create => 'true';
+* 0 100 '/data/part-#/f23' create => 'true';
+* 0 100 '/data/part-#/f24' create => 'true';
+* 0 100 '/data/part-#/f25' create => 'true';
+* 0 100 '/data/part-#/f26' create => 'true';
+* 0 100 '/data/part-#/f27' create => 'true';
+* 0 100 '/data/part-#/f28' create => 'true';
+* 0 100 '/data/part-#/f29' create => 'true';
 }
-
-// A policy of so many files, whose paths don't come in the order of their texts.
-fn policy_of_files(alloc: Global, count: u32) -> Result<String, Fail> {
-    let mut text = "bundle agent main\n{\n  files:\n".to_string(alloc)?;
-    for number in 0..count {
-        let scattered = u64::from(number) * 7919 % 10007;
-        let line = format!(in alloc;
-            "    \"/data/part-{}/f{number}\" create => \"true\";\n",
-            scattered % 100
-        )?;
-        text.push_str(line.as_str())?;
-    }
-    text.push_str("}\n")?;
-    Ok(text)
-}
-
-// The lines of a run that makes so many files.
-fn repairs_of(alloc: Global, count: u32) -> Result<String, Fail> {
-    let mut lines = String::new(alloc);
-    for number in 0..count {
-        let number = u64::from(number);
-        let line = format!(in alloc; "repaired main:{}@{} 1\n", number + 1, number + 4)?;
-        lines.push_str(line.as_str())?;
-    }
-    let total = format!(in alloc;
-        "total kept 0 repaired {count} failed 0 skipped 0\nsettled: yes\n"
-    )?;
-    lines.push_str(total.as_str())?;
-    Ok(lines)
-}
-
-// Makes a run of 3,000 files, three entries each behind that of the first run.
-fn run_of_files(
-    rt: &impl Abort,
-    alloc: Global,
-    lines: &str,
-    site: &mut MemorySite,
-) -> Result<(), Fail> {
-    let text = policy_of_files(alloc, 3_000)?;
-    compare_lines(rt, alloc, &unlocked_run(text.as_str(), "", lines), site)?;
-    assert!(rt; site.log().len() == 9_001);
-    Ok(())
-}
+$ 0 run a.cf -K
+> 9001 entries
+* 1 3001 repaired main:#@# 1
+total kept 0 repaired 3000 failed 0 skipped 0
+settled: yes
+$ 0 run a.cf -K
+total kept 3000 repaired 0 failed 0 skipped 0
+settled: yes
+";
 
 #[test]
 fn thousands_of_files(rt: HostRuntime) -> Result<(), Fail> {
-    let repairs = repairs_of(rt.alloc(), 3_000)?;
-    let mut site = empty_site(rt.alloc(), 0)?;
-    run_of_files(&rt, rt.alloc(), repairs.as_str(), &mut site)?;
-    let kept = "total kept 3000 repaired 0 failed 0 skipped 0\nsettled: yes\n";
-    run_of_files(&rt, rt.alloc(), kept, &mut site)
+    compare_table(&rt, rt.alloc(), FILES)
 }
 
-const LETTERS: &str =
-    "{ 'a', 'b', 'c', 'd', 'e', 'f', 'g', 'h', 'i', 'j', 'k', 'l', 'm', 'n', 'o', 'p', 'q', 'r', 's', 't', 'u', 'v', 'w', 'x', 'y', 'z' }";
-
-// A check of a policy.
-fn check_of<'a>(text: &'a str, lines: &'a str, status: u8) -> Run<'a> {
-    Run {
-        words: "check a.cf",
-        status,
-        ..unlocked_run(text, "", lines)
-    }
+// A report of the combinations of two lists of 64 items each makes 12,288 visits in its three passes. Each variable makes three.
+const REPORTS: &str = "== nearly too many visits
+& a.cf
+bundle agent main
+{
+  vars:
+    'a' slist => {
+* 0 64 '#.',
+};
+    'b' slist => {
+* 0 64 '#',
+};
+  reports:
+* 0 81 '#$(a)$(b)';
 }
+$ 0 check a.cf
+accepted 0
+";
 
 #[test]
 fn a_check_of_nearly_too_many_visits(rt: HostRuntime) -> Result<(), Fail> {
-    let alloc = rt.alloc();
-    let text = policy_of_reports(alloc, 81)?;
-    let accepted = check_of(text.as_str(), "accepted 0\n", 0);
-    compare_run(&rt, alloc, &accepted, &mut empty_site(alloc, 0)?)
+    compare_table(&rt, rt.alloc(), REPORTS)
 }
+
+const MORE_REPORTS: &str = "== too many visits
+& a.cf
+bundle agent main
+{
+  vars:
+    'a' slist => {
+* 0 64 '#.',
+};
+    'b' slist => {
+* 0 64 '#',
+};
+  reports:
+* 0 82 '#$(a)$(b)';
+}
+$ 6 check a.cf
+stopped: visits
+";
 
 #[test]
 fn a_check_of_too_many_visits(rt: HostRuntime) -> Result<(), Fail> {
-    let alloc = rt.alloc();
-    let text = policy_of_reports(alloc, 82)?;
-    let stopped = check_of(text.as_str(), "stopped: visits\n", 6);
-    compare_run(&rt, alloc, &stopped, &mut empty_site(alloc, 0)?)
+    compare_table(&rt, rt.alloc(), MORE_REPORTS)
 }
 
-// A policy that calls a bundle of 500 reports 26 * 26 times where `/a` was made. The call makes 1,014,000 visits, which only a walk in
-// which `/a` may be repaired has to make where the file stands.
-fn policy_of_rare_visits(alloc: Global) -> Result<String, Fail> {
-    let called = repeated(alloc, "    'r';\n", 500)?;
-    let called = called.as_str();
-    Ok(format!(in alloc;
-        "bundle agent main\n{{\n  vars:\n    'a' slist => {LETTERS};\n    'b' slist => {LETTERS};\n  files:\n    '/a' create => 'true', classes => made;\n  methods:\n    c::\n    'm' usebundle => sub('$(a)$(b)');\n}}\nbundle agent sub(t)\n{{\n  reports:\n    Absent::\n{called}}}\nbody classes made {{ promise_repaired => {{ 'c' }}; }}\n"
-    )?)
+// A bundle of 500 reports is called 26 * 26 times where `/a` was made. The call makes 1,014,000 visits, which only a walk in which
+// `/a` may be repaired has to make where the file stands.
+const RARE_VISITS: &str = "== an analysis that is too large
++ file /a
+& a.cf
+bundle agent main
+{
+  vars:
+    'a' slist => { 'a', 'b', 'c', 'd', 'e', 'f', 'g', 'h', 'i', 'j', 'k', 'l', 'm', 'n', 'o', 'p', 'q', 'r', 's', 't', 'u', 'v', 'w', 'x', 'y', 'z' };
+    'b' slist => { 'a', 'b', 'c', 'd', 'e', 'f', 'g', 'h', 'i', 'j', 'k', 'l', 'm', 'n', 'o', 'p', 'q', 'r', 's', 't', 'u', 'v', 'w', 'x', 'y', 'z' };
+  files:
+    '/a' create => 'true', classes => made;
+  methods:
+    c::
+    'm' usebundle => sub('$(a)$(b)');
 }
+bundle agent sub(t)
+{
+  reports:
+    Absent::
+* 0 500     'r';
+}
+body classes made { promise_repaired => { 'c' }; }
+$ 6 check a.cf
+stopped: visits
+$ 6 run a.cf -K --strict
+stopped: visits
+$ 0 run a.cf -K
+total kept 1 repaired 0 failed 0 skipped 0
+settled: no (limit)
+";
 
 #[test]
 fn an_analysis_that_is_too_large(rt: HostRuntime) -> Result<(), Fail> {
-    let mut site = site_of(rt.alloc(), "+ file /a")?;
-    let text = policy_of_rare_visits(rt.alloc())?;
-    let kept = "total kept 1 repaired 0 failed 0 skipped 0\nsettled: no (limit)\n";
-    for (words, lines, status) in [
-        ("check a.cf", "stopped: visits\n", 6),
-        ("run a.cf -K --strict", "stopped: visits\n", 6),
-        ("run a.cf -K", kept, 0),
-    ] {
-        let run = Run {
-            words,
-            status,
-            ..unlocked_run(text.as_str(), "", lines)
-        };
-        compare_run(&rt, rt.alloc(), &run, &mut site)?;
-    }
-    Ok(())
+    compare_table(&rt, rt.alloc(), RARE_VISITS)
 }

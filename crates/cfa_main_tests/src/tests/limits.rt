@@ -1,190 +1,272 @@
-// The limit of visits, and patterns that are too big, in checks, runs and strict runs.
-use super::repeats::{items, repeated};
-use super::run_logs::{Run, compare_run, unlocked_run};
+// The limit of visits, and patterns that are too big, in checks, runs and strict runs. Each of the tables on visits takes long.
 use super::run_tables::compare_table;
-use super::worlds::site_of;
-use std::alloc::Global;
-use std::process::Abort;
 use std::test::Fail;
 
-// A report behind a guard that isn't set.
-const SILENT: &str = "    'r';\n";
-
-// Makes calls with a policy one after the other on a host, and compares. Each is told by its words, what it adds to the log, what it
-// puts and what it answers.
-fn compare_calls(
-    rt: &impl Abort,
-    alloc: Global,
-    text: &str,
-    host: &str,
-    calls: &[(&str, &str, &str, u8)],
-) -> Result<(), Fail> {
-    let mut site = site_of(alloc, host)?;
-    for call in calls {
-        let run = Run {
-            words: call.0,
-            status: call.3,
-            ..unlocked_run(text, call.1, call.2)
-        };
-        compare_run(rt, alloc, &run, &mut site)?;
-    }
-    Ok(())
+// Policies of a file and 26 * 26 calls of a bundle of 492 silent reports, each behind a guard that isn't set, with so many such reports
+// of their own and so many items in a list. The calls make 676 * 3 * 492 visits, which are 997,776. Each of the passes makes 676 for
+// the calls, one for each of three lists and one for the file; the string makes one in the first pass, in which its list isn't set
+// yet, and one for each item in each later one. So there are 999,817 visits, two more for each item and three more for each report.
+const AT_MOST: &str = "== a run of one visit less than a million
+& a.cf
+bundle agent main
+{
+  vars:
+    'a' slist => { '0', '1', '2', '3', '4', '5', '6', '7', '8', '9', '10', '11', '12', '13', '14', '15', '16', '17', '18', '19', '20', '21', '22', '23', '24', '25', };
+    'b' slist => { '0', '1', '2', '3', '4', '5', '6', '7', '8', '9', '10', '11', '12', '13', '14', '15', '16', '17', '18', '19', '20', '21', '22', '23', '24', '25', };
+    's' string => '$(l)';
+    'l' slist => { '0', };
+  files:
+    '/a' create => 'true';
+  methods:
+    'm' usebundle => sub('$(a).$(b)');
+  reports:
+    Absent::
+* 0 60     'r';
 }
-
-// A policy of a file and 26 * 26 calls of a bundle of 492 silent reports, with so many such reports of its own and so many items in
-// a list. Its calls make 676 * 3 * 492 visits, which are 997,776. Each of its passes makes 676 for the calls, one for each of three
-// lists and one for the file; the string makes one in the first pass, in which its list isn't set yet, and one for each item in each
-// later one. So there are 999,817 visits, two more for each item and three more for each report.
-fn policy_of_calls(alloc: Global, count: u32, reports: u32) -> Result<String, Fail> {
-    let (letters, listed) = (items(alloc, 26, "")?, items(alloc, count, "")?);
-    let own = repeated(alloc, SILENT, reports)?;
-    let called = repeated(alloc, SILENT, 492)?;
-    let (letters, listed) = (letters.as_str(), listed.as_str());
-    let (own, called) = (own.as_str(), called.as_str());
-    Ok(format!(in alloc;
-        "bundle agent main\n{{\n  vars:\n    'a' slist => {{ {letters}}};\n    'b' slist => {{ {letters}}};\n    's' string => '$(l)';\n    'l' slist => {{ {listed}}};\n  files:\n    '/a' create => 'true';\n  methods:\n    'm' usebundle => sub('$(a).$(b)');\n  reports:\n    Absent::\n{own}}}\nbundle agent sub(t)\n{{\n  reports:\n    Absent::\n{called}}}\n"
-    )?)
+bundle agent sub(t)
+{
+  reports:
+    Absent::
+* 0 492     'r';
 }
-
-const MADE: &str =
-    "append run 1704103200\nappend open 1 main:5@9 |main 5;create /a;k=;r=;f=;e=1|\nfile /a=\nappend done 1 repaired 1\n";
-
-const CHECKED: [(&str, &str, &str, u8); 1] = [("check a.cf", "", "accepted 1\n", 0)];
-
-const RUN: [(&str, &str, &str, u8); 1] = [(
-    "run a.cf -K",
-    MADE,
-    "repaired main:5@9 1\ntotal kept 676 repaired 1 failed 0 skipped 0\nsettled: yes\n",
-    0,
-)];
-
-const RUN_STRICTLY: [(&str, &str, &str, u8); 1] = [(
-    "run a.cf -K --strict",
-    "",
-    "total kept 677 repaired 0 failed 0 skipped 0\nsettled: yes\n",
-    0,
-)];
-
-const OBEYED: [(&str, &str, &str, u8); 2] = [
-    ("check a.cf", "", "stopped: visits\n", 6),
-    ("run a.cf -K --strict", "", "stopped: visits\n", 6),
-];
-
-const STOPPED: [(&str, &str, &str, u8); 1] = [(
-    "run a.cf -K",
-    MADE,
-    "repaired main:5@9 1\nstopped: visits\n",
-    6,
-)];
+$ 0 run a.cf -K
+> append run 1704103200
+> append open 1 main:5@9 |main 5;create /a;k=;r=;f=;e=1|
+> file /a=
+> append done 1 repaired 1
+repaired main:5@9 1
+total kept 676 repaired 1 failed 0 skipped 0
+settled: yes
+== a check of a million visits
+& a.cf
+bundle agent main
+{
+  vars:
+    'a' slist => { '0', '1', '2', '3', '4', '5', '6', '7', '8', '9', '10', '11', '12', '13', '14', '15', '16', '17', '18', '19', '20', '21', '22', '23', '24', '25', };
+    'b' slist => { '0', '1', '2', '3', '4', '5', '6', '7', '8', '9', '10', '11', '12', '13', '14', '15', '16', '17', '18', '19', '20', '21', '22', '23', '24', '25', };
+    's' string => '$(l)';
+    'l' slist => { '0', '1', '2', };
+  files:
+    '/a' create => 'true';
+  methods:
+    'm' usebundle => sub('$(a).$(b)');
+  reports:
+    Absent::
+* 0 59     'r';
+}
+bundle agent sub(t)
+{
+  reports:
+    Absent::
+* 0 492     'r';
+}
+$ 0 check a.cf
+accepted 1
+";
 
 #[test]
-fn a_run_of_one_visit_less_than_a_million(rt: HostRuntime) -> Result<(), Fail> {
-    let alloc = rt.alloc();
-    let text = policy_of_calls(alloc, 1, 60)?;
-    compare_calls(&rt, alloc, text.as_str(), "", &RUN)
+fn a_run_and_a_check_of_a_million_visits_at_most(rt: HostRuntime) -> Result<(), Fail> {
+    compare_table(&rt, rt.alloc(), AT_MOST)
 }
+
+const RUN: &str = "== a run and a strict run of a million visits
+& a.cf
+bundle agent main
+{
+  vars:
+    'a' slist => { '0', '1', '2', '3', '4', '5', '6', '7', '8', '9', '10', '11', '12', '13', '14', '15', '16', '17', '18', '19', '20', '21', '22', '23', '24', '25', };
+    'b' slist => { '0', '1', '2', '3', '4', '5', '6', '7', '8', '9', '10', '11', '12', '13', '14', '15', '16', '17', '18', '19', '20', '21', '22', '23', '24', '25', };
+    's' string => '$(l)';
+    'l' slist => { '0', '1', '2', };
+  files:
+    '/a' create => 'true';
+  methods:
+    'm' usebundle => sub('$(a).$(b)');
+  reports:
+    Absent::
+* 0 59     'r';
+}
+bundle agent sub(t)
+{
+  reports:
+    Absent::
+* 0 492     'r';
+}
+$ 0 run a.cf -K
+> append run 1704103200
+> append open 1 main:5@9 |main 5;create /a;k=;r=;f=;e=1|
+> file /a=
+> append done 1 repaired 1
+repaired main:5@9 1
+total kept 676 repaired 1 failed 0 skipped 0
+settled: yes
+$ 0 run a.cf -K --strict
+total kept 677 repaired 0 failed 0 skipped 0
+settled: yes
+";
 
 #[test]
-fn a_check_of_a_million_visits(rt: HostRuntime) -> Result<(), Fail> {
-    let alloc = rt.alloc();
-    let text = policy_of_calls(alloc, 3, 59)?;
-    compare_calls(&rt, alloc, text.as_str(), "", &CHECKED)
+fn runs_of_a_million_visits(rt: HostRuntime) -> Result<(), Fail> {
+    compare_table(&rt, rt.alloc(), RUN)
 }
+
+const MORE: &str = "== an analysis and a run of one visit more than a million
+& a.cf
+bundle agent main
+{
+  vars:
+    'a' slist => { '0', '1', '2', '3', '4', '5', '6', '7', '8', '9', '10', '11', '12', '13', '14', '15', '16', '17', '18', '19', '20', '21', '22', '23', '24', '25', };
+    'b' slist => { '0', '1', '2', '3', '4', '5', '6', '7', '8', '9', '10', '11', '12', '13', '14', '15', '16', '17', '18', '19', '20', '21', '22', '23', '24', '25', };
+    's' string => '$(l)';
+    'l' slist => { '0', '1', };
+  files:
+    '/a' create => 'true';
+  methods:
+    'm' usebundle => sub('$(a).$(b)');
+  reports:
+    Absent::
+* 0 60     'r';
+}
+bundle agent sub(t)
+{
+  reports:
+    Absent::
+* 0 492     'r';
+}
+$ 6 check a.cf
+stopped: visits
+$ 6 run a.cf -K --strict
+stopped: visits
+$ 6 run a.cf -K
+> append run 1704103200
+> append open 1 main:5@9 |main 5;create /a;k=;r=;f=;e=1|
+> file /a=
+> append done 1 repaired 1
+repaired main:5@9 1
+stopped: visits
+";
 
 #[test]
-fn a_run_of_a_million_visits(rt: HostRuntime) -> Result<(), Fail> {
-    let alloc = rt.alloc();
-    let text = policy_of_calls(alloc, 3, 59)?;
-    compare_calls(&rt, alloc, text.as_str(), "", &RUN)
+fn one_visit_more_than_a_million(rt: HostRuntime) -> Result<(), Fail> {
+    compare_table(&rt, rt.alloc(), MORE)
 }
 
-#[test]
-fn a_strict_run_of_a_million_visits(rt: HostRuntime) -> Result<(), Fail> {
-    let alloc = rt.alloc();
-    let text = policy_of_calls(alloc, 3, 59)?;
-    compare_calls(&rt, alloc, text.as_str(), "+ file /a", &RUN_STRICTLY)
-}
-
-#[test]
-fn an_analysis_of_one_visit_more_than_a_million(rt: HostRuntime) -> Result<(), Fail> {
-    let alloc = rt.alloc();
-    let text = policy_of_calls(alloc, 2, 60)?;
-    compare_calls(&rt, alloc, text.as_str(), "", &OBEYED)
-}
-
-#[test]
-fn a_run_of_one_visit_more_than_a_million(rt: HostRuntime) -> Result<(), Fail> {
-    let alloc = rt.alloc();
-    let text = policy_of_calls(alloc, 2, 60)?;
-    compare_calls(&rt, alloc, text.as_str(), "", &STOPPED)
-}
-
-// A policy of a file and 26 * 26 calls of a bundle of so many silent reports, which are made where the file ends as the list of its
+// Policies of a file and 26 * 26 calls of a bundle of so many silent reports, which are made where the file ends as the list of its
 // outcome says. With 492 reports the calls make 997,776 visits and what stands round them at most 2,037; with 493 the calls alone make
 // 999,804 and the pass that makes them 679 more.
-fn policy_of_outcome(alloc: Global, outcome: &str, reports: u32) -> Result<String, Fail> {
-    let letters = items(alloc, 26, "")?;
-    let called = repeated(alloc, SILENT, reports)?;
-    let (letters, called) = (letters.as_str(), called.as_str());
-    Ok(format!(in alloc;
-        "bundle agent main\n{{\n  vars:\n    'a' slist => {{ {letters}}};\n    'b' slist => {{ {letters}}};\n  files:\n    '/a' create => 'true', classes => c;\n  methods:\n    c::\n      'm' usebundle => sub('$(a).$(b)');\n}}\nbundle agent sub(t)\n{{\n  reports:\n    Absent::\n{called}}}\nbody classes c\n{{\n  {outcome} => {{ 'c' }};\n}}\n"
-    )?)
+//
+// The class of the repair may be set or not in the open walk, which so makes the calls in each pass. A run makes them once or never,
+// and tells the first of the causes for which its world isn't known to be settled. In no walk does a promise fail, so behind a
+// failure the calls are made in a run alone.
+const ALONE: &str = "== too many visits of the analysis alone
++ file /a
+& a.cf
+bundle agent main
+{
+  vars:
+    'a' slist => { '0', '1', '2', '3', '4', '5', '6', '7', '8', '9', '10', '11', '12', '13', '14', '15', '16', '17', '18', '19', '20', '21', '22', '23', '24', '25', };
+    'b' slist => { '0', '1', '2', '3', '4', '5', '6', '7', '8', '9', '10', '11', '12', '13', '14', '15', '16', '17', '18', '19', '20', '21', '22', '23', '24', '25', };
+  files:
+    '/a' create => 'true', classes => c;
+  methods:
+    c::
+      'm' usebundle => sub('$(a).$(b)');
 }
-
-// The class of the repair may be set or not in the open walk, which so makes the calls in each pass. A run makes them once or never, and
-// tells the first of the causes for which its world isn't known to be settled.
-const ON_A_FILE: [(&str, &str, &str, u8); 1] = [(
-    "run a.cf",
-    "lock |main 3;create /a;k=;r=c;f=;e=1| 1704103200\n",
-    "total kept 1 repaired 0 failed 0 skipped 0\nsettled: no (locks)\n",
-    0,
-)];
-
-const ON_NOTHING: [(&str, &str, &str, u8); 1] = [(
-    "run a.cf -K",
-    "append run 1704103200\nappend open 1 main:3@7 |main 3;create /a;k=;r=c;f=;e=1|\nfile /a=\nappend done 1 repaired 1\n",
-    "repaired main:3@7 1\ntotal kept 676 repaired 1 failed 0 skipped 0\nsettled: no (limit)\n",
-    0,
-)];
-
-const ON_A_DIRECTORY: [(&str, &str, &str, u8); 1] = [(
-    "run a.cf -K",
-    "append run 1704103200\nappend fail 1 main:3@7 |main 3;create /a;k=;r=c;f=;e=1| F3\n",
-    "failed main:3@7 F3 Obstructed\ntotal kept 0 repaired 0 failed 1 skipped 0\nsettled: no (failed)\n",
-    2,
-)];
-
-// In no walk does a promise fail, so the calls are made in a run alone.
-const AFTER_A_FAILURE: [(&str, &str, &str, u8); 2] = [
-    ("check a.cf", "", "accepted 1\n", 0),
-    (
-        "run a.cf -K --strict",
-        "append run 1704103200\nappend fail 1 main:3@7 |main 3;create /a;k=;r=;f=c;e=1| F3\n",
-        "failed main:3@7 F3 Obstructed\nstopped: visits\n",
-        6,
-    ),
-];
+bundle agent sub(t)
+{
+  reports:
+    Absent::
+* 0 492     'r';
+}
+body classes c
+{
+  promise_repaired => { 'c' };
+}
+$ 0 run a.cf
+> lock |main 3;create /a;k=;r=c;f=;e=1| 1704103200
+total kept 1 repaired 0 failed 0 skipped 0
+settled: no (locks)
+$ 2 run a.cf -K
++ dir /a
+> append run 1704103200
+> append fail 1 main:3@7 |main 3;create /a;k=;r=c;f=;e=1| F3
+failed main:3@7 F3 Obstructed
+total kept 0 repaired 0 failed 1 skipped 0
+settled: no (failed)
+== too many visits of the run alone
++ dir /a
+& a.cf
+bundle agent main
+{
+  vars:
+    'a' slist => { '0', '1', '2', '3', '4', '5', '6', '7', '8', '9', '10', '11', '12', '13', '14', '15', '16', '17', '18', '19', '20', '21', '22', '23', '24', '25', };
+    'b' slist => { '0', '1', '2', '3', '4', '5', '6', '7', '8', '9', '10', '11', '12', '13', '14', '15', '16', '17', '18', '19', '20', '21', '22', '23', '24', '25', };
+  files:
+    '/a' create => 'true', classes => c;
+  methods:
+    c::
+      'm' usebundle => sub('$(a).$(b)');
+}
+bundle agent sub(t)
+{
+  reports:
+    Absent::
+* 0 493     'r';
+}
+body classes c
+{
+  repair_failed => { 'c' };
+}
+$ 0 check a.cf
+accepted 1
+$ 6 run a.cf -K --strict
+> append run 1704103200
+> append fail 1 main:3@7 |main 3;create /a;k=;r=;f=c;e=1| F3
+failed main:3@7 F3 Obstructed
+stopped: visits
+";
 
 #[test]
-fn too_many_visits_of_the_analysis_alone(rt: HostRuntime) -> Result<(), Fail> {
-    let alloc = rt.alloc();
-    let text = policy_of_outcome(alloc, "promise_repaired", 492)?;
-    compare_calls(&rt, alloc, text.as_str(), "+ file /a", &ON_A_FILE)?;
-    compare_calls(&rt, alloc, text.as_str(), "+ dir /a", &ON_A_DIRECTORY)
+fn too_many_visits_of_the_analysis_or_the_run_alone(rt: HostRuntime) -> Result<(), Fail> {
+    compare_table(&rt, rt.alloc(), ALONE)
 }
+
+const ANALYSIS_OF_A_REPAIR: &str = "== too many visits of the analysis of a repair
+& a.cf
+bundle agent main
+{
+  vars:
+    'a' slist => { '0', '1', '2', '3', '4', '5', '6', '7', '8', '9', '10', '11', '12', '13', '14', '15', '16', '17', '18', '19', '20', '21', '22', '23', '24', '25', };
+    'b' slist => { '0', '1', '2', '3', '4', '5', '6', '7', '8', '9', '10', '11', '12', '13', '14', '15', '16', '17', '18', '19', '20', '21', '22', '23', '24', '25', };
+  files:
+    '/a' create => 'true', classes => c;
+  methods:
+    c::
+      'm' usebundle => sub('$(a).$(b)');
+}
+bundle agent sub(t)
+{
+  reports:
+    Absent::
+* 0 492     'r';
+}
+body classes c
+{
+  promise_repaired => { 'c' };
+}
+$ 0 run a.cf -K
+> append run 1704103200
+> append open 1 main:3@7 |main 3;create /a;k=;r=c;f=;e=1|
+> file /a=
+> append done 1 repaired 1
+repaired main:3@7 1
+total kept 676 repaired 1 failed 0 skipped 0
+settled: no (limit)
+";
 
 #[test]
 fn too_many_visits_of_the_analysis_of_a_repair(rt: HostRuntime) -> Result<(), Fail> {
-    let alloc = rt.alloc();
-    let text = policy_of_outcome(alloc, "promise_repaired", 492)?;
-    compare_calls(&rt, alloc, text.as_str(), "", &ON_NOTHING)
-}
-
-#[test]
-fn too_many_visits_of_the_run_alone(rt: HostRuntime) -> Result<(), Fail> {
-    let alloc = rt.alloc();
-    let text = policy_of_outcome(alloc, "repair_failed", 493)?;
-    compare_calls(&rt, alloc, text.as_str(), "+ dir /a", &AFTER_A_FAILURE)
+    compare_table(&rt, rt.alloc(), ANALYSIS_OF_A_REPAIR)
 }
 
 // Patterns that are refused for their size where the analysis or the run builds them. A text of an argument is no pattern of the

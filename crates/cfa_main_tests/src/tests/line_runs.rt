@@ -168,15 +168,7 @@ $ 0 run a.cf -K
 repaired main:1@1 2
 total kept 0 repaired 1 failed 0 skipped 0
 settled: yes
-";
-
-#[test]
-fn edits(rt: HostRuntime) -> Result<(), Fail> {
-    compare_table(&rt, rt.alloc(), EDITS)
-}
-
-// What an edit bundle sees, and edits that can't be made.
-const BUNDLES: &str = "== an edit bundle sees its own classes and the global ones
+== an edit bundle sees its own classes and the global ones
 + file /t
 bundle agent main { classes: 'near' expression => 'any'; files: '/t' edit_line => guarded; }
 bundle edit_line guarded { insert_lines: near:: 'near'; far:: 'far'; own:: '$(v)'; classes: 'own' expression => 'far'; vars: 'v' string => 'own'; }
@@ -259,8 +251,8 @@ settled: no (failed)
 ";
 
 #[test]
-fn edit_bundles(rt: HostRuntime) -> Result<(), Fail> {
-    compare_table(&rt, rt.alloc(), BUNDLES)
+fn edits(rt: HostRuntime) -> Result<(), Fail> {
+    compare_table(&rt, rt.alloc(), EDITS)
 }
 
 // A file that is as long as a file may be, where a line more is too much.

@@ -1,7 +1,8 @@
 // Runs with locks, and which of their promises are skipped.
-use super::run_tables::{compare_framed, compare_table};
+use super::run_tables::compare_table;
 use std::test::Fail;
 
+// At last each call of a run with a lock on its site fails in turn: lock, look, `run`, `open`, file, `done`, lock.
 const LOCKS: &str = "== a lock that was set less than its minutes ago
 + lock |main 1;create /a;k=;r=;f=;e=1| 1704103200
 bundle agent main { files: '/a' create => 'true'; }
@@ -156,28 +157,23 @@ $ 2 run a.cf -K
 failed main:1@1 F10 BadValue
 total kept 0 repaired 0 failed 1 skipped 0
 settled: no (failed)
-";
-
-#[test]
-fn locks(rt: HostRuntime) -> Result<(), Fail> {
-    compare_table(&rt, rt.alloc(), LOCKS)
-}
-
-// The calls of a run with a lock on its site, each of which fails in turn: lock, look, `run`, `open`, file, `done`, lock.
-const ONE_FILE: &str = "bundle agent main
+== the lock can't be looked at
+! 1
+bundle agent main
 {
   files:
     '/etc/motd' create => 'true';
 }
-";
-
-const FAILING_CALLS: &str = "== the lock can't be looked at
-! 1
 $ 4 run a.cf
 > refused Lock
 stopped: outside
 == the file can't be looked at
 ! 2
+bundle agent main
+{
+  files:
+    '/etc/motd' create => 'true';
+}
 $ 2 run a.cf
 > refused Look
 > append run 1704103200
@@ -188,17 +184,32 @@ total kept 0 repaired 0 failed 1 skipped 0
 settled: no (locks)
 == no record of the run
 ! 3
+bundle agent main
+{
+  files:
+    '/etc/motd' create => 'true';
+}
 $ 4 run a.cf
 > refused Change
 stopped: outside
 == no record of the repair
 ! 4
+bundle agent main
+{
+  files:
+    '/etc/motd' create => 'true';
+}
 $ 4 run a.cf
 > append run 1704103200
 > refused Change
 stopped: outside
 == no file
 ! 5
+bundle agent main
+{
+  files:
+    '/etc/motd' create => 'true';
+}
 $ 2 run a.cf
 > append run 1704103200
 > append open 1 main:1@4 |main 1;create /etc/motd;k=;r=;f=;e=1|
@@ -210,6 +221,11 @@ total kept 0 repaired 0 failed 1 skipped 0
 settled: no (locks)
 == no record of the end: the repair stays open, and the next run finds it made
 ! 6
+bundle agent main
+{
+  files:
+    '/etc/motd' create => 'true';
+}
 $ 4 run a.cf
 > append run 1704103200
 > append open 1 main:1@4 |main 1;create /etc/motd;k=;r=;f=;e=1|
@@ -222,6 +238,11 @@ total kept 1 repaired 0 failed 0 skipped 0
 settled: no (locks)
 == the lock can't be set
 ! 7
+bundle agent main
+{
+  files:
+    '/etc/motd' create => 'true';
+}
 $ 4 run a.cf
 > append run 1704103200
 > append open 1 main:1@4 |main 1;create /etc/motd;k=;r=;f=;e=1|
@@ -232,6 +253,6 @@ stopped: outside
 ";
 
 #[test]
-fn calls_that_fail_in_a_run_with_locks(rt: HostRuntime) -> Result<(), Fail> {
-    compare_framed(&rt, rt.alloc(), ONE_FILE, FAILING_CALLS)
+fn locks(rt: HostRuntime) -> Result<(), Fail> {
+    compare_table(&rt, rt.alloc(), LOCKS)
 }

@@ -2,7 +2,7 @@
 use super::run_tables::compare_table;
 use std::test::Fail;
 
-const BUNDLES: &str =
+const RULES: &str =
     "== the common bundles are gone through three times, in their order, before the sequence
 bundle agent main { reports: '$(a.x) $(late.w)'; all:: 'all'; }
 bundle common a { vars: 'x' string => '$(b.y)'; classes: 'all' expression => 'from_b'; }
@@ -142,15 +142,7 @@ R: qp
 R: qq
 total kept 11 repaired 0 failed 0 skipped 0
 settled: yes
-";
-
-#[test]
-fn bundles(rt: HostRuntime) -> Result<(), Fail> {
-    compare_table(&rt, rt.alloc(), BUNDLES)
-}
-
-const PASSES: &str =
-    "== an instance is actuated once, in the first pass in which its guard holds and its text is known
+== an instance is actuated once, in the first pass in which its guard holds and its text is known
 + service on running enabled 0
 bundle agent main { vars: 'x' string => '$(y)'; 'y' string => 'v'; services: 'on' service_policy => 'restart'; reports: '$(x)'; 'first'; }
 $ 0 run a.cf -K
@@ -239,6 +231,6 @@ settled: yes
 ";
 
 #[test]
-fn passes(rt: HostRuntime) -> Result<(), Fail> {
-    compare_table(&rt, rt.alloc(), PASSES)
+fn rules(rt: HostRuntime) -> Result<(), Fail> {
+    compare_table(&rt, rt.alloc(), RULES)
 }

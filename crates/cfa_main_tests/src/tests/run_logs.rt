@@ -1,44 +1,11 @@
-// How a run is made, and how what it did, put and answered is compared with what it must do.
-use super::{inputs_of, words_of};
+// What a run adds to the log of its host, as lines.
 use cfa_base::{Bytes, Name, escape};
 use cfa_locks::key;
-use cfa_main::agent_main;
-use cfa_outside::{
-    Change, Entry, MemoryInputs, MemorySink, MemorySite, Perms, RegexPatterns, ServiceRow, Site,
-};
+use cfa_outside::{Change, Entry, MemorySite, Perms, ServiceRow};
 use std::alloc::Global;
 use std::process::Abort;
 use std::str;
 use std::test::Fail;
-
-// Monday, 1 January 2024, 10:00 UTC.
-pub const MOMENT: u64 = 1_704_103_200;
-
-// A run of a policy, and the build of a pattern that is refused for its size (0: none). Then what it adds to the log, each key
-// as the text that it is of between two bars, what it puts and what it answers.
-#[derive(Clone, Copy)]
-pub struct Run<'a> {
-    pub text: &'a str,
-    pub words: &'a str,
-    pub moment: u64,
-    pub refused_build: u32,
-    pub log: &'a str,
-    pub lines: &'a str,
-    pub status: u8,
-}
-
-// A run without locks that ends with no failed promise.
-pub fn unlocked_run<'a>(text: &'a str, log: &'a str, lines: &'a str) -> Run<'a> {
-    Run {
-        text,
-        words: "run a.cf -K",
-        moment: MOMENT,
-        refused_build: 0,
-        log,
-        lines,
-        status: 0,
-    }
-}
 
 // A text with the key of each text that stands between two bars in its place.
 pub fn with_keys(alloc: Global, text: &str) -> Result<String, Fail> {
@@ -121,59 +88,28 @@ fn log_behind(alloc: Global, log: &[Entry], count: usize) -> Result<String, Fail
     Ok(told)
 }
 
-// Makes a run, and answers its status and what it puts.
-fn make_run<S: Site>(
-    alloc: Global,
-    run: &Run,
-    inputs: &mut MemoryInputs,
-    site: &mut S,
-) -> Result<(u8, MemorySink), Fail> {
-    let words = words_of(alloc, run.words)?;
-    let mut out = MemorySink::new(alloc, 1_048_576, Vec::new(alloc))?;
-    let mut pats = RegexPatterns::new(alloc, vec![in alloc; run.refused_build]?);
-    let status = agent_main(
-        alloc,
-        words.as_slice(),
-        run.moment,
-        inputs,
-        site,
-        &mut out,
-        &mut pats,
-    );
-    Ok((status, out))
+// The log is this text, or has so many entries: `N entries`.
+fn is_log(wanted: &str, told: &str) -> bool {
+    match wanted.strip_suffix(" entries\n") {
+        Some(count) => count.parse::<usize>().ok() == Some(told.lines().count()),
+        None => told == wanted,
+    }
 }
 
-// Makes a run, and compares what it puts and answers.
-pub fn compare_lines<S: Site>(
+// Compares the entries of a log behind the first ones. Each key is told by the text that it is of, between two bars.
+pub fn compare_log(
     rt: &impl Abort,
     alloc: Global,
-    run: &Run,
-    site: &mut S,
+    site: &MemorySite,
+    before: usize,
+    log: &str,
 ) -> Result<(), Fail> {
-    let mut inputs = inputs_of(alloc, &[("a.cf", run.text.as_bytes())], 0)?;
-    let (status, out) = make_run(alloc, run, &mut inputs, site)?;
-    let put = str::from_utf8(out.bytes()).unwrap_or("no text");
-    assert!(rt; put == run.lines, "lines of {}, which are {put}", run.lines);
-    assert!(rt; status == run.status, "status of {}", run.lines);
-    Ok(())
-}
-
-// Makes a run, and compares.
-pub fn compare_run(
-    rt: &impl Abort,
-    alloc: Global,
-    run: &Run,
-    site: &mut MemorySite,
-) -> Result<(), Fail> {
-    let before = site.log().len();
-    compare_lines(rt, alloc, run, site)?;
     let told = log_behind(alloc, site.log(), before)?;
-    let wanted = with_keys(alloc, run.log)?;
+    let wanted = with_keys(alloc, log)?;
     let told = told.as_str();
     assert!(rt;
-        told == wanted.as_str(),
-        "log of {}, which is {told}",
-        run.log
+        is_log(wanted.as_str(), told),
+        "log of {log}, which is {told}"
     );
     Ok(())
 }

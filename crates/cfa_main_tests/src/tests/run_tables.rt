@@ -1,16 +1,23 @@
 // Tables of runs. A table is a text of rows. Each row begins with `== ` and its title. Behind it stand the lines of the host as it
-// is before (`worlds`), and the policy, to which the blocks below are added. Then come runs on this host, one after the
-// other: `$ STATUS WORDS`, with the moment behind ` @` and the build of a pattern that is refused for its size behind ` ?`; the
-// entries that it adds to the host's log, each behind `> `; and the lines that it puts.
-use super::run_logs::{MOMENT, Run, compare_lines, compare_run};
-use super::worlds::{parts, site_of};
-use cfa_outside::Site;
+// is before (`worlds`), and the policy `a.cf`, to which the blocks below are added. Files behind it are as they stand (`texts`), and
+// one of the name `a.cf` stands for the policy. Then come runs on this host, one after the other: `$ ` and the call (`calls`); the
+// entries that it adds to the host's log, each behind `> `, or their number alone, `> N entries`; and the lines that it puts, or
+// `valid` for those of any verdict. A run that tells lines of a host itself is made on that host, as are those behind it. A line of a
+// text that is much repeated is told once, `* FROM TO LINE` (`texts`).
+use super::calls::{call_of, compare_answer, make};
+use super::folders::host_in;
+use super::run_logs::compare_log;
+use super::texts::{add_text, files_of, push_line};
+use super::worlds::{host_behind, parts, site_of};
+use cfa_base::{Bytes, Name};
+use cfa_hostdir::HostSite;
+use cfa_outside::{MemorySite, Site};
 use std::alloc::Global;
 use std::process::Abort;
 use std::test::Fail;
 
-// What each policy of a table may name: bodies, edit bundles, and texts and lists by their lengths.
-pub const BLOCKS: &str = "
+// What each policy of a table may name: bodies and edit bundles, and then texts and lists by their lengths.
+const BLOCKS: &str = "
 body classes if_repaired(x) { promise_repaired => { '$(x)' }; }
 body classes both(x) { promise_kept => { '$(x)' }; promise_repaired => { '$(x)' }; }
 body classes each(k, r, f) { promise_kept => { '$(k)' }; promise_repaired => { '$(r)' }; repair_failed => { '$(f)' }; }
@@ -37,7 +44,10 @@ bundle edit_line change(p, v) { replace_patterns: '$(p)' replace_with => value('
 bundle edit_line change_first(p, v) { replace_patterns: '$(p)' replace_with => once('$(v)'); }
 bundle edit_line cell(p, s, n, v) { field_edits: '$(p)' edit_field => field('$(s)', '$(n)', '$(v)'); }
 bundle edit_line nothing { }
-bundle common long
+";
+
+// The texts and lists, which are added to the policies alone that name one.
+const LONG: &str = "bundle common long
 {
   vars:
     '16' string => '0123456789abcdef';
@@ -57,64 +67,85 @@ fn policy_of(alloc: Global, frame: &str, heading: &str) -> Result<String, Fail> 
     let mut policy = frame.to_string(alloc)?;
     for line in heading.lines().skip(1) {
         if !line.starts_with("+ ") && !line.starts_with("!") {
-            policy.push_str(line)?;
-            policy.push_str("\n")?;
+            push_line(alloc, &mut policy, line)?;
         }
     }
     policy.push_str(BLOCKS)?;
+    if policy.as_str().contains("long.") {
+        policy.push_str(LONG)?;
+    }
     Ok(policy)
 }
 
-// The lines of a run that begin with this mark, without it.
-pub fn marked_lines(alloc: Global, part: &str, mark: &str) -> Result<String, Fail> {
-    let mut marked = String::new(alloc);
-    for line in part.lines().skip(1) {
-        if let Some(rest) = line.strip_prefix(mark) {
-            marked.push_str(rest)?;
-            marked.push_str("\n")?;
+// The files of a heading, the policy last.
+fn texts_of(alloc: Global, frame: &str, heading: &str) -> Result<Vec<(Name, Bytes)>, Fail> {
+    let (first, _) = parts(heading, "\n& ");
+    let policy = policy_of(alloc, frame, first)?;
+    let mut texts = files_of(alloc, heading)?;
+    add_text(alloc, &mut texts, "a.cf", policy.as_str().as_bytes())?;
+    Ok(texts)
+}
+
+// The entries that a run adds to the log.
+fn log_of(alloc: Global, run: &str) -> Result<String, Fail> {
+    let mut log = String::new(alloc);
+    for line in run.lines() {
+        if let Some(entry) = line.strip_prefix("> ") {
+            push_line(alloc, &mut log, entry)?;
         }
     }
-    Ok(marked)
+    Ok(log)
 }
 
 // The lines that a run puts.
-fn put_lines(alloc: Global, part: &str) -> Result<String, Fail> {
+fn put_lines(alloc: Global, run: &str) -> Result<String, Fail> {
     let mut put = String::new(alloc);
-    for line in part.lines().skip(1) {
-        if !line.is_empty() && !line.starts_with("> ") {
-            put.push_str(line)?;
-            put.push_str("\n")?;
+    for line in run.lines().skip(1) {
+        if !line.is_empty() && !line.starts_with("> ") && !line.starts_with("+ ") {
+            push_line(alloc, &mut put, line)?;
         }
     }
     Ok(put)
 }
 
-// The call that stands in the first line of a run: `STATUS WORDS @MOMENT ?BUILD`.
-fn call_of<'a>(text: &'a str, part: &'a str, log: &'a str, lines: &'a str) -> Run<'a> {
-    let (first, _) = parts(part, "\n");
-    let (status, words) = parts(first, " ");
-    let (words, build) = parts(words, " ?");
-    let (words, moment) = parts(words, " @");
-    Run {
-        text,
-        words,
-        moment: moment.parse::<u64>().unwrap_or(MOMENT),
-        refused_build: build.parse::<u32>().unwrap_or(0),
-        log,
-        lines,
-        status: status.parse::<u8>().unwrap_or(255),
-    }
+// Makes the call of a run on a host, and compares what it puts and answers.
+pub fn compare_call<S: Site>(
+    rt: &impl Abort,
+    alloc: Global,
+    texts: Vec<(Name, Bytes)>,
+    run: &str,
+    site: &mut S,
+) -> Result<(), Fail> {
+    let (line, _) = parts(run, "\n");
+    let lines = put_lines(alloc, run)?;
+    let mut call = call_of(alloc, texts, line)?;
+    let status = make(alloc, &mut call, site);
+    compare_answer(rt, &call, line, lines.as_str(), status);
+    drop(call);
+    Ok(())
+}
+
+// Makes a run on a host in memory, and compares.
+fn compare_run(
+    rt: &impl Abort,
+    alloc: Global,
+    frame: &str,
+    heading: &str,
+    run: &str,
+    site: &mut MemorySite,
+) -> Result<(), Fail> {
+    let before = site.log().len();
+    let texts = texts_of(alloc, frame, heading)?;
+    compare_call(rt, alloc, texts, run, site)?;
+    compare_log(rt, alloc, site, before, log_of(alloc, run)?.as_str())
 }
 
 fn compare_row(rt: &impl Abort, alloc: Global, frame: &str, row: &str) -> Result<(), Fail> {
     let (heading, runs) = parts(row, "\n$ ");
-    let policy = policy_of(alloc, frame, heading)?;
     let mut site = site_of(alloc, heading)?;
-    for part in runs.split("\n$ ") {
-        let log = marked_lines(alloc, part, "> ")?;
-        let lines = put_lines(alloc, part)?;
-        let run = call_of(policy.as_str(), part, log.as_str(), lines.as_str());
-        compare_run(rt, alloc, &run, &mut site)?;
+    for run in runs.split("\n$ ") {
+        site = host_behind(alloc, site, run)?;
+        compare_run(rt, alloc, frame, heading, run, &mut site)?;
     }
     Ok(())
 }
@@ -137,19 +168,68 @@ pub fn compare_framed(
     Ok(())
 }
 
-// Makes the runs of a row on another host, and compares what they put and answer.
-pub fn compare_row_on<S: Site>(
+// A table with the fields of a line in the places of `<0>`, `<1>` ..
+fn filled(alloc: Global, table: &str, line: &str) -> Result<String, Fail> {
+    let mut text = table.to_string(alloc)?;
+    for (place, field) in line.split(" | ").enumerate() {
+        let mark = format!(in alloc; "<{place}>")?;
+        text = text.as_str().replace(alloc, mark.as_str(), field)?;
+    }
+    Ok(text)
+}
+
+// The same with a table for each of these lines, with its fields in the places of `<0>`, `<1>` ..
+pub fn compare_filled(
     rt: &impl Abort,
     alloc: Global,
+    table: &str,
+    lines: &str,
+) -> Result<(), Fail> {
+    for line in lines.lines() {
+        compare_table(rt, alloc, filled(alloc, table, line)?.as_str())?;
+    }
+    Ok(())
+}
+
+// Makes a run on the real host, which is a new one where the run tells one, and compares what it puts and answers.
+fn compare_run_in(
+    rt: &impl Abort,
+    files: &HostRuntime,
+    folder: &str,
+    heading: &str,
+    run: &str,
+    site: &mut HostSite<HostRuntime>,
+) -> Result<(), Fail> {
+    if run.contains("\n+ ") {
+        *site = host_in(files, folder, run)?;
+    }
+    let texts = texts_of(files.alloc(), "", heading)?;
+    compare_call(rt, files.alloc(), texts, run, site)
+}
+
+fn compare_row_in(
+    rt: &impl Abort,
+    files: &HostRuntime,
+    folder: &str,
     row: &str,
-    site: &mut S,
 ) -> Result<(), Fail> {
     let (heading, runs) = parts(row, "\n$ ");
-    let policy = policy_of(alloc, "", heading)?;
-    for part in runs.split("\n$ ") {
-        let lines = put_lines(alloc, part)?;
-        let run = call_of(policy.as_str(), part, "", lines.as_str());
-        compare_lines(rt, alloc, &run, site)?;
+    let mut site = host_in(files, folder, heading)?;
+    for run in runs.split("\n$ ") {
+        compare_run_in(rt, files, folder, heading, run, &mut site)?;
+    }
+    Ok(())
+}
+
+// Makes the runs of each row on the real host in a folder, and compares what they put and answer.
+pub fn compare_in_folder(
+    rt: &impl Abort,
+    files: &HostRuntime,
+    folder: &str,
+    table: &str,
+) -> Result<(), Fail> {
+    for row in table.split("== ").skip(1) {
+        compare_row_in(rt, files, folder, row)?;
     }
     Ok(())
 }

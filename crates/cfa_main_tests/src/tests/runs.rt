@@ -1,9 +1,5 @@
 // Runs of policies: what they add to the log of the site, what they put, and what they answer.
-use super::run_tables::{compare_row_on, compare_table};
-use super::worlds::site_of;
-use cfa_base::Name;
-use cfa_outside::{MemorySite, Node, Path};
-use std::alloc::Global;
+use super::run_tables::compare_table;
 use std::test::Fail;
 
 const RUNS: &str = "== a file is made, and no rerun changes it
@@ -259,37 +255,19 @@ $ 0 run a.cf -K
 repaired main:3@2 1
 total kept 1 repaired 1 failed 0 skipped 0
 settled: no (conflict)
+== what is made is its owner's alone
+bundle agent main { files: '/etc/motd' create => 'true'; '/etc/motd' perms => m('600'); '/etc' perms => m('700'); }
+$ 0 run a.cf -K
+> append run 1704103200
+> append open 1 main:1@1 |main 1;create /etc/motd;k=;r=;f=;e=1|
+> file /etc/motd=
+> append done 1 repaired 1
+repaired main:1@1 1
+total kept 2 repaired 1 failed 0 skipped 0
+settled: yes
 ";
 
 #[test]
 fn runs(rt: HostRuntime) -> Result<(), Fail> {
     compare_table(&rt, rt.alloc(), RUNS)
-}
-
-// The mode of what stands at a path, 0 where nothing does.
-fn mode_at(alloc: Global, site: &MemorySite, path: &str) -> Result<u16, Fail> {
-    let path = Path::read(alloc, &Name::from_text(alloc, path)?)?;
-    Ok(match site.world().nodes.get(&path) {
-        Some(Node::File(_, perms)) => perms.mode,
-        Some(Node::Dir(perms)) => perms.mode,
-        None => 0,
-    })
-}
-
-const MADE: &str = "a file in a directory
-bundle agent main { files: '/etc/motd' create => 'true'; }
-$ 0 run a.cf -K
-repaired main:1@1 1
-total kept 0 repaired 1 failed 0 skipped 0
-settled: yes
-";
-
-#[test]
-fn what_is_made_is_its_owners_alone(rt: HostRuntime) -> Result<(), Fail> {
-    let alloc = rt.alloc();
-    let mut site = site_of(alloc, "")?;
-    compare_row_on(&rt, alloc, MADE, &mut site)?;
-    assert_eq!(rt; mode_at(alloc, &site, "/etc/motd")?, 0o600);
-    assert_eq!(rt; mode_at(alloc, &site, "/etc")?, 0o700);
-    Ok(())
 }

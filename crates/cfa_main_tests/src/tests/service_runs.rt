@@ -1,9 +1,5 @@
 // Runs of a policy whose service follows the lines of a file, where all goes well and where each call on the site fails.
-use super::run_tables::{compare_framed, compare_row_on};
-use super::worlds::site_of;
-use cfa_outside::{MemorySite, World};
-use std::alloc::Global;
-use std::process::Abort;
+use super::run_tables::compare_framed;
 use std::test::Fail;
 
 // A file is to have each setting as a line, and its service is restarted where it had not.
@@ -26,7 +22,9 @@ bundle edit_line ensure(lines)
 }
 ";
 
-const SSH_RUNS: &str = "== both runs
+// All goes well. Then each call of the first run on its site fails in turn. At last the run is stopped behind so many changes, and
+// the next run on the world left goes on: once the file stands its service isn't restarted any more.
+const RUNS: &str = "== both runs
 + dir /etc
 + dir /etc/ssh
 + file /etc/ssh/sshd_config Port%2022%0A
@@ -46,15 +44,7 @@ settled: yes
 $ 0 run a.cf -K
 total kept 1 repaired 0 failed 0 skipped 0
 settled: yes
-";
-
-#[test]
-fn a_service_follows_its_settings(rt: HostRuntime) -> Result<(), Fail> {
-    compare_framed(&rt, rt.alloc(), SSH, SSH_RUNS)
-}
-
-// Each call of the first run on its site fails in turn.
-const SSH_FAILURES: &str = "== the file can't be looked at, and no service is restarted
+== the file can't be looked at, and no service is restarted
 + dir /etc
 + dir /etc/ssh
 + file /etc/ssh/sshd_config Port%2022%0A
@@ -190,66 +180,155 @@ $ 4 run a.cf -K
 > refused Change
 repaired main:2@6 1
 stopped: outside
+== stopped before it did anything
++ dir /etc
++ dir /etc/ssh
++ file /etc/ssh/sshd_config Port%2022%0A
++ service sshd running enabled 0
+!! 0
+$ 4 run a.cf -K
+> refused Look
+> refused Change
+stopped: outside
+$ 0 run a.cf -K
++ left
+> append run 1704103200
+> append open 1 main:2@6 |main 2;edit /etc/ssh/sshd_config i:end::Port%2022,i:end::PermitRootLogin%20no,i:end::X11Forwarding%20no;k=;r=ssh_changed;f=;e=1|
+> file /etc/ssh/sshd_config=Port%2022%0APermitRootLogin%20no%0AX11Forwarding%20no%0A
+> append done 1 repaired 1
+> append open 2 main:3@11 |main 3;restart sshd;k=;r=;f=;e=1|
+> service sshd running enabled 1
+> append done 2 repaired 1
+repaired main:2@6 1
+repaired main:3@11 1
+total kept 0 repaired 2 failed 0 skipped 0
+settled: yes
+== stopped behind the record of the run
++ dir /etc
++ dir /etc/ssh
++ file /etc/ssh/sshd_config Port%2022%0A
++ service sshd running enabled 0
+!! 1
+$ 4 run a.cf -K
+> append run 1704103200
+> refused Change
+stopped: outside
+$ 0 run a.cf -K
++ left
+> append run 1704103200
+> append open 1 main:2@6 |main 2;edit /etc/ssh/sshd_config i:end::Port%2022,i:end::PermitRootLogin%20no,i:end::X11Forwarding%20no;k=;r=ssh_changed;f=;e=1|
+> file /etc/ssh/sshd_config=Port%2022%0APermitRootLogin%20no%0AX11Forwarding%20no%0A
+> append done 1 repaired 1
+> append open 2 main:3@11 |main 3;restart sshd;k=;r=;f=;e=1|
+> service sshd running enabled 1
+> append done 2 repaired 1
+repaired main:2@6 1
+repaired main:3@11 1
+total kept 0 repaired 2 failed 0 skipped 0
+settled: yes
+== stopped behind the record of the repair
++ dir /etc
++ dir /etc/ssh
++ file /etc/ssh/sshd_config Port%2022%0A
++ service sshd running enabled 0
+!! 2
+$ 4 run a.cf -K
+> append run 1704103200
+> append open 1 main:2@6 |main 2;edit /etc/ssh/sshd_config i:end::Port%2022,i:end::PermitRootLogin%20no,i:end::X11Forwarding%20no;k=;r=ssh_changed;f=;e=1|
+> refused Change
+> refused Change
+stopped: outside
+$ 0 run a.cf -K
++ left
+> append run 1704103200
+> append open 1 main:2@6 |main 2;edit /etc/ssh/sshd_config i:end::Port%2022,i:end::PermitRootLogin%20no,i:end::X11Forwarding%20no;k=;r=ssh_changed;f=;e=1|
+> file /etc/ssh/sshd_config=Port%2022%0APermitRootLogin%20no%0AX11Forwarding%20no%0A
+> append done 1 repaired 1
+> append open 2 main:3@11 |main 3;restart sshd;k=;r=;f=;e=1|
+> service sshd running enabled 1
+> append done 2 repaired 1
+repaired main:2@6 1
+repaired main:3@11 1
+total kept 0 repaired 2 failed 0 skipped 0
+settled: yes
+== stopped behind the file
++ dir /etc
++ dir /etc/ssh
++ file /etc/ssh/sshd_config Port%2022%0A
++ service sshd running enabled 0
+!! 3
+$ 4 run a.cf -K
+> append run 1704103200
+> append open 1 main:2@6 |main 2;edit /etc/ssh/sshd_config i:end::Port%2022,i:end::PermitRootLogin%20no,i:end::X11Forwarding%20no;k=;r=ssh_changed;f=;e=1|
+> file /etc/ssh/sshd_config=Port%2022%0APermitRootLogin%20no%0AX11Forwarding%20no%0A
+> refused Change
+stopped: outside
+$ 0 run a.cf -K
++ left
+total kept 1 repaired 0 failed 0 skipped 0
+settled: yes
+== stopped behind the end of the repair
++ dir /etc
++ dir /etc/ssh
++ file /etc/ssh/sshd_config Port%2022%0A
++ service sshd running enabled 0
+!! 4
+$ 4 run a.cf -K
+> append run 1704103200
+> append open 1 main:2@6 |main 2;edit /etc/ssh/sshd_config i:end::Port%2022,i:end::PermitRootLogin%20no,i:end::X11Forwarding%20no;k=;r=ssh_changed;f=;e=1|
+> file /etc/ssh/sshd_config=Port%2022%0APermitRootLogin%20no%0AX11Forwarding%20no%0A
+> append done 1 repaired 1
+> refused Service
+> refused Change
+repaired main:2@6 1
+stopped: outside
+$ 0 run a.cf -K
++ left
+total kept 1 repaired 0 failed 0 skipped 0
+settled: yes
+== stopped behind the record of the restart
++ dir /etc
++ dir /etc/ssh
++ file /etc/ssh/sshd_config Port%2022%0A
++ service sshd running enabled 0
+!! 5
+$ 4 run a.cf -K
+> append run 1704103200
+> append open 1 main:2@6 |main 2;edit /etc/ssh/sshd_config i:end::Port%2022,i:end::PermitRootLogin%20no,i:end::X11Forwarding%20no;k=;r=ssh_changed;f=;e=1|
+> file /etc/ssh/sshd_config=Port%2022%0APermitRootLogin%20no%0AX11Forwarding%20no%0A
+> append done 1 repaired 1
+> append open 2 main:3@11 |main 3;restart sshd;k=;r=;f=;e=1|
+> refused Change
+> refused Change
+repaired main:2@6 1
+stopped: outside
+$ 0 run a.cf -K
++ left
+total kept 1 repaired 0 failed 0 skipped 0
+settled: yes
+== stopped behind the restart
++ dir /etc
++ dir /etc/ssh
++ file /etc/ssh/sshd_config Port%2022%0A
++ service sshd running enabled 0
+!! 6
+$ 4 run a.cf -K
+> append run 1704103200
+> append open 1 main:2@6 |main 2;edit /etc/ssh/sshd_config i:end::Port%2022,i:end::PermitRootLogin%20no,i:end::X11Forwarding%20no;k=;r=ssh_changed;f=;e=1|
+> file /etc/ssh/sshd_config=Port%2022%0APermitRootLogin%20no%0AX11Forwarding%20no%0A
+> append done 1 repaired 1
+> append open 2 main:3@11 |main 3;restart sshd;k=;r=;f=;e=1|
+> service sshd running enabled 1
+> refused Change
+repaired main:2@6 1
+stopped: outside
+$ 0 run a.cf -K
++ left
+total kept 1 repaired 0 failed 0 skipped 0
+settled: yes
 ";
 
 #[test]
 fn a_service_follows_its_settings_or_tells_why_not(rt: HostRuntime) -> Result<(), Fail> {
-    compare_framed(&rt, rt.alloc(), SSH, SSH_FAILURES)
-}
-
-const HOST: &str = "+ dir /etc
-+ dir /etc/ssh
-+ file /etc/ssh/sshd_config Port%2022%0A
-+ service sshd running enabled 0
-";
-
-const NOTHING: &str = "stopped: outside\n";
-
-const FILE: &str = "repaired main:2@6 1\nstopped: outside\n";
-
-const ALL: &str =
-    "repaired main:2@6 1\nrepaired main:3@11 1\ntotal kept 0 repaired 2 failed 0 skipped 0\nsettled: yes\n";
-
-const KEPT: &str = "total kept 1 repaired 0 failed 0 skipped 0\nsettled: yes\n";
-
-// The run is stopped behind so many changes: what it puts, and what the next run on the world left puts. Once the file stands its
-// service isn't restarted any more.
-const STOPS: [(u32, &str, &str); 7] = [
-    (0, NOTHING, ALL),
-    (1, NOTHING, ALL),
-    (2, NOTHING, ALL),
-    (3, NOTHING, KEPT),
-    (4, FILE, KEPT),
-    (5, FILE, KEPT),
-    (6, FILE, KEPT),
-];
-
-// The site whose run is stopped behind so many changes, after that run.
-fn stopped_site(
-    rt: &impl Abort,
-    alloc: Global,
-    changes: u32,
-    lines: &str,
-) -> Result<MemorySite, Fail> {
-    let heading = format!(in alloc; "{HOST}!! {changes}")?;
-    let mut site = site_of(alloc, heading.as_str())?;
-    let row = format!(in alloc; "stopped\n{SSH}\n$ 4 run a.cf -K\n{lines}")?;
-    compare_row_on(rt, alloc, row.as_str(), &mut site)?;
-    Ok(site)
-}
-
-// Makes the next run on the world left.
-fn run_again(rt: &impl Abort, alloc: Global, world: World, lines: &str) -> Result<(), Fail> {
-    let mut left = MemorySite::new(alloc, world, Vec::new(alloc), None)?;
-    let row = format!(in alloc; "again\n{SSH}\n$ 0 run a.cf -K\n{lines}")?;
-    compare_row_on(rt, alloc, row.as_str(), &mut left)
-}
-
-#[test]
-fn a_run_goes_on_where_a_stopped_one_ended(rt: HostRuntime) -> Result<(), Fail> {
-    for (changes, first, second) in STOPS {
-        let site = stopped_site(&rt, rt.alloc(), changes, first)?;
-        run_again(&rt, rt.alloc(), site.into_world(), second)?;
-    }
-    Ok(())
+    compare_framed(&rt, rt.alloc(), SSH, RUNS)
 }

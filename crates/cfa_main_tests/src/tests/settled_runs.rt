@@ -78,14 +78,7 @@ settled: no (conflict)
 $ 0 run a.cf -K
 total kept 1 repaired 0 failed 0 skipped 0
 settled: yes
-";
-
-#[test]
-fn settled_or_not(rt: HostRuntime) -> Result<(), Fail> {
-    compare_table(&rt, rt.alloc(), SETTLED)
-}
-
-const STRICT: &str = "== a conflict is told, and no call on the site is made
+== a conflict is told, and no call on the site is made
 ! 1
 bundle agent main { files: '/a' content => 'x'; '/a' content => 'y'; }
 $ 3 run a.cf --strict
@@ -137,6 +130,6 @@ stopped: pattern
 ";
 
 #[test]
-fn strictly(rt: HostRuntime) -> Result<(), Fail> {
-    compare_table(&rt, rt.alloc(), STRICT)
+fn settled_or_not(rt: HostRuntime) -> Result<(), Fail> {
+    compare_table(&rt, rt.alloc(), SETTLED)
 }

@@ -1,100 +1,96 @@
 // Policies that are shown in their canonical text, or refused at their first fault.
-use super::{Case, MOTD, PLAIN, compare_all, compare_on, empty_site, inputs_of};
-use std::alloc::Global;
-use std::process::Abort;
+use super::run_tables::compare_table;
 use std::test::Fail;
 
-const SHOWN: Case<'static> = Case {
-    words: "show a.cf",
-    lines: "",
-    ..PLAIN
-};
+const SHOWS: &str = "== a policy that stands in its canonical text
+& a.cf
+bundle agent main
+{
+  files:
+    \"/etc/motd\" create => \"true\";
+}
+$ 0 show a.cf
+bundle agent main
+{
+  files:
+    \"/etc/motd\" create => \"true\";
+}
+$ 0 show a.cf <2
+bundle agent main
+{
+  files:
+    \"/etc/motd\" create => \"true\";
+}
+$ 4 show b.cf
+stopped: outside
+$ 1 show a.cf --strict
+words: refused
+$ 4 show a.cf >1
+== an empty policy
+& a.cf
 
-// Policies that are shown, or refused at their first fault.
-const SHOWS: [Case<'static>; 12] = [
-    Case {
-        lines: MOTD,
-        ..SHOWN
-    },
-    Case {
-        lines: MOTD,
-        failing_read: 2,
-        ..SHOWN
-    },
-    Case { text: "", ..SHOWN },
-    Case {
-        text: "bundle agent main { files: !!!!!!!!!!!!!!!!!",
-        lines: "a.cf:1:44 P2 TooDeep\n",
-        status: 1,
-        ..SHOWN
-    },
-    Case {
-        text: "bundle agent main { files: !!!!!!!!!!!!!!!!x:: }",
-        lines: "bundle agent main\n{\n  files:\n}\n",
-        ..SHOWN
-    },
-    Case {
-        text: "%",
-        lines: "a.cf:1:1 L1 BadByte\n",
-        status: 1,
-        ..SHOWN
-    },
-    Case {
-        text: "bundle agent main\n{\n  files:\n    \"/etc/mo",
-        lines: "a.cf:4:5 L2 UnclosedText\n",
-        status: 1,
-        ..SHOWN
-    },
-    Case {
-        text: "bundle agent main\n{\n  files:\n    \"/etc/motd\" create => \"true\";\n",
-        lines: "a.cf:5:1 P1 Unexpected\n",
-        status: 1,
-        ..SHOWN
-    },
-    Case {
-        text: "bundle agent main(a) {\n files: web|(db.!old)::\n '/etc/\\\"x' -> { \"ops\", 'it' } perms=>m(\"600\"), # why\n comment=>'say \"hi\"',; any:: \"/b\"; }",
-        lines: "bundle agent main(a)\n{\n  files:\n    web|db.!old::\n    \"/etc/\\\"x\" -> { \"ops\", \"it\" } perms => m(\"600\"), comment => \"say \\\"hi\\\"\";\n    any::\n    \"/b\";\n}\n",
-        ..SHOWN
-    },
-    Case {
-        words: "show b.cf",
-        lines: "stopped: outside\n",
-        status: 4,
-        ..SHOWN
-    },
-    Case {
-        words: "show a.cf --strict",
-        lines: "words: refused\n",
-        status: 1,
-        ..SHOWN
-    },
-    Case {
-        failing_put: 1,
-        status: 4,
-        ..SHOWN
-    },
-];
+$ 0 show a.cf
+== a guard that is too deep
+& a.cf
+bundle agent main { files: !!!!!!!!!!!!!!!!!
+$ 1 show a.cf
+a.cf:1:44 P2 TooDeep
+== a guard that is as deep as can be
+& a.cf
+bundle agent main { files: !!!!!!!!!!!!!!!!x:: }
+$ 0 show a.cf
+bundle agent main
+{
+  files:
+}
+== a byte that begins no token
+& a.cf
+%
+$ 1 show a.cf
+a.cf:1:1 L1 BadByte
+== an unclosed text
+& a.cf
+bundle agent main
+{
+  files:
+    \"/etc/mo
+$ 1 show a.cf
+a.cf:4:5 L2 UnclosedText
+== an end within a bundle
+& a.cf
+bundle agent main
+{
+  files:
+    \"/etc/motd\" create => \"true\";
+
+$ 1 show a.cf
+a.cf:5:1 P1 Unexpected
+== a policy that is written otherwise
+& a.cf
+bundle agent main(a) {
+ files: web|(db.!old)::
+ '/etc/\\\"x' -> { \"ops\", 'it' } perms=>m(\"600\"), # why
+ comment=>'say \"hi\"',; any:: \"/b\"; }
+$ 0 show a.cf
+bundle agent main(a)
+{
+  files:
+    web|db.!old::
+    \"/etc/\\\"x\" -> { \"ops\", \"it\" } perms => m(\"600\"), comment => \"say \\\"hi\\\"\";
+    any::
+    \"/b\";
+}
+== a source of more than a mebibyte
+& long a.cf 1048577
+$ 1 show a.cf
+a.cf L4 TooLong
+== a source that is no text
+& raw a.cf
+$ 1 show a.cf
+a.cf:1:1 L3 NotText
+";
 
 #[test]
 fn shows_what_reads(rt: HostRuntime) -> Result<(), Fail> {
-    compare_all(&rt, rt.alloc(), &SHOWS)
-}
-
-// Shows a source of any bytes, which is refused with these lines.
-fn compare_source(rt: &impl Abort, alloc: Global, source: &[u8], lines: &str) -> Result<(), Fail> {
-    let case = Case {
-        lines,
-        status: 1,
-        ..SHOWN
-    };
-    let mut inputs = inputs_of(alloc, &[("a.cf", source)], 0)?;
-    let mut site = empty_site(alloc, 0)?;
-    compare_on(rt, alloc, &case, &mut inputs, &mut site)
-}
-
-#[test]
-fn a_source_is_a_text_of_a_mebibyte_at_most(rt: HostRuntime) -> Result<(), Fail> {
-    let spaces = vec![in rt.alloc(); b' '; 1_048_577]?;
-    compare_source(&rt, rt.alloc(), spaces.as_slice(), "a.cf L4 TooLong\n")?;
-    compare_source(&rt, rt.alloc(), &[255], "a.cf:1:1 L3 NotText\n")
+    compare_table(&rt, rt.alloc(), SHOWS)
 }

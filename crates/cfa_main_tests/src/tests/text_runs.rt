@@ -2,7 +2,7 @@
 use super::run_tables::compare_table;
 use std::test::Fail;
 
-const LISTS: &str =
+const TEXTS: &str =
     "== the first list that a promise refers to is the outermost, and an empty one gives nothing
 bundle agent main { vars: 'a' slist => { '1', '2' }; 'b' slist => { 'x', 'y' }; 'e' slist => { }; reports: '$(b)$(a)'; '$(e)'; '$(a)$(main.a)'; }
 $ 0 run a.cf -K
@@ -79,14 +79,7 @@ $ 0 run a.cf -K
 R: a_b xp,q2 q
 total kept 1 repaired 0 failed 0 skipped 0
 settled: yes
-";
-
-#[test]
-fn lists_and_texts(rt: HostRuntime) -> Result<(), Fail> {
-    compare_table(&rt, rt.alloc(), LISTS)
-}
-
-const CAUSES: &str = "== unresolved comes first, and then nothing is done
+== unresolved comes first, and then nothing is done
 bundle agent main { reports: '$(nothing)$(long.l4096)$(long.l4)'; '$(long.65536)x$(nothing)'; }
 $ 0 run a.cf -K
 total kept 0 repaired 0 failed 0 skipped 0
@@ -169,6 +162,6 @@ stopped: pattern
 ";
 
 #[test]
-fn causes_in_their_order(rt: HostRuntime) -> Result<(), Fail> {
-    compare_table(&rt, rt.alloc(), CAUSES)
+fn texts(rt: HostRuntime) -> Result<(), Fail> {
+    compare_table(&rt, rt.alloc(), TEXTS)
 }

@@ -2,7 +2,7 @@
 use super::run_tables::compare_table;
 use std::test::Fail;
 
-const CAUSES: &str = "== no promise at all
+const VERDICTS: &str = "== no promise at all
 bundle agent main { }
 $ 0 check a.cf
 accepted 0
@@ -186,14 +186,7 @@ bundle agent main { files: '/a' create => 'true', classes => both('c'); '/t' edi
 bundle edit_line guarded { insert_lines: c:: 'x'; }
 $ 0 check a.cf
 accepted 2
-";
-
-#[test]
-fn causes(rt: HostRuntime) -> Result<(), Fail> {
-    compare_table(&rt, rt.alloc(), CAUSES)
-}
-
-const PAIRS: &str = "== what is deleted is made again beneath
+== what is deleted is made again beneath
 bundle agent main
 {
   files:
@@ -310,14 +303,7 @@ $ 3 check a.cf
 conflict C3 main:1@1 main:2@1 content /a
 $ 0 check a.cf @1704106800
 accepted 1
-";
-
-#[test]
-fn pairs(rt: HostRuntime) -> Result<(), Fail> {
-    compare_table(&rt, rt.alloc(), PAIRS)
-}
-
-const FIRST: &str = "== the first live instance goes first
+== the first live instance goes first
 bundle agent main { services: 's' service_policy => 'restart'; files: '/a' content => 'x'; '/a' content => 'y'; }
 $ 3 check a.cf
 conflict C3 main:2@1 main:3@1 content /a
@@ -340,6 +326,6 @@ conflict C4 main:1@1 main:3@1 class c
 ";
 
 #[test]
-fn the_first_conflict(rt: HostRuntime) -> Result<(), Fail> {
-    compare_table(&rt, rt.alloc(), FIRST)
+fn verdicts(rt: HostRuntime) -> Result<(), Fail> {
+    compare_table(&rt, rt.alloc(), VERDICTS)
 }

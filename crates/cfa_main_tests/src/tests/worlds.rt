@@ -47,26 +47,27 @@ fn add_lock(alloc: Global, world: &mut World, text: &str) -> Result<(), Fail> {
     Ok(world.locks.insert(Name::from_text(alloc, key)?, moment)?)
 }
 
-// A file of so many times the letter a.
-fn add_long(alloc: Global, world: &mut World, text: &str) -> Result<(), Fail> {
-    let (path, size) = parts(text, " ");
-    let bytes = vec![in alloc; b'a'; size.parse::<usize>().unwrap_or(0)]?;
-    add_file(alloc, world, path, bytes.as_slice())
+// So many times the letter a.
+pub fn letters(alloc: Global, size: &str) -> Result<Vec<u8>, Fail> {
+    Ok(vec![in alloc; b'a'; size.parse::<usize>().unwrap_or(0)]?)
+}
+
+fn add_told(alloc: Global, world: &mut World, path: &str, field: &str) -> Result<(), Fail> {
+    let content = unescape(alloc, &Name::from_text(alloc, field)?)?;
+    add_file(alloc, world, path, content.as_str().as_bytes())
 }
 
 fn add_given(alloc: Global, world: &mut World, given: &str) -> Result<(), Fail> {
     let (kind, text) = parts(given, " ");
+    let (path, field) = parts(text, " ");
     match kind {
         "dir" => add_dir(alloc, world, text),
+        "file" => add_told(alloc, world, path, field),
         "raw" => add_file(alloc, world, text, &[255]),
-        "long" => add_long(alloc, world, text),
+        "long" => add_file(alloc, world, path, letters(alloc, field)?.as_slice()),
         "service" => add_service(alloc, world, text),
         "lock" => add_lock(alloc, world, text),
-        _ => {
-            let (path, field) = parts(text, " ");
-            let content = unescape(alloc, &Name::from_text(alloc, field)?)?;
-            add_file(alloc, world, path, content.as_str().as_bytes())
-        }
+        _ => Ok(()),
     }
 }
 
@@ -90,4 +91,16 @@ pub fn site_of(alloc: Global, heading: &str) -> Result<MemorySite, Fail> {
         }
     }
     Ok(MemorySite::new(alloc, world, vec![in alloc; failing_call]?, stop)?)
+}
+
+// The host of a run: what the run before left, or a new one of the lines that it tells, which are none behind `+ new`. Behind
+// `+ left` it is what was left, and no call on it fails any more.
+pub fn host_behind(alloc: Global, left: MemorySite, run: &str) -> Result<MemorySite, Fail> {
+    if run.contains("\n+ left") {
+        return Ok(MemorySite::new(alloc, left.into_world(), Vec::new(alloc), None)?);
+    }
+    if run.contains("\n+ ") {
+        return site_of(alloc, run);
+    }
+    Ok(left)
 }
