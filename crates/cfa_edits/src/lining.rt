@@ -7,7 +7,7 @@ ghost use Rattle.cfa_edits.specs.Answers.{IsRefusalOf};
 
 use crate::EditErr;
 use crate::fields::with_field;
-use cfa_base::{Name, Names, Pattern};
+use cfa_base::{Matcher, Name, Names, Pattern};
 use cfa_lines::Deck;
 use std::alloc::Global;
 
@@ -37,12 +37,10 @@ pub fn lines_of(alloc: Global, deck: &mut Deck) -> Result<Names, EditErr>
     Ok(lines)
 }
 
-/// Takes out each line that the pattern matches.
-pub fn delete(alloc: Global, deck: &mut Deck, pattern: &Pattern) -> Result<(), EditErr>
-    ensures ok { OnOk result (deck.new.lines ≡ unmatched pattern.now deck.old.lines) }
-    ensures memory { IfErr result (λ error. error ≡ EditErr.NoMemory) }
+// Takes out each line that the matcher matches.
+fn take_out(deck: &mut Deck, matcher: &mut Matcher<'_>)
+    ensures { deck.new.lines ≡ unmatched matcher.old deck.old.lines }
 {
-    let mut matcher = pattern.matcher(alloc)?;
     deck.rewind();
     while let Some(line) = deck.at() {
         if matcher.matches(line) {
@@ -50,6 +48,36 @@ pub fn delete(alloc: Global, deck: &mut Deck, pattern: &Pattern) -> Result<(), E
         } else {
             deck.step();
         }
+    }
+}
+
+/// Takes out each line that the pattern matches.
+pub fn delete(alloc: Global, deck: &mut Deck, pattern: &Pattern) -> Result<(), EditErr>
+    ensures ok { OnOk result (deck.new.lines ≡ unmatched pattern.now deck.old.lines) }
+    ensures memory { IfErr result (λ error. error ≡ EditErr.NoMemory) }
+{
+    let mut matcher = pattern.matcher(alloc)?;
+    take_out(deck, &mut matcher);
+    Ok(())
+}
+
+// Writes the value in the place of what the matcher finds in each line.
+fn write_over(
+    alloc: Global,
+    deck: &mut Deck,
+    matcher: &mut Matcher<'_>,
+    value: &Name,
+    all: bool,
+) -> Result<(), EditErr>
+    ensures ok { OnOk result (deck.new.lines
+        ≡ map (λ line. replaced matcher.old line value.now all) deck.old.lines) }
+    ensures memory { IfErr result (λ error. error ≡ EditErr.NoMemory) }
+{
+    deck.rewind();
+    while let Some(line) = deck.at() {
+        let changed = matcher.replace(alloc, line, value, all)?;
+        deck.insert(changed.as_str())?;
+        deck.remove();
     }
     Ok(())
 }
@@ -67,9 +95,34 @@ pub fn replace(
     ensures memory { IfErr result (λ error. error ≡ EditErr.NoMemory) }
 {
     let mut matcher = pattern.matcher(alloc)?;
+    write_over(alloc, deck, &mut matcher, value, all)
+}
+
+// Gives a field of each line that the matcher matches a value.
+fn give_fields(
+    alloc: Global,
+    deck: &mut Deck,
+    matcher: &mut Matcher<'_>,
+    separator: char,
+    number: u16,
+    value: &Name,
+) -> Result<(), EditErr>
+    requires { 1 ≤ number }
+    ensures ok { OnOk result (or_field_count (each_becomes
+        (λ line. field_edited matcher.old separator number value.now line) deck.old.lines)
+        ≡ Ok deck.new.lines) }
+    ensures refused { IfErr result (IsRefusalOf (or_field_count (each_becomes
+        (λ line. field_edited matcher.old separator number value.now line) deck.old.lines))) }
+{
     deck.rewind();
     while let Some(line) = deck.at() {
-        let changed = matcher.replace(alloc, line, value, all)?;
+        if !matcher.matches(line) {
+            deck.step();
+            continue;
+        }
+        let Some(changed) = with_field(alloc, line, separator, number, value)? else {
+            return Err(EditErr::FieldCount);
+        };
         deck.insert(changed.as_str())?;
         deck.remove();
     }
@@ -93,17 +146,5 @@ pub fn edit_fields(
         (λ line. field_edited pattern.now separator number value.now line) deck.old.lines))) }
 {
     let mut matcher = pattern.matcher(alloc)?;
-    deck.rewind();
-    while let Some(line) = deck.at() {
-        if !matcher.matches(line) {
-            deck.step();
-            continue;
-        }
-        let Some(changed) = with_field(alloc, line, separator, number, value)? else {
-            return Err(EditErr::FieldCount);
-        };
-        deck.insert(changed.as_str())?;
-        deck.remove();
-    }
-    Ok(())
+    give_fields(alloc, deck, &mut matcher, separator, number, value)
 }

@@ -5,7 +5,7 @@ ghost use Rattle.cfa_base.specs.Escapes.{escaped};
 ghost use Rattle.cfa_edits.specs.Scripts.{script_text, edit_text, spot_name, spot_pattern, block_text};
 
 use crate::{Edit, Spot};
-use cfa_base::{Name, Names, NoMemory, escape};
+use cfa_base::{Names, NoMemory, escape_bytes};
 use std::alloc::Global;
 
 /// Writes the text of edits behind a text.
@@ -27,17 +27,12 @@ fn write_edit(alloc: Global, text: &mut String, edit: &Edit) -> Result<(), NoMem
     ensures { OnOk result (string_bytes text.new ≡ string_bytes text.old ++ edit_text edit.now) }
 {
     match edit {
-        Edit::Delete(pattern) => {
-            text.push_str("d:")?;
-            write_escaped(alloc, text, pattern.text())
-        }
+        Edit::Delete(pattern) => write_behind(alloc, text, "d:", pattern.text()),
         Edit::Field(pattern, separator, number, value) => {
-            text.push_str("f:")?;
-            write_escaped(alloc, text, pattern.text())?;
-            text.push_str(":")?;
-            write_escaped(alloc, text, separator.encode_utf8(&mut [0; 4]))?;
-            write!(text, ":{number}:")?;
-            write_escaped(alloc, text, value.as_str())
+            write_behind(alloc, text, "f:", pattern.text())?;
+            write_behind(alloc, text, ":", separator.encode_utf8(&mut [0; 4]))?;
+            write!(text, ":{number}")?;
+            write_behind(alloc, text, ":", value.as_str())
         }
         Edit::Insert(block, spot) => {
             text.push_str("i:")?;
@@ -46,10 +41,9 @@ fn write_edit(alloc: Global, text: &mut String, edit: &Edit) -> Result<(), NoMem
             write_block(alloc, text, block)
         }
         Edit::Replace(pattern, value, all) => {
-            text.push_str(if *all { "r:all:" } else { "r:first:" })?;
-            write_escaped(alloc, text, pattern.text())?;
-            text.push_str(":")?;
-            write_escaped(alloc, text, value.as_str())
+            let word = if *all { "r:all:" } else { "r:first:" };
+            write_behind(alloc, text, word, pattern.text())?;
+            write_behind(alloc, text, ":", value.as_str())
         }
     }
 }
@@ -97,10 +91,18 @@ fn write_block(alloc: Global, text: &mut String, block: &Names) -> Result<(), No
     Ok(())
 }
 
+// A word and a field behind it.
+fn write_behind(alloc: Global, text: &mut String, word: &str, field: &str) -> Result<(), NoMemory>
+    ensures { OnOk result (string_bytes text.new
+        ≡ string_bytes text.old ++ (word.now ++ escaped field.now)) }
+{
+    text.push_str(word)?;
+    write_escaped(alloc, text, field)
+}
+
 fn write_escaped(alloc: Global, text: &mut String, field: &str) -> Result<(), NoMemory>
     ensures { OnOk result (string_bytes text.new ≡ string_bytes text.old ++ escaped field.now) }
 {
-    let field = escape(alloc, &Name::from_text(alloc, field)?)?;
-    text.push_str(field.as_str())?;
-    Ok(())
+    let escaped = escape_bytes(alloc, field.as_bytes())?;
+    Ok(text.push_str(escaped.as_str())?)
 }

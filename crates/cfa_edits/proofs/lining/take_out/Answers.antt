@@ -2,7 +2,7 @@ use Rattle.std.proofs.Common.{sym, ap, ◌∙◌, arith}
 use Rattle.cfa_base.specs.Patterns.{PatternText, matches_in}
 use Rattle.cfa_edits.proofs.DeckSteps.{turn, end, removed_length, delete_keeps, delete_takes}
 use Rattle.std.proofs.lemmas.List.{append-nil}
-use Rattle.cfa_edits.proofs.lining.delete.Goals as goal
+use Rattle.cfa_edits.proofs.lining.take_out.Goals as goal
 
 pub loop-line-preserved-then-matches : goal.loop-line-preserved-then-matches
 loop-line-preserved-then-matches c =
@@ -10,7 +10,7 @@ loop-line-preserved-then-matches c =
     rw c.remove.ensures (
       c.matches.ensures.same ∙ c.loop-line.invariant.0,
       removed_length c.loop-line.deck.lines c.loop-line.deck.place c.in-Some.line.now t,
-      delete_takes c.args.pattern.now c.loop-line.deck.lines _ c.loop-line.deck.place c.in-Some.line.now t (ap (λ (m : PatternText). matches_in m c.in-Some.line.now) (sym c.loop-line.invariant.0) ∙ sym c.if-matches.ensures.found) c.loop-line.invariant.2,
+      delete_takes c.args.matcher.now c.loop-line.deck.lines _ c.loop-line.deck.place c.in-Some.line.now t (ap (λ (m : PatternText). matches_in m c.in-Some.line.now) (sym c.loop-line.invariant.0) ∙ sym c.if-matches.ensures.found) c.loop-line.invariant.2,
     )
 
 pub step-requires : goal.step-requires
@@ -29,10 +29,10 @@ loop-line-preserved c =
     rw c.step.ensures (
       c.matches.ensures.same ∙ c.loop-line.invariant.0,
       omega (arith, t.within),
-      delete_keeps c.args.pattern.now c.loop-line.deck.lines _ c.loop-line.deck.place c.in-Some.line.now t (ap (λ (m : PatternText). matches_in m c.in-Some.line.now) (sym c.loop-line.invariant.0) ∙ sym c.if-matches.ensures.found) c.loop-line.invariant.2,
+      delete_keeps c.args.matcher.now c.loop-line.deck.lines _ c.loop-line.deck.place c.in-Some.line.now t (ap (λ (m : PatternText). matches_in m c.in-Some.line.now) (sym c.loop-line.invariant.0) ∙ sym c.if-matches.ensures.found) c.loop-line.invariant.2,
     )
 
-pub returns-clause-ok : goal.returns-clause-ok
-returns-clause-ok c =
+pub returns : goal.returns
+returns c =
     let e = end c.loop-line.deck.lines c.loop-line.deck.place c.in_default.ensures.line in
     sym e.before ∙ sym (append-nil _) ∙ (rw e.rest at c.loop-line.invariant.2)
