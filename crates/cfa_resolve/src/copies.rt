@@ -1,6 +1,7 @@
 // Copies of instances, of ids and of what variables hold.
 ghost use Rattle.std.specs.Prelude.{◌≡◌, IfOk};
 
+use crate::classes::Outcomes;
 use crate::{Instance, Work};
 use cfa_base::{NoMemory, Parts, PromiseId};
 use cfa_vars::Datum;
@@ -54,19 +55,35 @@ impl Work {
 }
 
 impl Instance {
+    // A copy of its classes.
+    fn outcomes(&self, alloc: Global) -> Result<Outcomes, NoMemory>
+        ensures kept { IfOk result (λ o. o.kept ≡ self.now.kept) }
+        ensures repaired { IfOk result (λ o. o.repaired ≡ self.now.repaired) }
+        ensures failed { IfOk result (λ o. o.failed ≡ self.now.failed) }
+    {
+        Ok(Outcomes {
+            kept: self.kept.copy(alloc)?,
+            repaired: self.repaired.copy(alloc)?,
+            failed: self.failed.copy(alloc)?,
+        })
+    }
+
     /// A copy of the instance. It has the acts in common with it.
     pub fn copy(&self, alloc: Global) -> Result<Instance, NoMemory>
         ensures { IfOk result (λ copy. copy ≡ self.now) }
     {
+        let outcomes = self.outcomes(alloc)?;
+        let (path, text) = (self.path.copy(alloc)?, self.text.copy(alloc)?);
+        let source = copy_id(alloc, &self.source)?;
         Ok(Instance {
-            path: self.path.copy(alloc)?,
-            source: copy_id(alloc, &self.source)?,
+            path,
+            source,
             work: self.work.copy(alloc)?,
-            kept: self.kept.copy(alloc)?,
-            repaired: self.repaired.copy(alloc)?,
-            failed: self.failed.copy(alloc)?,
+            kept: outcomes.kept,
+            repaired: outcomes.repaired,
+            failed: outcomes.failed,
             elapsed: self.elapsed,
-            text: self.text.copy(alloc)?,
+            text,
         })
     }
 }

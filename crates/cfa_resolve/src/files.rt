@@ -173,31 +173,31 @@ fn add_act(acts: &mut Vec<Act>, act: Option<Act>) -> Result<(), NoMemory>
     }
 }
 
-// What is made of what stands at a path.
-fn placing_acts(
+// Adds what is made of what stands at a path.
+fn add_placing_acts(
     alloc: Global,
     path: &Path,
     is_directory: bool,
     create: &Option<Name>,
     content: &Option<Name>,
     bodies: &Bodies,
-) -> Result<Vec<Act>, NoMemory>
-    requires { IsShort content.now }
-    ensures value { IfOk result (λ acts. acts.items
+    acts: &mut Vec<Act>,
+) -> Result<(), NoMemory>
+    requires short { IsShort content.now }
+    requires none { acts.old.items ≡ [] }
+    ensures value { OnOk result (acts.new.items
         ≡ placing_acts path.now is_directory create.now content.now bodies.now) }
-    ensures facts { IfOk result (λ acts. All IsAct acts.items) }
+    ensures facts { OnOk result (All IsAct acts.new.items) }
 {
-    let mut acts = Vec::new(alloc);
-    add_act(&mut acts, delete_act(alloc, path, bodies.get("delete"))?)?;
-    add_act(&mut acts, create_act(alloc, path, is_directory, create)?)?;
+    add_act(acts, delete_act(alloc, path, bodies.get("delete"))?)?;
+    add_act(acts, create_act(alloc, path, is_directory, create)?)?;
     let copied = copy_act(alloc, path, is_directory, bodies.get("copy_from"))?;
-    add_act(&mut acts, copied)?;
-    add_act(&mut acts, content_act(alloc, path, is_directory, content)?)?;
-    Ok(acts)
+    add_act(acts, copied)?;
+    add_act(acts, content_act(alloc, path, is_directory, content)?)
 }
 
-// The acts at a path, in the order in which they are made.
-fn acts_at(
+// Adds the acts at a path, in the order in which they are made.
+fn add_acts_at(
     alloc: Global,
     path: &Path,
     is_directory: bool,
@@ -205,20 +205,22 @@ fn acts_at(
     content: &Option<Name>,
     bodies: &Bodies,
     scripted: Option<Scripted>,
-) -> Result<Vec<Act>, NoMemory>
-    requires { IsShort content.now }
-    ensures value { IfOk result (λ acts. acts.items
+    acts: &mut Vec<Act>,
+) -> Result<(), NoMemory>
+    requires short { IsShort content.now }
+    requires none { acts.old.items ≡ [] }
+    ensures value { OnOk result (acts.new.items
         ≡ acts_at path.now is_directory create.now content.now bodies.now scripted) }
-    ensures facts { IfOk result (λ acts. All IsAct acts.items) }
+    ensures facts { OnOk result (All IsAct acts.new.items) }
 {
-    let mut acts = placing_acts(alloc, path, is_directory, create, content, bodies)?;
+    add_placing_acts(alloc, path, is_directory, create, content, bodies, acts)?;
     let defaults = bodies.get("edit_defaults");
     add_act(
-        &mut acts,
+        acts,
         edit_act(alloc, path, is_directory, defaults, scripted)?,
     )?;
-    add_act(&mut acts, perms_act(alloc, path, bodies.get("perms"))?)?;
-    Ok(acts)
+    add_act(acts, perms_act(alloc, path, bodies.get("perms"))?)?;
+    Ok(())
 }
 
 // What a promiser names as a path, and whether it is written as a directory.
@@ -248,13 +250,10 @@ pub(crate) fn file_acts(
     ensures facts { IfOk result (λ acts. All IsAct acts.items) }
 {
     let (part, is_directory) = path_part(promiser);
+    let mut acts = Vec::new(alloc);
     match read_path(alloc, part)? {
-        None => {
-            let mut acts = Vec::new(alloc);
-            acts.push(Act::Bust(Reason::BadPath))?;
-            Ok(acts)
-        }
-        Some(path) => acts_at(
+        None => acts.push(Act::Bust(Reason::BadPath))?,
+        Some(path) => add_acts_at(
             alloc,
             &path,
             is_directory,
@@ -262,6 +261,8 @@ pub(crate) fn file_acts(
             content,
             bodies,
             scripted,
-        ),
+            &mut acts,
+        )?,
     }
+    Ok(acts)
 }

@@ -1,10 +1,10 @@
 // The key texts of instances.
-ghost use Rattle.std.specs.Prelude.{◌≡◌, ◌++◌, ◌∷◌, IfOk, OnOk, codes, map};
+ghost use Rattle.std.specs.Prelude.{◌≡◌, ◌++◌, ◌∷◌, [], IfOk, OnOk, codes, map};
 ghost use Rattle.std.specs.List.{flat_map};
 ghost use Rattle.std.specs.Fmt.{decimal};
 ghost use Rattle.std.specs.String.{string_bytes};
 ghost use Rattle.cfa_base.specs.Escapes.{escaped};
-ghost use Rattle.cfa_resolve.specs.KeyTexts.{fields_after, act_text, datum_text, work_text, classes_text, key_text};
+ghost use Rattle.cfa_resolve.specs.KeyTexts.{fields_after, mode_field, names_field, act_text, datum_text, work_text, classes_text, key_text};
 
 use crate::Work;
 use crate::classes::Outcomes;
@@ -17,6 +17,58 @@ use std::alloc::Global;
 // Few key texts are longer. Room for so many bytes is taken at once.
 const USUAL_LENGTH: usize = 96;
 
+// Adds a word, a name behind it, escaped, and a field.
+fn add_two(
+    alloc: Global,
+    whole: &mut String,
+    word: &str,
+    name: &Name,
+    field: &str,
+) -> Result<(), NoMemory>
+    ensures { OnOk result (string_bytes whole.new ≡ string_bytes whole.old
+        ++ (word.now ++ (escaped name.now ++ (32 ∷ field.now)))) }
+{
+    add_escaped(alloc, whole, word, name)?;
+    add_field(whole, " ", field)
+}
+
+// Adds the text of a copy.
+fn add_copy(alloc: Global, whole: &mut String, source: &Name, path: &Name) -> Result<(), NoMemory>
+    ensures { OnOk result (string_bytes whole.new ≡ string_bytes whole.old
+        ++ (59 ∷ fields_after (codes "copy") (escaped source.now ∷ escaped path.now ∷ []))) }
+{
+    add_escaped(alloc, whole, ";copy ", source)?;
+    add_escaped(alloc, whole, " ", path)
+}
+
+// Adds the text of permissions.
+fn add_perms(
+    alloc: Global,
+    whole: &mut String,
+    path: &Name,
+    mode: Option<u16>,
+    owners: &[Name],
+    groups: &[Name],
+) -> Result<(), NoMemory>
+    ensures { OnOk result (string_bytes whole.new ≡ string_bytes whole.old
+        ++ (59 ∷ fields_after (codes "perms") (escaped path.now ∷ mode_field mode
+        ∷ names_field owners.now ∷ names_field groups.now ∷ []))) }
+{
+    add_escaped(alloc, whole, ";perms ", path)?;
+    add_mode(whole, mode)?;
+    add_names(alloc, whole, owners)?;
+    add_names(alloc, whole, groups)
+}
+
+// Adds the text of an act that can't be made.
+fn add_bust(alloc: Global, whole: &mut String, code: &str, promiser: &Name) -> Result<(), NoMemory>
+    ensures { OnOk result (string_bytes whole.new ≡ string_bytes whole.old
+        ++ (59 ∷ fields_after (codes "bust") (code.now ∷ escaped promiser.now ∷ []))) }
+{
+    add_field(whole, ";bust ", code)?;
+    add_escaped(alloc, whole, " ", promiser)
+}
+
 // Adds the text of an act, `;` before it.
 fn add_act(alloc: Global, promiser: &Name, act: &Act, whole: &mut String) -> Result<(), NoMemory>
     ensures { OnOk result (string_bytes whole.new
@@ -26,36 +78,32 @@ fn add_act(alloc: Global, promiser: &Name, act: &Act, whole: &mut String) -> Res
         Act::Create(path) => add_escaped(alloc, whole, ";create ", path.text()),
         Act::MakeDir(path) => add_escaped(alloc, whole, ";mkdir ", path.text()),
         Act::Delete(path, with_directories) => {
-            add_escaped(alloc, whole, ";delete ", path.text())?;
-            add_field(whole, " ", yes_or_no(*with_directories))
+            add_two(
+                alloc,
+                whole,
+                ";delete ",
+                path.text(),
+                yes_or_no(*with_directories),
+            )
         }
         Act::Content(path, bytes) => {
-            add_escaped(alloc, whole, ";content ", path.text())?;
-            add_field(whole, " ", escape_bytes(alloc, bytes.as_slice())?.as_str())
+            let field = escape_bytes(alloc, bytes.as_slice())?;
+            add_two(alloc, whole, ";content ", path.text(), field.as_str())
         }
-        Act::Copy(source, path) => {
-            add_escaped(alloc, whole, ";copy ", source.text())?;
-            add_escaped(alloc, whole, " ", path.text())
-        }
+        Act::Copy(source, path) => add_copy(alloc, whole, source.text(), path.text()),
         Act::Edit(path, script) => {
-            add_escaped(alloc, whole, ";edit ", path.text())?;
-            add_field(whole, " ", script.text().as_str())
+            add_two(alloc, whole, ";edit ", path.text(), script.text().as_str())
         }
         Act::Perms(path, mode, owners, groups) => {
-            add_escaped(alloc, whole, ";perms ", path.text())?;
-            add_mode(whole, *mode)?;
-            add_names(alloc, whole, owners.as_slice())?;
-            add_names(alloc, whole, groups.as_slice())
+            let (owners, groups) = (owners.as_slice(), groups.as_slice());
+            add_perms(alloc, whole, path.text(), *mode, owners, groups)
         }
         Act::Start(name) => add_escaped(alloc, whole, ";start ", name),
         Act::Stop(name) => add_escaped(alloc, whole, ";stop ", name),
         Act::Enable(name) => add_escaped(alloc, whole, ";enable ", name),
         Act::Disable(name) => add_escaped(alloc, whole, ";disable ", name),
         Act::Restart(name) => add_escaped(alloc, whole, ";restart ", name),
-        Act::Bust(reason) => {
-            add_field(whole, ";bust ", reason.code())?;
-            add_escaped(alloc, whole, " ", promiser)
-        }
+        Act::Bust(reason) => add_bust(alloc, whole, reason.code(), promiser),
     }
 }
 

@@ -1,5 +1,5 @@
 // The instances of combinations.
-ghost use Rattle.std.specs.Prelude.{◌≡◌, ◌∷◌, [], Some, IfOk, codes, option_copied};
+ghost use Rattle.std.specs.Prelude.{◌≡◌, ◌≢◌, ◌∷◌, [], Option, Some, IfOk, codes, option_copied};
 ghost use Rattle.cfa_acts.specs.Acts.{IsAct, IsOwn};
 ghost use Rattle.cfa_schema.specs.Seen.{tree_of};
 ghost use Rattle.cfa_served.specs.Served.{minutes_of};
@@ -7,8 +7,11 @@ ghost use Rattle.cfa_tree.specs.Plain.{plain_promise, plain_value};
 ghost use Rattle.cfa_values.specs.Attributes.{value_of};
 ghost use Rattle.cfa_resolve.specs.declared.instances.Work.TheVariants.{Acts as of_acts};
 ghost use Rattle.cfa_resolve.specs.FileActs.{file_acts, service_act, outcome_classes};
-ghost use Rattle.cfa_resolve.specs.Instances.{instance_of, bust_instance, promiser_in, text_of, call_by, work_by, minutes_said, minutes_in, made_instance, handed_instance};
-ghost use Rattle.cfa_resolve.specs.OfTheCode.{seen_reached};
+ghost use Rattle.cfa_resolve.specs.Instances.{instance_of, bust_instance, promiser_in, text_of, call_by, work_by, classed, timed, minutes_said, minutes_in, made_instance, handed_instance};
+ghost use Rattle.cfa_bodies.specs.Bodies.{Bodies as AnyBodies};
+ghost use Rattle.cfa_resolve.specs.KeyTexts.{key_text};
+ghost use Rattle.cfa_resolve.specs.OfTheCode.{IsShort, seen_reached};
+ghost use Rattle.cfa_scripts.specs.declared.scripting.Scripted.{Scripted as AnyScripted};
 
 use crate::classes::{Outcomes, outcome_classes};
 use crate::copies::copy_id;
@@ -30,6 +33,27 @@ use cfa_values::value_named;
 use cfa_vars::{Expanded, expand};
 use std::alloc::Global;
 
+// The names of an instance: its path, its promise and its key text.
+fn names_of(
+    alloc: Global,
+    reached: &Reached<'_>,
+    promiser: &Name,
+    work: &Work,
+    outcomes: &Outcomes,
+    minutes: u32,
+) -> Result<(Name, PromiseId, Name), NoMemory>
+    ensures { IfOk result (λ names. names ≡ (
+      (seen_reached reached.now).path,
+      (seen_reached reached.now).id,
+      key_text (seen_reached reached.now).id promiser.now work.now
+          outcomes.now.kept outcomes.now.repaired outcomes.now.failed minutes,
+    )) }
+{
+    let text = key_text(alloc, reached.id, promiser, work, outcomes, minutes)?;
+    let path = reached.path.copy(alloc)?;
+    Ok((path, copy_id(alloc, reached.id)?, text))
+}
+
 fn instance_of(
     alloc: Global,
     reached: &Reached<'_>,
@@ -41,10 +65,10 @@ fn instance_of(
     ensures { IfOk result (λ i. i ≡ instance_of (seen_reached reached.now) promiser.now work
         outcomes.kept outcomes.repaired outcomes.failed minutes) }
 {
-    let text = key_text(alloc, reached.id, promiser, &work, &outcomes, minutes)?;
+    let (path, source, text) = names_of(alloc, reached, promiser, &work, &outcomes, minutes)?;
     Ok(Instance {
-        path: reached.path.copy(alloc)?,
-        source: copy_id(alloc, reached.id)?,
+        path,
+        source,
         work,
         kept: outcomes.kept,
         repaired: outcomes.repaired,
@@ -63,6 +87,13 @@ fn one_act(alloc: Global, act: Act) -> Result<Acts, NoMemory>
     Acts::from_vec(alloc, items)
 }
 
+fn bust_work(alloc: Global, reason: Reason) -> Result<Work, NoMemory>
+    requires { IsOwn reason }
+    ensures { IfOk result (λ w. w ≡ of_acts (Act.Bust reason ∷ [])) }
+{
+    Ok(Work::Acts(one_act(alloc, Act::Bust(reason))?))
+}
+
 fn control_minutes(checked: &Checked) -> u32
     ensures { result ≡ minutes_of (tree_of checked.now) }
 {
@@ -78,7 +109,7 @@ pub(crate) fn bust_instance(
     requires { IsOwn reason }
     ensures { IfOk result (λ i. i ≡ bust_instance (seen_reached reached.now) reason) }
 {
-    let work = Work::Acts(one_act(alloc, Act::Bust(reason))?);
+    let work = bust_work(alloc, reason)?;
     let none = Outcomes {
         kept: Names::new(alloc),
         repaired: Names::new(alloc),
@@ -132,6 +163,23 @@ fn call_work(
     }
 }
 
+// The texts of the attributes `create` and `content` of a files promise.
+fn file_texts(
+    alloc: Global,
+    reached: &Reached<'_>,
+    choice: &[(Name, Name)],
+) -> Result<(Option<Name>, Option<Name>), NoMemory>
+    ensures create { IfOk result
+        (λ both. both.0 ≡ text_of (seen_reached reached.now) choice.now (codes "create")) }
+    ensures content { IfOk result
+        (λ both. both.1 ≡ text_of (seen_reached reached.now) choice.now (codes "content")) }
+    ensures short { IfOk result (λ both. IsShort both.1) }
+{
+    let (promise, scopes) = (reached.promise, &reached.scopes);
+    let create = own_text(alloc, promise, "create", scopes, choice)?;
+    Ok((create, own_text(alloc, promise, "content", scopes, choice)?))
+}
+
 fn files_work(
     alloc: Global,
     reached: &Reached<'_>,
@@ -144,9 +192,7 @@ fn files_work(
         (text_of (seen_reached reached.now) choice.now (codes "create"))
         (text_of (seen_reached reached.now) choice.now (codes "content")) bodies.now scripted)) }
 {
-    let (promise, scopes) = (reached.promise, &reached.scopes);
-    let create = own_text(alloc, promise, "create", scopes, choice)?;
-    let content = own_text(alloc, promise, "content", scopes, choice)?;
+    let (create, content) = file_texts(alloc, reached, choice)?;
     let acts = file_acts(
         alloc,
         promiser.as_str(),
@@ -178,6 +224,27 @@ fn services_work(
     Ok(Work::Acts(one_act(alloc, act)?))
 }
 
+// What a promise that isn't one of files asks for in one combination, where this is its promiser.
+fn other_work(
+    alloc: Global,
+    reached: &Reached<'_>,
+    promiser: &Name,
+    choice: &[(Name, Name)],
+) -> Result<Work, NoMemory>
+    requires { promiser.now ≡ promiser_in (seen_reached reached.now) choice.now }
+    ensures { reached.now.promise_type ≢ PromiseType.Files
+        → (bodies : AnyBodies) (scripted : Option AnyScripted) → IfOk result
+        (λ w. w ≡ work_by (seen_reached reached.now) choice.now bodies scripted
+        reached.now.promise_type) }
+{
+    match reached.promise_type {
+        PromiseType::Services => services_work(alloc, reached, promiser, choice),
+        PromiseType::Methods => call_work(alloc, reached, choice),
+        PromiseType::Reports => Ok(Work::Report(promiser.copy(alloc)?)),
+        _ => Ok(Work::Acts(Acts::from_vec(alloc, Vec::new(alloc))?)),
+    }
+}
+
 // What a promise asks for in one combination, where this is its promiser.
 fn work_by(
     alloc: Global,
@@ -191,13 +258,11 @@ fn work_by(
     ensures { IfOk result (λ w. w ≡ work_by (seen_reached reached.now) choice.now bodies.now
         scripted reached.now.promise_type) }
 {
-    match reached.promise_type {
-        PromiseType::Files => files_work(alloc, reached, promiser, bodies, choice, scripted),
-        PromiseType::Services => services_work(alloc, reached, promiser, choice),
-        PromiseType::Methods => call_work(alloc, reached, choice),
-        PromiseType::Reports => Ok(Work::Report(promiser.copy(alloc)?)),
-        _ => Ok(Work::Acts(Acts::from_vec(alloc, Vec::new(alloc))?)),
+    if reached.promise_type == PromiseType::Files {
+        return files_work(alloc, reached, promiser, bodies, choice, scripted);
     }
+    drop(scripted);
+    other_work(alloc, reached, promiser, choice)
 }
 
 fn minutes_said(reached: &Reached<'_>, said: Option<&Said>) -> Option<u32>
@@ -230,6 +295,49 @@ fn minutes_in(reached: &Reached<'_>, bodies: &Bodies) -> Option<u32>
     minutes_said(reached, bodies.said("action", "ifelapsed"))
 }
 
+// The instance of work, with the classes that the bodies of its promise say.
+fn classed(
+    alloc: Global,
+    reached: &Reached<'_>,
+    bodies: &Bodies,
+    promiser: &Name,
+    work: Work,
+    minutes: u32,
+) -> Result<Instance, NoMemory>
+    ensures { IfOk result (λ i. i
+        ≡ classed (seen_reached reached.now) bodies.now promiser.now work minutes) }
+{
+    let outcomes = outcomes_of(alloc, bodies)?;
+    instance_of(alloc, reached, promiser, work, outcomes, minutes)
+}
+
+// The instance of a combination, where these are its promiser and its minutes.
+fn timed(
+    alloc: Global,
+    reached: &Reached<'_>,
+    promiser: &Name,
+    bodies: &Bodies,
+    choice: &[(Name, Name)],
+    scripted: Option<Scripted>,
+    minutes: Option<u32>,
+) -> Result<Instance, NoMemory>
+    requires { promiser.now ≡ promiser_in (seen_reached reached.now) choice.now }
+    ensures { IfOk result (λ i. i
+        ≡ timed (seen_reached reached.now) choice.now bodies.now scripted minutes) }
+{
+    match minutes {
+        None => {
+            drop(scripted);
+            let work = bust_work(alloc, Reason::BadValue)?;
+            classed(alloc, reached, bodies, promiser, work, 1)
+        }
+        Some(minutes) => {
+            let work = work_by(alloc, reached, promiser, bodies, choice, scripted)?;
+            classed(alloc, reached, bodies, promiser, work, minutes)
+        }
+    }
+}
+
 /// The instance of a combination, where nothing that its bodies and its edit bundle say keeps it from being made.
 #[tactic(auto, unfolding(crate::specs::Instances::made_instance))]
 pub(crate) fn made_instance(
@@ -243,17 +351,8 @@ pub(crate) fn made_instance(
         ≡ made_instance (seen_reached reached.now) choice.now bodies.now scripted) }
 {
     let promiser = promiser_in(alloc, reached, choice)?;
-    let outcomes = outcomes_of(alloc, bodies)?;
-    match minutes_in(reached, bodies) {
-        None => {
-            let work = Work::Acts(one_act(alloc, Act::Bust(Reason::BadValue))?);
-            instance_of(alloc, reached, &promiser, work, outcomes, 1)
-        }
-        Some(minutes) => {
-            let work = work_by(alloc, reached, &promiser, bodies, choice, scripted)?;
-            instance_of(alloc, reached, &promiser, work, outcomes, minutes)
-        }
-    }
+    let minutes = minutes_in(reached, bodies);
+    timed(alloc, reached, &promiser, bodies, choice, scripted, minutes)
 }
 
 /// The instance of what a promise of the edit bundle hands over.
@@ -268,9 +367,8 @@ pub(crate) fn handed_instance(
     ensures { IfOk result
         (λ i. i ≡ handed_instance (seen_reached reached.now) bodies.now reason) }
 {
-    let work = Work::Acts(one_act(alloc, Act::Bust(reason))?);
-    let outcomes = outcomes_of(alloc, bodies)?;
+    let work = bust_work(alloc, reason)?;
     let minutes = minutes_in(reached, bodies).unwrap_or(1);
     let written = &reached.promise.promiser;
-    instance_of(alloc, reached, written, work, outcomes, minutes)
+    classed(alloc, reached, bodies, written, work, minutes)
 }
