@@ -5,7 +5,7 @@ ghost use Rattle.cfa_base.specs.Patterns.{SizeRefusal};
 ghost use Rattle.cfa_kinds.specs.declared.kinds.PromiseType.TheVariants.{Vars as of_vars, Classes as of_classes};
 ghost use Rattle.cfa_defines.specs.OwnTexts.{combined, own_reads};
 ghost use Rattle.cfa_functions.specs.Builds.{refused_in};
-ghost use Rattle.cfa_scripts.specs.EditBundles.{edits_kept, kept_by, reach, walked_from, scopes_at};
+ghost use Rattle.cfa_scripts.specs.EditBundles.{edits_kept, kept_by, reach, unsettled_by, walked_from, scopes_at};
 ghost use Rattle.cfa_scripts.specs.EditPromises.{edits_by};
 ghost use Rattle.cfa_scripts.specs.ScriptBuilds.{BuiltFor, BuiltForEdits, BuiltByType, BuiltAt, BuiltAlong};
 ghost use Rattle.cfa_scripts.specs.Walking.{seen_around, seen_numbered};
@@ -52,6 +52,23 @@ fn add_unsettled(list: &mut Parts<Unsettled>, unsettled: Option<Unsettled>) -> R
     }
 }
 
+// Notes a promise whose guard may hold or not.
+fn note_unsettled(
+    alloc: Global,
+    around: &Around<'_>,
+    promise: &Numbered<'_>,
+    guard: Status,
+    walk: &mut Walk,
+) -> Result<(), NoMemory>
+    ensures { OnOk result (walk.new ≡ record walk.old {
+      unsettled = walk.old.unsettled
+          ++ unsettled_by (seen_around around.now) walk.old.inside (seen_numbered promise.now) guard;
+    }) }
+{
+    let unsettled = unsettled_by(alloc, around, &walk.inside, promise, guard)?;
+    add_unsettled(&mut walk.unsettled, unsettled)
+}
+
 fn keep_vars(
     alloc: Global,
     around: &Around<'_>,
@@ -76,15 +93,10 @@ fn keep_vars(
         promise.promise,
     )?;
     count(walk, count_choices(&choices), left)?;
-    let unsettled = unsettled_by(alloc, around, &walk.inside, promise, guard)?;
+    note_unsettled(alloc, around, promise, guard, walk)?;
     let values = values_at(alloc, around, &walk.inside, promise.promise, &choices)?;
-    set_each(
-        alloc,
-        &mut walk.inside.own,
-        &promise.promise.promiser,
-        values,
-    )?;
-    Ok(add_unsettled(&mut walk.unsettled, unsettled)?)
+    let own = &mut walk.inside.own;
+    Ok(set_each(alloc, own, &promise.promise.promiser, values)?)
 }
 
 fn keep_classes<P: Patterns>(
@@ -185,10 +197,9 @@ fn keep_edits<P: Patterns>(
 {
     let combined = combine_at(alloc, around, &walk.inside, promise)?;
     count(walk, count_combined(&combined), left)?;
-    let unsettled = unsettled_by(alloc, around, &walk.inside, promise, guard)?;
     let edits = edits_at(alloc, around, &walk.inside, promise, combined, pats)?;
     walk.edits.append(edits)?;
-    Ok(add_unsettled(&mut walk.unsettled, unsettled)?)
+    Ok(note_unsettled(alloc, around, promise, guard, walk)?)
 }
 
 // A promise whose guard may hold.
