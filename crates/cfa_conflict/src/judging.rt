@@ -1,6 +1,8 @@
 // The verdict.
 ghost use Rattle.std.specs.Prelude.{◌≡◌, ◌<◌, ◌++◌, false, IfOk, length, vec_len};
 ghost use Rattle.cfa_conflict.specs.Conflicts.{restarts_of, first_visit, unsure_at, undone_in, undone_from, conflicts_from, verdict_of};
+ghost use Rattle.cfa_walk.specs.Names.{names_of};
+ghost use Rattle.cfa_walk.specs.declared.walks.Walk.{Walk as AnyWalk};
 ghost use Rattle.cfa_conflict.specs.Targets.{first_of, HasRows, HaveLikes, IsAt, IsNeverUndone};
 
 use crate::live::{is_live, live_instances};
@@ -11,7 +13,7 @@ use crate::pairs::{
 use crate::targets::{deletes, distinct_of, places_sought, targets_of};
 use crate::text_places::TextPlaces;
 use crate::{Conflict, Verdict};
-use cfa_base::NoMemory;
+use cfa_base::{NoMemory, PairIndex};
 use cfa_resolve::Instance;
 use cfa_walk::{Walk, names_of};
 use std::alloc::Global;
@@ -145,30 +147,54 @@ fn indexed<'a>(
     Ok((targets, distinct))
 }
 
+// The open walk, with what is looked up in it.
+fn opened(alloc: Global, walk: &Walk) -> Result<Open<'_>, NoMemory>
+    ensures visits { IfOk result (λ all. all.visits.visits.now ≡ walk.entry.now.visits) }
+    ensures instances { IfOk result (λ all. all.instances.now ≡ walk.entry.now.instances) }
+{
+    let instances = walk.instances.as_slice();
+    let visits = VisitIndex::new(alloc, walk.visits.as_slice(), instances.len())?;
+    let (targets, distinct) = indexed(alloc, instances)?;
+    Ok(Open {
+        instances,
+        visits,
+        targets,
+        distinct,
+    })
+}
+
+// The first conflict of the instances that have one of these names.
+fn first_live(
+    alloc: Global,
+    names: &PairIndex<'_>,
+    all: &Open<'_>,
+) -> Result<Option<Conflict>, NoMemory>
+    ensures { IfOk result (λ found. (kept walk : AnyWalk) → names.now ≡ names_of kept.instances
+        → all.now.visits.visits.now ≡ walk.visits → all.now.instances.now ≡ walk.instances
+        → found ≡ first_of (conflicts_from kept walk walk.instances 0)) }
+{
+    let instances = all.instances;
+    for (place, instance) in instances.iter().enumerate() {
+        if is_live(names, instance) {
+            let one = Placed { instance, place };
+            if let Some(found) = first_at(alloc, all, one)? {
+                return Ok(Some(found));
+            }
+        }
+    }
+    Ok(None)
+}
+
 // The first conflict of the live instances.
 fn first_conflict(alloc: Global, kept: &Walk, open: &Walk) -> Result<Option<Conflict>, NoMemory>
     ensures { IfOk result (λ found.
         found ≡ first_of (conflicts_from kept.now «open».now «open».now.instances 0)) }
 {
     let names = names_of(alloc, kept.instances.as_slice())?;
-    let instances = open.instances.as_slice();
-    let visits = VisitIndex::new(alloc, open.visits.as_slice(), instances.len())?;
-    let (targets, distinct) = indexed(alloc, instances)?;
-    let all = Open {
-        instances,
-        visits,
-        targets,
-        distinct,
-    };
-    for (place, instance) in instances.iter().enumerate() {
-        if is_live(&names, instance) {
-            let one = Placed { instance, place };
-            if let Some(found) = first_at(alloc, &all, one)? {
-                return Ok(Some(found));
-            }
-        }
-    }
-    Ok(None)
+    let all = opened(alloc, open)?;
+    let found = first_live(alloc, &names, &all);
+    drop(all);
+    found
 }
 
 /// The verdict by the walk where all is kept and the open walk. It costs as much as both walks list, with a logarithm where one of
