@@ -166,7 +166,9 @@ fn run_strictly<S: Site, O: Sink, P: Patterns>(
     match verdict {
         Some(Verdict::Accepted(live)) => {
             let accepted = Some(Verdict::Accepted(live));
-            make_run(alloc, order, moment, &accepted, site, out, pats)
+            let ran = make_run(alloc, order, moment, &accepted, site, out, pats);
+            drop(accepted);
+            ran
         }
         Some(Verdict::Conflict(conflict)) => {
             put_verdict(alloc, Verdict::Conflict(conflict), out)
@@ -191,10 +193,11 @@ fn run_policy<S: Site, O: Sink, P: Patterns>(
 {
     let verdict = analyse_policy(alloc, &order.policy, pats)?;
     if order.strict {
-        run_strictly(alloc, order, moment, verdict, site, out, pats)
-    } else {
-        make_run(alloc, order, moment, &verdict, site, out, pats)
+        return run_strictly(alloc, order, moment, verdict, site, out, pats);
     }
+    let ran = make_run(alloc, order, moment, &verdict, site, out, pats);
+    drop(verdict);
+    ran
 }
 
 // Puts a text.

@@ -88,7 +88,9 @@ fn prepare_request<I: Inputs, P: Patterns>(
         }
         Request::Show(policy) => {
             let tree = read_tree_of(alloc, policy, inputs)?;
-            Ok(Work::Show(print(alloc, &tree)?))
+            let text = print(alloc, &tree);
+            drop(tree);
+            Ok(Work::Show(text?))
         }
         Request::Check(policy, classes) => {
             let policy = prepare_policy(alloc, policy, classes, moment, inputs, pats)?;
@@ -123,7 +125,10 @@ pub fn prepare<I: Inputs, P: Patterns>(
         return Err(refusal(alloc, Item::WordsRefused));
     };
     if moment > LAST_MOMENT {
+        drop(request);
         return Err(refusal(alloc, Item::MomentRefused));
     }
-    prepare_request(alloc, &request, moment, inputs, pats)
+    let prepared = prepare_request(alloc, &request, moment, inputs, pats);
+    drop(request);
+    prepared
 }

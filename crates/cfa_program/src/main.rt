@@ -34,25 +34,34 @@ fn moment_now(clock: &impl Clock) -> u64 {
     }
 }
 
+// Runs the agent on a host, and answers its status.
+fn run_agent(
+    alloc: Global,
+    words: &[Name],
+    moment: u64,
+    inputs: &mut HostInputs<HostRuntime>,
+    site: &mut HostSite<HostRuntime>,
+    out: &mut HostSink<HostRuntime>,
+) -> u8 {
+    let mut pats = RegexPatterns::new(alloc, Vec::new(alloc));
+    let status = agent_main(alloc, words, moment, inputs, site, out, &mut pats);
+    // Where the tables can't be written, the next call on the host reads the rows that changed.
+    let _ = site.write_tables(alloc);
+    status
+}
+
 fn start(rt: &HostRuntime) -> Result<u8, NoMemory> {
     let alloc = rt.alloc();
     let words = read_words(rt, alloc)?;
+    let host = Name::from_text(alloc, "host")?;
+    let (for_inputs, for_site, for_sink) = (rt.clone()?, rt.clone()?, rt.clone()?);
+    let mut inputs = HostInputs::new(for_inputs);
+    let mut site = HostSite::new(for_site, host);
+    let mut out = HostSink::new(for_sink);
+    let words = words.as_slice();
     let moment = moment_now(rt);
-    let mut site = HostSite::new(rt.clone()?, Name::from_text(alloc, "host")?);
-    let mut inputs = HostInputs::new(rt.clone()?);
-    let mut out = HostSink::new(rt.clone()?);
-    let mut pats = RegexPatterns::new(alloc, Vec::new(alloc));
-    let status = agent_main(
-        alloc,
-        words.as_slice(),
-        moment,
-        &mut inputs,
-        &mut site,
-        &mut out,
-        &mut pats,
-    );
-    // Where the tables can't be written, the next call on the host reads the rows that changed.
-    let _ = site.write_tables(alloc);
+    let status = run_agent(alloc, words, moment, &mut inputs, &mut site, &mut out);
+    drop(site);
     Ok(status)
 }
 

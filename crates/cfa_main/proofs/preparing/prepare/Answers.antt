@@ -12,4 +12,4 @@ returns-then-moment-gt-LAST_MOMENT g c =
 
 pub returns : goal.returns
 returns g c =
-    prepare.prepared c.args.words.now c.args.moment (g.I.Inputs.shown c.args.inputs.now) (g.P.Patterns.shown c.args.pats.now) c.in-Some.request (sym c.in_ok-request.ensures ∙ c.in-Some.is) (omega arith) (g.I.Inputs.shown c.prepare_request.new.inputs) (g.P.Patterns.shown c.prepare_request.new.pats) c.prepare_request.result c.prepare_request.ensures
+    prepare.prepared c.args.words.now c.args.moment (g.I.Inputs.shown c.args.inputs.now) (g.P.Patterns.shown c.args.pats.now) c.in-Some.request (sym c.in_ok-request.ensures ∙ c.in-Some.is) (omega arith) (g.I.Inputs.shown c.prepare_request-prepared.new.inputs) (g.P.Patterns.shown c.prepare_request-prepared.new.pats) c.prepare_request-prepared.result c.prepare_request-prepared.ensures
