@@ -1,5 +1,5 @@
 // The classes that are raised for an outcome.
-ghost use Rattle.std.specs.Prelude.{◌≡◌, ◌++◌, IfOk, filter, map, not};
+ghost use Rattle.std.specs.Prelude.{◌≡◌, ◌++◌, IfOk, codes, filter, map, not};
 ghost use Rattle.cfa_functions.specs.Functions.{canonified};
 ghost use Rattle.cfa_resolve.specs.FileActs.{is_empty, outcome_classes};
 
@@ -39,4 +39,20 @@ pub(crate) fn outcome_classes(alloc: Global, bodies: &Bodies, name: &str) -> Res
         Some(_) => Ok(Names::new(alloc)),
         None => Ok(Names::new(alloc)),
     }
+}
+
+/// The classes that the `classes` body of a promise lists for each outcome.
+pub(crate) fn outcomes_of(alloc: Global, bodies: &Bodies) -> Result<Outcomes, NoMemory>
+    ensures kept { IfOk result
+        (λ o. o.kept ≡ outcome_classes bodies.now (codes "promise_kept")) }
+    ensures repaired { IfOk result
+        (λ o. o.repaired ≡ outcome_classes bodies.now (codes "promise_repaired")) }
+    ensures failed { IfOk result
+        (λ o. o.failed ≡ outcome_classes bodies.now (codes "repair_failed")) }
+{
+    Ok(Outcomes {
+        kept: outcome_classes(alloc, bodies, "promise_kept")?,
+        repaired: outcome_classes(alloc, bodies, "promise_repaired")?,
+        failed: outcome_classes(alloc, bodies, "repair_failed")?,
+    })
 }

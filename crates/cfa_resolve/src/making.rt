@@ -6,20 +6,20 @@ ghost use Rattle.cfa_served.specs.Served.{minutes_of};
 ghost use Rattle.cfa_tree.specs.Plain.{plain_promise, plain_value};
 ghost use Rattle.cfa_values.specs.Attributes.{value_of};
 ghost use Rattle.cfa_resolve.specs.declared.instances.Work.TheVariants.{Acts as of_acts};
-ghost use Rattle.cfa_resolve.specs.FileActs.{file_acts, service_act, outcome_classes};
+ghost use Rattle.cfa_resolve.specs.FileActs.{file_acts, service_act};
 ghost use Rattle.cfa_resolve.specs.Instances.{instance_of, bust_instance, promiser_in, text_of, call_by, work_by, classed, timed, minutes_said, minutes_in, made_instance, handed_instance};
 ghost use Rattle.cfa_bodies.specs.Bodies.{Bodies as AnyBodies};
 ghost use Rattle.cfa_resolve.specs.KeyTexts.{key_text};
 ghost use Rattle.cfa_resolve.specs.OfTheCode.{IsShort, seen_reached};
 ghost use Rattle.cfa_scripts.specs.declared.scripting.Scripted.{Scripted as AnyScripted};
 
-use crate::classes::{Outcomes, outcome_classes};
+use crate::classes::{Outcomes, outcomes_of};
 use crate::copies::copy_id;
 use crate::files::file_acts;
 use crate::keys::key_text;
 use crate::reached::Reached;
 use crate::services::service_act;
-use crate::values::{minutes_written, own_text, short_minutes};
+use crate::values::{minutes_written, own_text, promiser_in, short_minutes};
 use crate::{Acts, Instance, Work};
 use cfa_acts::{Act, Reason};
 use cfa_base::{Name, Names, NoMemory, Parts, PromiseId};
@@ -30,7 +30,6 @@ use cfa_schema::Checked;
 use cfa_scripts::Scripted;
 use cfa_tree::Value;
 use cfa_values::value_named;
-use cfa_vars::{Expanded, expand};
 use std::alloc::Global;
 
 // The names of an instance: its path, its promise and its key text.
@@ -118,20 +117,6 @@ pub(crate) fn bust_instance(
     let minutes = control_minutes(reached.checked);
     let promiser = &reached.promise.promiser;
     instance_of(alloc, reached, promiser, work, none, minutes)
-}
-
-fn promiser_in(
-    alloc: Global,
-    reached: &Reached<'_>,
-    choice: &[(Name, Name)],
-) -> Result<Name, NoMemory>
-    ensures { IfOk result (λ p. p ≡ promiser_in (seen_reached reached.now) choice.now) }
-{
-    match expand(alloc, &reached.promise.promiser, &reached.scopes, choice)? {
-        Expanded::Done(whole) => Ok(whole),
-        Expanded::Unresolved(_) => empty_text(alloc),
-        Expanded::TooLong => empty_text(alloc),
-    }
 }
 
 fn call_of(
@@ -272,21 +257,6 @@ fn minutes_said(reached: &Reached<'_>, said: Option<&Said>) -> Option<u32>
         None => Some(control_minutes(reached.checked)),
         Some(said) => minutes_written(text_in(said)),
     }
-}
-
-fn outcomes_of(alloc: Global, bodies: &Bodies) -> Result<Outcomes, NoMemory>
-    ensures kept { IfOk result
-        (λ o. o.kept ≡ outcome_classes bodies.now (codes "promise_kept")) }
-    ensures repaired { IfOk result
-        (λ o. o.repaired ≡ outcome_classes bodies.now (codes "promise_repaired")) }
-    ensures failed { IfOk result
-        (λ o. o.failed ≡ outcome_classes bodies.now (codes "repair_failed")) }
-{
-    Ok(Outcomes {
-        kept: outcome_classes(alloc, bodies, "promise_kept")?,
-        repaired: outcome_classes(alloc, bodies, "promise_repaired")?,
-        failed: outcome_classes(alloc, bodies, "repair_failed")?,
-    })
 }
 
 fn minutes_in(reached: &Reached<'_>, bodies: &Bodies) -> Option<u32>

@@ -3,16 +3,18 @@ ghost use Rattle.std.specs.Prelude.{◌≡◌, ◌≤◌, IfOk};
 ghost use Rattle.cfa_kinds.specs.Forms.{minutes_written};
 ghost use Rattle.cfa_tree.specs.Plain.{plain_promise};
 ghost use Rattle.cfa_vars.specs.Scopes.{in_scope};
-ghost use Rattle.cfa_resolve.specs.OfTheCode.{IsShort};
+ghost use Rattle.cfa_resolve.specs.Instances.{promiser_in};
+ghost use Rattle.cfa_resolve.specs.OfTheCode.{IsShort, seen_reached};
 ghost use Rattle.cfa_resolve.specs.FileActs.{truth, mode_written, own_text};
 
+use crate::reached::Reached;
 use cfa_base::{Name, NoMemory};
-use cfa_bodies::whole_or_empty;
+use cfa_bodies::{empty_text, whole_or_empty};
 use cfa_functions::text_of_value;
 use cfa_kinds::{Form, has_form, minutes};
 use cfa_tree::Promise;
 use cfa_values::value_named;
-use cfa_vars::Scopes;
+use cfa_vars::{Expanded, Scopes, expand};
 use std::alloc::Global;
 
 /// Whether a text says yes or no.
@@ -77,5 +79,20 @@ pub(crate) fn own_text(
             let text = text_of_value(alloc, value, scopes, choice)?;
             Ok(Some(whole_or_empty(alloc, text)?))
         }
+    }
+}
+
+/// The promiser of a promise in a combination, empty where it has no text.
+pub(crate) fn promiser_in(
+    alloc: Global,
+    reached: &Reached<'_>,
+    choice: &[(Name, Name)],
+) -> Result<Name, NoMemory>
+    ensures { IfOk result (λ p. p ≡ promiser_in (seen_reached reached.now) choice.now) }
+{
+    match expand(alloc, &reached.promise.promiser, &reached.scopes, choice)? {
+        Expanded::Done(whole) => Ok(whole),
+        Expanded::Unresolved(_) => empty_text(alloc),
+        Expanded::TooLong => empty_text(alloc),
     }
 }
