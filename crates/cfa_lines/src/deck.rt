@@ -1,6 +1,6 @@
 // The deck: two stacks of lines, those before the place and those from it on.
 ghost use Rattle.std.specs.Prelude.{◌≡◌, ℕ, List, [], ◌∷◌, ◌++◌, ◌+◌, ◌<◌, ◌≤◌, ◌^◌, length, map, IfOk, OnOk, OnErr, option_copied, slice_get, remove, insert, string_bytes, vec_len, vec_capacity};
-ghost use Rattle.cfa_lines.specs.Decks.{lines_of, parts_of, lines_of_parts, text_of, lines_at};
+ghost use Rattle.cfa_lines.specs.Decks.{lines_of, parts_of, lines_of_parts, text_of, ended, lines_at};
 
 use cfa_base::{Name, NoMemory};
 use std::alloc::Global;
@@ -46,15 +46,20 @@ impl Deck {
         ensures { IfOk result (λ text. text ≡ text_of self.now.lines) }
     {
         let mut text = String::new(alloc);
-        for line in &self.before {
-            text.push_str(line.as_str())?;
-            text.push_str("\n")?;
-        }
-        for line in self.after.iter().rev() {
-            text.push_str(line.as_str())?;
-            text.push_str("\n")?;
-        }
+        self.write_to(&mut text)?;
         Ok(Name::from_string(text)?)
+    }
+
+    // Writes the lines at the end of a text.
+    fn write_to(&self, text: &mut String) -> Result<(), NoMemory>
+        ensures { OnOk result
+            (string_bytes text.new ≡ string_bytes text.old ++ text_of self.now.lines) }
+    {
+        push_lines(text, &self.before)?;
+        for line in self.after.iter().rev() {
+            push_line(text, line)?;
+        }
+        Ok(())
     }
 
     /// The line at the place, without taking memory. `None` at the end.
@@ -101,27 +106,38 @@ impl Deck {
             ≡ lines_at (insert self.old.lines self.old.place line.now) (self.old.place + 1)) }
         ensures err { OnErr result (self.new ≡ self.old) }
     {
-        let alloc = *self.before.allocator();
-        let added = Name::from_text(alloc, line)?;
         self.before.reserve(self.after.len() + 1)?;
         self.after.reserve(self.before.len() + 1)?;
+        let added = Name::from_text(*self.before.allocator(), line)?;
         self.before.push(added).unwrap();
         Ok(())
     }
+}
+
+// Writes lines at the end of a text.
+fn push_lines(text: &mut String, lines: &[Name]) -> Result<(), NoMemory>
+    ensures { OnOk result (string_bytes text.new ≡ string_bytes text.old ++ text_of lines.now) }
+{
+    for line in lines {
+        push_line(text, line)?;
+    }
+    Ok(())
+}
+
+// Writes a line and its newline at the end of a text.
+fn push_line(text: &mut String, line: &Name) -> Result<(), NoMemory>
+    ensures { OnOk result (string_bytes text.new ≡ string_bytes text.old ++ ended line.now) }
+{
+    text.push_str(line.as_str())?;
+    Ok(text.push_str("\n")?)
 }
 
 // The lines of a text, in order.
 fn lines(alloc: Global, text: &str) -> Result<Vec<Name>, NoMemory>
     ensures { IfOk result (λ lines. lines.items ≡ lines_of text.now) }
 {
-    let mut lines = copies(alloc, &parts(alloc, text)?)?;
-    let Some(last) = lines.pop() else {
-        return Ok(lines);
-    };
-    if !last.as_str().is_empty() {
-        lines.push(last)?;
-    }
-    Ok(lines)
+    let parts = parts(alloc, text)?;
+    copies(alloc, without_empty_last(&parts))
 }
 
 // The parts of a text between newlines.
@@ -129,6 +145,19 @@ fn parts(alloc: Global, text: &str) -> Result<Vec<&str>, NoMemory>
     ensures { IfOk result (λ parts. map (λ part. part.now) parts.items ≡ parts_of text.now) }
 {
     Ok(text.split('\n').collect(alloc)?)
+}
+
+// The parts without the last where it is empty.
+fn without_empty_last<'p, 't>(parts: &'p [&'t str]) -> &'p [&'t str]
+    ensures { map (λ part. part.now) result.now
+        ≡ lines_of_parts (map (λ part. part.now) parts.now) }
+{
+    if let Some((last, rest)) = parts.split_last() {
+        if last.is_empty() {
+            return rest;
+        }
+    }
+    parts
 }
 
 // A copy of each part.
