@@ -6,7 +6,7 @@ ghost use Rattle.cfa_outside.specs.Inputs.{text_of, fails};
 ghost use Rattle.cfa_outside.specs.MemoryInputs.{texts_of, failed_names, turns_of, shown_of, fails_next};
 ghost use Rattle.cfa_outside.specs.Turns.{no_calls, TakesTurn};
 
-use crate::turns::Turns;
+use crate::turns::{Turns, note};
 use crate::{Inputs, OutsideErr};
 use cfa_base::{Bytes, Name, Names, NoMemory};
 use std::alloc::Global;
@@ -78,7 +78,7 @@ impl Inputs for MemoryInputs {
                 Ok(Bytes::from_slice(alloc, first_bytes(bytes.as_slice(), limit))?)
             }
             _ => {
-                self.failed.push(name.copy(alloc)?)?;
+                note(alloc, &mut self.failed, name)?;
                 self.turns.fail();
                 Err(OutsideErr::Failed)
             }

@@ -1,8 +1,9 @@
 // A site in memory.
-ghost use Rattle.std.specs.Prelude.{◌≡◌, [], ◌∷◌, OnOk, OnErr, IfOk, IsTrue};
+ghost use Rattle.std.specs.Prelude.{◌≡◌, [], ◌∷◌, ◌++◌, OnOk, OnErr, IfOk, IsTrue};
 ghost use Rattle.cfa_outside.specs.Sites.{fits, after_change};
 ghost use Rattle.cfa_outside.specs.Worlds.{HasParents};
 ghost use Rattle.cfa_outside.specs.Turns.{is_stopped};
+ghost use Rattle.cfa_outside.specs.declared.sites.Entry.TheVariants.{Did};
 
 use crate::turns::Turns;
 use crate::{Call, Change, Entry, Look, OutsideErr, Path, Perms, ServiceRow, Site, World};
@@ -115,6 +116,27 @@ fn apply(alloc: Global, world: &mut World, change: &Change) -> Result<(), NoMemo
     }
 }
 
+// Makes a change and logs it.
+fn make(
+    alloc: Global,
+    world: &mut World,
+    log: &mut Vec<Entry>,
+    change: &Change,
+) -> Result<(), NoMemory>
+    requires { IsTrue (fits change.now world.old) }
+    ensures world { OnOk result (world.new ≡ after_change change.now world.old) }
+    ensures log { OnOk result (log.new.items ≡ log.old.items ++ Did change.now ∷ []) }
+    ensures world_left { OnErr result (world.new ≡ world.old) }
+    ensures log_left { OnErr result (log.new.items ≡ log.old.items) }
+{
+    log.push(Entry::Did(change.copy(alloc)?))?;
+    let result = apply(alloc, world, change);
+    if result.is_err() {
+        log.truncate(log.len() - 1);
+    }
+    result
+}
+
 impl Site for MemorySite {
     ghost use Rattle.std.specs.FinMap as map;
     ghost use Rattle.std.specs.Prelude.{Some};
@@ -192,11 +214,8 @@ impl Site for MemorySite {
         ensures changes { changes_so_far self.new ≡ changes_after result (changes_so_far self.old) }
     {
         self.begin(Call::Change)?;
-        let entry = Entry::Did(change.copy(alloc)?);
-        self.log.reserve(1)?;
-        apply(alloc, &mut self.world, change)?;
+        make(alloc, &mut self.world, &mut self.log, change)?;
         self.world.nodes.have_parents();
-        self.log.push(entry).unwrap();
         self.changes = self.changes.saturating_add(1);
         Ok(())
     }

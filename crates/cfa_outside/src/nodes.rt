@@ -1,7 +1,7 @@
 // What stands at each path.
-ghost use Rattle.std.specs.Prelude.{◌≡◌, ◌≤◌, not, [], IsTrue, IfOk, OnOk, OnErr, IsErrOf, IfSome, IfNone, option_copied, length, drop};
+ghost use Rattle.std.specs.Prelude.{◌≡◌, ◌≤◌, if◌then◌else◌, not, [], IsTrue, IfOk, OnOk, OnErr, IsErrOf, IfSome, IfNone, option_copied, length, drop};
 ghost use Rattle.std.specs.FinMap as map;
-ghost use Rattle.cfa_outside.specs.Worlds.{put_file, put_directory, set_perms, with_perms, file_with, root_perms, with_dirs, above, above_from, is_file, is_directory, is_blocked, is_in_directories, has_below, look_at, takes_file, takes_directory, is_removable, bytes_in, perms_in, is_free, HasParents};
+ghost use Rattle.cfa_outside.specs.Worlds.{put_file, put_directory, set_perms, with_perms, file_with, root_perms, with_dir, with_dirs, above, above_from, is_file, is_directory, is_blocked, is_in_directories, has_below, look_at, takes_file, takes_directory, is_removable, bytes_in, perms_in, is_free, HasParents};
 ghost use Rattle.cfa_outside.specs.OfTheCode.{IsNextSlash};
 
 use crate::{Look, Node, NodeErr, Path, Perms};
@@ -122,11 +122,11 @@ impl Nodes {
             → IsTrue (not (is_free self.old path.now)) }
     {
         let text = path.text().as_str();
-        if self.rows.contains(text) || !lies_in_directories(&self.rows, text) {
+        if !tests_as_free(&self.rows, text) {
+            drop(node);
             return Err(NodeErr::Misplaced);
         }
-        self.rows.insert(Name::from_text(alloc, text)?, node)?;
-        Ok(())
+        Ok(put(alloc, &mut self.rows, text, node)?)
     }
 
     /// Gives the file at a path these bytes. It is made with mode 600 where it is missing, and each missing directory
@@ -201,6 +201,12 @@ fn lies_in_directories(rows: &TextMap<Node>, path: &str) -> bool
     true
 }
 
+fn tests_as_free(rows: &TextMap<Node>, path: &str) -> bool
+    ensures { result ≡ is_free rows.now path.now }
+{
+    !rows.contains(path) && lies_in_directories(rows, path)
+}
+
 /// The permissions of what is new: a mode, with the owner and the group `root`.
 pub fn root_perms(alloc: Global, mode: u16) -> Result<Perms, NoMemory>
     ensures { IfOk result (λ p. p ≡ root_perms mode) }
@@ -237,6 +243,28 @@ fn slash_from(path: &str, from: usize) -> Option<usize>
     None
 }
 
+// Puts a node at a path, in the place of the one that stands there.
+fn put(alloc: Global, rows: &mut TextMap<Node>, path: &str, node: Node) -> Result<(), NoMemory>
+    ensures ok { OnOk result (rows.new ≡ map.insert rows.old path.now node) }
+    ensures err { OnErr result (rows.new ≡ rows.old) }
+{
+    rows.insert(Name::from_text(alloc, path)?, node)
+}
+
+// Makes a directory at a path where nothing stands. The answer is whether it was made.
+fn make_missing(alloc: Global, rows: &mut TextMap<Node>, path: &str) -> Result<bool, NoMemory>
+    ensures ok { OnOk result (rows.new ≡ with_dir path.now rows.old) }
+    ensures undone { IfOk result (λ is_made.
+        (if is_made then map.remove rows.new path.now else rows.new) ≡ rows.old) }
+    ensures err { OnErr result (rows.new ≡ rows.old) }
+{
+    if rows.get(path).is_some() {
+        return Ok(false);
+    }
+    put(alloc, rows, path, Node::Dir(root_perms(alloc, 0o700)?))?;
+    Ok(true)
+}
+
 // Makes the directories that are missing before the slashes from a place on, and then puts the node. What was made is
 // taken out again where memory ends.
 fn put_from(
@@ -244,30 +272,24 @@ fn put_from(
     rows: &mut TextMap<Node>,
     path: &str,
     from: usize,
-    placed: (Name, Node),
+    node: Node,
 ) -> Result<(), NoMemory>
     requires { from ≤ length path.now }
     ensures ok { OnOk result (rows.new
         ≡ map.insert (with_dirs (above_from path.now from (drop from path.now)) rows.old)
-        placed.0 placed.1) }
+        path.now node) }
     ensures err { OnErr result (rows.new ≡ rows.old) }
 {
     let Some(i) = slash_from(path, from) else {
-        return rows.insert(placed.0, placed.1);
+        return put(alloc, rows, path, node);
     };
     let dir = &path[..i];
-    if rows.get(dir).is_some() {
-        return put_from(alloc, rows, path, i + 1, placed);
+    let is_made = make_missing(alloc, rows, dir)?;
+    let result = put_from(alloc, rows, path, i + 1, node);
+    if is_made && result.is_err() {
+        rows.remove(dir);
     }
-    let node = Node::Dir(root_perms(alloc, 0o700)?);
-    rows.insert(Name::from_text(alloc, dir)?, node)?;
-    match put_from(alloc, rows, path, i + 1, placed) {
-        Ok(()) => Ok(()),
-        Err(e) => {
-            rows.remove(dir);
-            Err(e)
-        }
-    }
+    result
 }
 
 fn put_node(alloc: Global, rows: &mut TextMap<Node>, path: &str, node: Node) -> Result<(), NoMemory>
@@ -275,8 +297,7 @@ fn put_node(alloc: Global, rows: &mut TextMap<Node>, path: &str, node: Node) -> 
         (rows.new ≡ map.insert (with_dirs (above path.now) rows.old) path.now node) }
     ensures err { OnErr result (rows.new ≡ rows.old) }
 {
-    let key = Name::from_text(alloc, path)?;
-    put_from(alloc, rows, path, path.len().min(1), (key, node))
+    put_from(alloc, rows, path, path.len().min(1), node)
 }
 
 #[tactic(auto, unfolding(crate::specs::Worlds::put_file))]
@@ -325,5 +346,5 @@ fn set_perms(
         return Ok(());
     };
     let node = node_with(alloc, node, perms)?;
-    rows.insert(Name::from_text(alloc, path)?, node)
+    put(alloc, rows, path, node)
 }

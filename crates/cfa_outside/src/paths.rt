@@ -1,6 +1,6 @@
 // Paths from the root.
-ghost use Rattle.std.specs.Prelude.{◌≡◌, ◌&&◌, List, ℕ, IfOk, IsErrOf, None, Some, map, length, nat_le, nat_lt, ◌==◌, not};
-ghost use Rattle.std.specs.List.{list_all, slice_split};
+ghost use Rattle.std.specs.Prelude.{◌≡◌, ◌&&◌, ◌++◌, List, ℕ, IfOk, OnOk, IsErrOf, None, Some, map, length, nat_le, nat_lt, ◌==◌, not};
+ghost use Rattle.std.specs.List.{list_all};
 ghost use Rattle.std.specs.String.{string_bytes};
 ghost use Rattle.cfa_outside.specs.Paths.{path_of, is_rooted, components, is_component, joined};
 ghost use Rattle.cfa_outside.specs.declared.paths.PathErr.TheVariants.{NoMemory};
@@ -107,23 +107,12 @@ fn tests_as_rooted(text: &str) -> bool
     bytes.len() != 0 && bytes[0] == b'/' && bytes[bytes.len() - 1] != b'/'
 }
 
-fn split_at_slashes(alloc: Global, text: &str) -> Result<Vec<&str>, AllocError>
-    ensures { IfOk result (λ v. map (λ x. x.now) v.items ≡ slice_split (λ b. b == 47) text.now) }
-{
-    text.split('/').collect(alloc)
-}
-
 fn split_into_components(alloc: Global, text: &str) -> Result<Vec<&str>, AllocError>
     ensures { IfOk result (λ v. map (λ x. x.now) v.items ≡ components text.now) }
 {
-    let pieces = split_at_slashes(alloc, text)?;
-    let mut parts = Vec::new(alloc);
-    for piece in &pieces {
-        if !piece.is_empty() {
-            parts.push(*piece)?;
-        }
-    }
-    Ok(parts)
+    text.split('/')
+        .filter(|piece| !piece.is_empty())
+        .collect(alloc)
 }
 
 fn has_no_zero(part: &str) -> bool
@@ -154,9 +143,18 @@ fn join(alloc: Global, parts: &[&str]) -> Result<String, AllocError>
     ensures { IfOk result (λ s. string_bytes s ≡ joined (map (λ x. x.now) parts.now)) }
 {
     let mut whole = String::new(alloc);
+    push_parts(&mut whole, parts)?;
+    Ok(whole)
+}
+
+// Writes each part after a slash at the end of a text.
+fn push_parts(whole: &mut String, parts: &[&str]) -> Result<(), AllocError>
+    ensures { OnOk result (string_bytes whole.new
+        ≡ string_bytes whole.old ++ joined (map (λ x. x.now) parts.now)) }
+{
     for part in parts {
         whole.push_str("/")?;
         whole.push_str(part)?;
     }
-    Ok(whole)
+    Ok(())
 }

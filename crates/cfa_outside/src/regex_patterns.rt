@@ -4,7 +4,7 @@ ghost use Rattle.cfa_base.specs.Patterns.{pattern_of, is_pattern, refused_by, Si
 ghost use Rattle.cfa_outside.specs.RegexPatterns.{refused_texts, turns_of, shown_of, is_too_big};
 ghost use Rattle.cfa_outside.specs.Turns.{no_calls, after_call, is_next_listed};
 
-use crate::turns::Turns;
+use crate::turns::{Turns, note};
 use cfa_base::{How, Name, Names, Pattern, PatternErr, Patterns};
 use std::alloc::Global;
 
@@ -50,7 +50,7 @@ impl Patterns for RegexPatterns {
             Err(PatternErr::Bad) => return Err(PatternErr::Bad),
             Err(PatternErr::NoMemory) => return Err(PatternErr::NoMemory),
         }
-        self.refused.push(text.copy(alloc)?)?;
+        note(alloc, &mut self.refused, text)?;
         self.turns.fail();
         Err(PatternErr::TooBig)
     }

@@ -1,7 +1,9 @@
 // The calls on an object in memory.
-ghost use Rattle.std.specs.Prelude.{◌≡◌, ◌≤◌, false};
+ghost use Rattle.std.specs.Prelude.{◌≡◌, ◌≤◌, ◌++◌, ◌∷◌, [], false, OnOk, OnErr};
 ghost use Rattle.cfa_outside.specs.Turns.{no_calls, after_call, is_next_listed, with_fault};
 
+use cfa_base::{Name, Names, NoMemory};
+use std::alloc::Global;
 use std::marker::Model;
 
 /// The calls on an object in memory, numbered from 1: which of them fail, how many there were, and how many failed.
@@ -48,4 +50,12 @@ impl Turns {
     {
         self.faults = self.faults.saturating_add(1);
     }
+}
+
+/// Adds a copy of a name at the end. After want of memory the list is as it was.
+pub(crate) fn note(alloc: Global, names: &mut Names, name: &Name) -> Result<(), NoMemory>
+    ensures ok { OnOk result (names.new ≡ names.old ++ name.now ∷ []) }
+    ensures err { OnErr result (names.new ≡ names.old) }
+{
+    names.push(name.copy(alloc)?)
 }
