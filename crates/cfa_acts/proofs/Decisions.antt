@@ -103,13 +103,9 @@ has_read present bytes (Some (File x _)) is = let same : x ≡ present = cc in a
 has_read present bytes (Some (Dir _)) is = cc
 has_read present bytes None is = cc
 
-pub content_kept : (path bytes : List ℕ) (world : World) → true ≡ has_bytes bytes (map.get world.nodes path) → Kept ≡ decision (act.Content path bytes) world
-unfolding decision post
-content_kept path bytes world holds = ap (λ b. cond b Kept (needed (act.Content path bytes) world)) holds
-
-pub content_put : (path bytes : List ℕ) (world : World) → false ≡ has_bytes bytes (map.get world.nodes path) → puts_file path bytes (look_of world path) ≡ decision (act.Content path bytes) world
+pub content_decided : (path bytes : List ℕ) (world : World) → cond (has_bytes bytes (map.get world.nodes path)) Kept (puts_file path bytes (look_of world path)) ≡ decision (act.Content path bytes) world
 unfolding decision post needed
-content_put path bytes world fails = ap (λ b. cond b Kept (puts_file path bytes (look_of world path))) fails
+content_decided path bytes world = refl
 
 untaken_lacks : (bytes : List ℕ) (here : Option Node) (blocked below : Bool) → takes_file (shows here blocked below) ≡ false → has_bytes bytes here ≡ false
 untaken_lacks bytes (Some (File _ _)) blocked below untaken = absurd (false≢true (sym untaken))

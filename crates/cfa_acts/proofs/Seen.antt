@@ -1,10 +1,13 @@
 -- What was seen at one time is joined with what was seen at a later one.
-use Rattle.std.proofs.Common.{Option, Some, None, IfSome, refl, sym, subst, ◌∙◌}
+use Rattle.std.proofs.Common.{Option, Some, None, IfSome, Result, Ok, Err, [], ◌∷◌, refl, sym, subst, ◌∙◌}
 use Rattle.std.proofs.lemmas.Option.{IfSome_then}
-use Rattle.cfa_base.specs.Shown.{Shown}
+use Rattle.cfa_base.specs.Shown.{Shown, HasFailed, IsLeft}
+use Rattle.cfa_outside.specs.declared.sites.Entry.TheVariants.{Refused}
 use Rattle.cfa_outside.specs.declared.worlds.World.{World}
-use Rattle.cfa_outside.specs.Sites.{Told}
-use Rattle.cfa_acts.specs.Seeing.{OfWorld, IsSeen}
+use Rattle.cfa_outside.specs.Sites.{Told, adds}
+use Rattle.cfa_acts.specs.declared.seeing.SeeErr.{SeeErr}
+use Rattle.cfa_acts.specs.declared.seeing.SeeErr.TheVariants.{Failed, NoMemory}
+use Rattle.cfa_acts.specs.Seeing.{OfWorld, IsSeen, Sees}
 
 some_both : {A : Type 0} (o : Option A) (P Q : A → Type 0) → IfSome o P → IfSome o Q → IfSome o (λ x. P x × Q x)
 some_both None P Q h k = h
@@ -42,3 +45,9 @@ at_end P Q before after f seen =
 -- what holds now was seen without a call
 pub now : (P : World → Type 0) (shown : Shown Told) → OfWorld P shown → IsSeen P shown shown
 now P shown h = record { holds = h; shown = refl }
+
+-- what was seen, and then what a further call answered
+pub seen_then : {X : Type 0} (P : World → Type 0) (Q R : X → World → Type 0) (before between after : Shown Told) (r : Result X SeeErr) → ((x : X) (w : World) → P w → Q x w → R x w) → IsSeen P before between → Sees Q between after r → Sees R before after r
+seen_then P Q R before between after (Ok x) f p q = weaker _ (R x) before after (λ w e. f x w e.0 e.1) (both P (Q x) before between after p q)
+seen_then P Q R before between after (Err (Failed call)) f p q = subst (λ (s : Shown Told). HasFailed (adds (Refused call ∷ [])) s after) p.shown q
+seen_then P Q R before between after (Err NoMemory) f p q = subst (λ (s : Shown Told). IsLeft s after) p.shown q

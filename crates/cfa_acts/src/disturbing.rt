@@ -1,5 +1,5 @@
 // Which act disturbs which.
-ghost use Rattle.std.specs.Prelude.{◌≡◌, ◌&&◌, not, IfOk, OnErr};
+ghost use Rattle.std.specs.Prelude.{◌≡◌, ◌&&◌, ◌||◌, not, IfOk, OnErr};
 ghost use Rattle.std.specs.Str.{bytes_eq};
 ghost use Rattle.cfa_outside.specs.Worlds.{is_below};
 ghost use Rattle.cfa_acts.specs.Acts.{IsAct};
@@ -26,15 +26,9 @@ pub fn disturbs(alloc: Global, later: &Act, earlier: &Act) -> Result<bool, NoMem
     match earlier {
         Act::Create(path) | Act::MakeDir(path) => Ok(deletes(path, later)),
         Act::Delete(path, _) => Ok(puts_beneath(path, later)),
-        Act::Content(path, bytes) => {
-            let rewritten = rewrites(alloc, path, bytes, later)?;
-            Ok(deletes(path, later) || rewritten)
-        }
+        Act::Content(path, bytes) => disturbs_content(alloc, path, bytes, later),
         Act::Copy(source, path) => Ok(breaks_copy(source, path, later)),
-        Act::Edit(path, script) => {
-            let edited = edits_otherwise(alloc, path, script, later)?;
-            Ok(deletes(path, later) || edited)
-        }
+        Act::Edit(path, script) => disturbs_edit(alloc, path, script, later),
         Act::Perms(path, mode, owners, groups) => {
             Ok(deletes(path, later) || gives_other_perms(path, *mode, owners, groups, later))
         }
@@ -85,11 +79,13 @@ fn deletes(path: &Path, act: &Act) -> bool
     }
 }
 
-fn rewrites(alloc: Global, path: &Path, bytes: &Bytes, act: &Act) -> Result<bool, NoMemory>
-    ensures exact { IfOk result (λ yes. yes ≡ rewrites path.now bytes.now act.now) }
+fn disturbs_content(alloc: Global, path: &Path, bytes: &Bytes, act: &Act) -> Result<bool, NoMemory>
+    ensures exact { IfOk result
+        (λ yes. yes ≡ (deletes path.now act.now || rewrites path.now bytes.now act.now)) }
     ensures memory { OnErr result (AreEditAndContent act.now (Act.Content path.now bytes.now)) }
 {
     match act {
+        Act::Delete(other, _) => Ok(is_same_path(path, other)),
         Act::Content(other, content) => {
             Ok(is_same_path(path, other) && bytes.as_slice() != content.as_slice())
         }
@@ -99,11 +95,13 @@ fn rewrites(alloc: Global, path: &Path, bytes: &Bytes, act: &Act) -> Result<bool
     }
 }
 
-fn edits_otherwise(alloc: Global, path: &Path, script: &Script, act: &Act) -> Result<bool, NoMemory>
-    ensures exact { IfOk result (λ yes. yes ≡ edits_otherwise path.now script.now act.now) }
+fn disturbs_edit(alloc: Global, path: &Path, script: &Script, act: &Act) -> Result<bool, NoMemory>
+    ensures exact { IfOk result
+        (λ yes. yes ≡ (deletes path.now act.now || edits_otherwise path.now script.now act.now)) }
     ensures memory { OnErr result (AreEditAndContent act.now (Act.Edit path.now script.now)) }
 {
     match act {
+        Act::Delete(other, _) => Ok(is_same_path(path, other)),
         Act::Content(other, content) => changes_content(alloc, path, other, script, content),
         Act::Copy(_, other) => Ok(is_same_path(path, other)),
         Act::Edit(other, others) => {

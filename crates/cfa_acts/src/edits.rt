@@ -113,6 +113,13 @@ pub fn keeps_content(alloc: Global, script: &Script, content: &[u8]) -> Result<b
     if !leaves(alloc, script, text)? {
         return Ok(false);
     }
-    let text = join_lines(alloc, &split_lines(alloc, text)?)?;
+    let text = rejoin(alloc, text)?;
     Ok(text.as_str().len() <= MOST_FILE_BYTES)
+}
+
+// The text of the lines of a text.
+fn rejoin(alloc: Global, text: &str) -> Result<Name, NoMemory>
+    ensures { IfOk result (λ joined. joined ≡ text_of (lines_of text.now)) }
+{
+    join_lines(alloc, &split_lines(alloc, text)?)
 }

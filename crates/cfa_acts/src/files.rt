@@ -1,8 +1,9 @@
 // What acts on files and directories need.
-ghost use Rattle.std.specs.Prelude.{◌≡◌, ◌≤◌, length, IfOk};
+ghost use Rattle.std.specs.Prelude.{◌≡◌, ◌≤◌, if◌then◌else◌, length, IfOk};
 ghost use Rattle.std.specs.FinMap as map;
 ghost use Rattle.cfa_base.specs.declared.limits.TheConstants.{MOST_FILE_BYTES};
 ghost use Rattle.cfa_outside.specs.Sites.{look_of};
+ghost use Rattle.cfa_acts.specs.declared.acts.Decision.TheVariants.{Kept};
 ghost use Rattle.cfa_acts.specs.Acts.{has_bytes, puts_file, decision};
 ghost use Rattle.cfa_acts.specs.Seeing.{OfWorld, Sees, IsWhole, created, made, deleted, has_size, copy_refusal};
 
@@ -146,6 +147,24 @@ pub fn decide_content<S: Site>(
     ensures whole { IfOk result IsWhole }
 {
     let look = see_look(alloc, path, site)?;
+    put_missing(alloc, path, look, bytes, site)
+}
+
+// What puts these bytes at the path, of which the look tells.
+fn put_missing<S: Site>(
+    alloc: Global,
+    path: &Path,
+    look: Look,
+    bytes: &Bytes,
+    site: &mut S,
+) -> Result<Decision, SeeErr>
+    requires short { OfWorld (λ _. length bytes.now ≤ MOST_FILE_BYTES) (S.shown site.old) }
+    requires look { OfWorld (λ world. look ≡ look_of world path.now) (S.shown site.old) }
+    ensures seen { Sees (λ d world. d ≡ (if has_bytes bytes.now (map.get world.nodes path.now)
+        then Kept else puts_file path.now bytes.now look))
+        (S.shown site.old) (S.shown site.new) result }
+    ensures whole { IfOk result IsWhole }
+{
     if holds_bytes(alloc, path, look, bytes, site)? {
         Ok(Decision::Kept)
     } else {
@@ -181,9 +200,5 @@ pub fn decide_copy<S: Site>(
         return Ok(Decision::Fail(reason));
     }
     let bytes = see_bytes(alloc, source, site)?;
-    if holds_bytes(alloc, path, look, &bytes, site)? {
-        Ok(Decision::Kept)
-    } else {
-        Ok(put_file(alloc, path, &bytes, look)?)
-    }
+    put_missing(alloc, path, look, &bytes, site)
 }

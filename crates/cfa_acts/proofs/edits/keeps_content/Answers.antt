@@ -18,4 +18,4 @@ returns c =
     let left : leaves c.args.script.now c.args.content.now ≡ true =
     ap (leaves c.args.script.now) (sym c.in-Ok.ensures.cases.0) ∙ sym c.in_ok-leaves.ensures ∙ c.if-not-branch.false in
     kept_lines c.args.script.now c.args.content.now c.as_str.result.now left
-    (c.as_str.ensures ∙ c.in_ok-text.ensures ∙ ap text_of c.in_ok-split_lines.ensures ∙ ap (λ t. text_of (lines_of t)) c.in-Ok.ensures.cases.0)
+    (c.as_str.ensures ∙ c.in_ok-text.ensures ∙ ap (λ t. text_of (lines_of t)) c.in-Ok.ensures.cases.0)

@@ -1,10 +1,11 @@
-use Rattle.std.proofs.Common.{◌≡◌, Bool, cond, Some, None, sym, ap, ◌∙◌}
+use Rattle.std.proofs.Common.{◌≡◌, cond, Some, None, ap, ◌∙◌}
 use Rattle.std.specs.FinMap as map
 use Rattle.cfa_outside.specs.Sites.{look_of}
+use Rattle.cfa_outside.specs.declared.sites.Look.{Look}
 use Rattle.cfa_acts.specs.declared.acts.Decision.TheVariants.{Kept}
-use Rattle.cfa_acts.specs.Acts.{puts_file}
+use Rattle.cfa_acts.specs.Acts.{puts_file, has_bytes}
 use Rattle.cfa_acts.specs.Seeing.{copy_refusal}
-use Rattle.cfa_acts.proofs.Seen.{weaker, both, at_end}
+use Rattle.cfa_acts.proofs.Seen.{weaker, both, at_end, seen_then}
 use Rattle.cfa_acts.proofs.Decisions.{copy_refused, copy_readable, read_short, copy_decided}
 use Rattle.cfa_acts.proofs.files.decide_copy.Goals as goal
 
@@ -25,37 +26,26 @@ see_bytes-requires g c =
     copy_readable c.args.source.now c.in_ok-look.look w free)
     (both _ _ _ _ _ c.in_ok-source_look.ensures c.in_ok-look.ensures)
 
-pub holds_bytes-requires-clause-short : goal.holds_bytes-requires-clause-short
-holds_bytes-requires-clause-short g c =
+pub put_missing-requires-clause-short : goal.put_missing-requires-clause-short
+put_missing-requires-clause-short g c =
     at_end _ _ _ (g.S.Site.shown c.see_bytes.new.site) (λ w e.
     let source : c.in_ok-source_look.source_look ≡ look_of w c.args.source.now = e.0.0 in
     let free : copy_refusal (look_of w c.args.source.now) c.in_ok-look.look ≡ None = cc in
     read_short c.in_ok-bytes.bytes (map.get w.nodes c.args.source.now) e.1 (copy_readable c.args.source.now c.in_ok-look.look w free))
     (both _ _ _ _ _ (both _ _ _ _ _ c.in_ok-source_look.ensures c.in_ok-look.ensures) c.in_ok-bytes.ensures)
 
-pub holds_bytes-requires-clause-look : goal.holds_bytes-requires-clause-look
-holds_bytes-requires-clause-look g c =
+pub put_missing-requires-clause-look : goal.put_missing-requires-clause-look
+put_missing-requires-clause-look g c =
     at_end _ _ _ (g.S.Site.shown c.see_bytes.new.site) (λ w e. e.0.1)
     (both _ _ _ _ _ (both _ _ _ _ _ c.in_ok-source_look.ensures c.in_ok-look.ensures) c.in_ok-bytes.ensures)
 
-pub returns-then-branch-clause-seen : goal.returns-then-branch-clause-seen
-returns-then-branch-clause-seen g c =
-    weaker _ _ _ _ (λ w e.
-    let source : c.in_ok-source_look.source_look ≡ look_of w c.args.source.now = e.0.0.0 in
-    let target : c.in_ok-look.look ≡ look_of w c.args.path.now = e.0.0.1 in
-    let free : copy_refusal (look_of w c.args.source.now) (look_of w c.args.path.now) ≡ None = cc in
-    ap (λ (b : Bool). cond b Kept (puts_file c.args.path.now c.in_ok-bytes.bytes (look_of w c.args.path.now))) (sym c.if-branch.true ∙ e.1)
-    ∙ copy_decided c.args.source.now c.args.path.now c.in_ok-bytes.bytes w e.0.1 free)
-    (both _ _ _ _ _ (both _ _ _ _ _ (both _ _ _ _ _ c.in_ok-source_look.ensures c.in_ok-look.ensures) c.in_ok-bytes.ensures) c.in_ok-holds_bytes.ensures)
-
 pub returns-clause-seen : goal.returns-clause-seen
 returns-clause-seen g c =
-    weaker _ _ _ _ (λ w e.
-    let source : c.in_ok-source_look.source_look ≡ look_of w c.args.source.now = e.0.0.0 in
-    let target : c.in_ok-look.look ≡ look_of w c.args.path.now = e.0.0.1 in
+    seen_then _ _ _ _ _ _ c.put_missing.result (λ d w e put.
+    let source : c.in_ok-source_look.source_look ≡ look_of w c.args.source.now = e.0.0 in
+    let target : c.in_ok-look.look ≡ look_of w c.args.path.now = e.0.1 in
     let free : copy_refusal (look_of w c.args.source.now) (look_of w c.args.path.now) ≡ None = cc in
-    c.in_ok-put_file.ensures.exact
-    ∙ ap (puts_file c.args.path.now c.in_ok-bytes.bytes) target
-    ∙ ap (λ (b : Bool). cond b Kept (puts_file c.args.path.now c.in_ok-bytes.bytes (look_of w c.args.path.now))) (sym c.if-branch.false ∙ e.1)
-    ∙ copy_decided c.args.source.now c.args.path.now c.in_ok-bytes.bytes w e.0.1 free)
-    (both _ _ _ _ _ (both _ _ _ _ _ (both _ _ _ _ _ c.in_ok-source_look.ensures c.in_ok-look.ensures) c.in_ok-bytes.ensures) c.in_ok-holds_bytes.ensures)
+    put
+    ∙ ap (λ (look : Look). cond (has_bytes c.in_ok-bytes.bytes (map.get w.nodes c.args.path.now)) Kept (puts_file c.args.path.now c.in_ok-bytes.bytes look)) target
+    ∙ copy_decided c.args.source.now c.args.path.now c.in_ok-bytes.bytes w e.1 free)
+    (both _ _ _ _ _ (both _ _ _ _ _ c.in_ok-source_look.ensures c.in_ok-look.ensures) c.in_ok-bytes.ensures) c.put_missing.ensures.seen
