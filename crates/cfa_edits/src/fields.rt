@@ -1,5 +1,5 @@
 // The fields of a line.
-ghost use Rattle.std.specs.Prelude.{◌≡◌, ℕ, ◌+◌, ◌≤◌, List, [], ◌++◌, IfOk, IfErr, string_bytes, nat_lt, Option, Some, None, if◌then◌else◌, ◌==◌};
+ghost use Rattle.std.specs.Prelude.{◌≡◌, ℕ, ◌+◌, ◌≤◌, List, [], ◌++◌, IfOk, OnOk, IfErr, string_bytes, nat_lt, Option, Some, None, if◌then◌else◌, ◌==◌};
 ghost use Rattle.std.specs.List.{count_by};
 ghost use Rattle.std.specs.Str.{chars};
 ghost use Rattle.std.specs.Option.{option_map};
@@ -59,10 +59,26 @@ fn written(
     ensures memory { IfErr result (λ error. error ≡ EditErr.NoMemory) }
 {
     let mut text = String::new(alloc);
-    let mut field = 1usize;
     if number == 1 {
         text.push_str(value.as_str())?;
     }
+    write_fields(&mut text, chars, separator, number, value)?;
+    Ok(Name::from_string(text)?)
+}
+
+// Writes the characters of a line behind a text, where the value stands for the field of this number from 2 on.
+fn write_fields(
+    text: &mut String,
+    chars: &[char],
+    separator: char,
+    number: u16,
+    value: &Name,
+) -> Result<(), EditErr>
+    ensures ok { OnOk result (string_bytes text.new
+        ≡ string_bytes text.old ++ written_from separator number value.now 1 chars.now) }
+    ensures memory { IfErr result (λ error. error ≡ EditErr.NoMemory) }
+{
+    let mut field = 1usize;
     for c in chars {
         if *c == separator {
             text.push(*c)?;
@@ -74,5 +90,5 @@ fn written(
             text.push(*c)?;
         }
     }
-    Ok(Name::from_string(text)?)
+    Ok(())
 }

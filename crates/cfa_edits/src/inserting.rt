@@ -3,7 +3,7 @@ ghost use Rattle.std.specs.Prelude.{◌≡◌, ℕ, ◌+◌, ◌^◌, ◌<◌, �
 ghost use Rattle.std.specs.List.{position_from};
 ghost use Rattle.cfa_base.specs.Patterns.{matches_in};
 ghost use Rattle.cfa_lines.specs.Decks.{lines_at};
-ghost use Rattle.cfa_edits.specs.Edits.{is_among, lacking, anchor, last_from, spot_in, inserted};
+ghost use Rattle.cfa_edits.specs.Edits.{is_among, lacking, anchor, last_from, spot_in, put_at, inserted};
 ghost use Rattle.cfa_edits.specs.Answers.{IsRefusalOf};
 ghost use Rattle.cfa_edits.specs.Steps.{lines_lent, has_line, HasLacking};
 
@@ -20,17 +20,37 @@ pub fn insert(alloc: Global, deck: &mut Deck, block: &Names, spot: &Spot) -> Res
     ensures refused { IfErr result (IsRefusalOf
         (inserted spot.now (lacking deck.old.lines block.now) deck.old.lines)) }
 {
-    let mut wanted = distinct(alloc, block)?;
-    take_out(&mut wanted, deck);
-    let lines = gathered(alloc, &mut wanted, block)?;
+    let lines = missing(alloc, deck, block)?;
     if lines.is_empty() {
         return Ok(());
     }
+    put_at_spot(alloc, deck, &lines, spot)
+}
+
+// The lines of a block that the deck hasn't, in order, each once.
+fn missing<'a>(alloc: Global, deck: &mut Deck, block: &'a Names) -> Result<Vec<&'a str>, EditErr>
+    ensures ok { IfOk result
+        (λ lines. lines_lent lines.items ≡ lacking deck.old.lines block.now) }
+    ensures memory { IfErr result (λ error. error ≡ EditErr.NoMemory) }
+    ensures deck { deck.new.lines ≡ deck.old.lines }
+{
+    let mut wanted = distinct(alloc, block)?;
+    take_out(&mut wanted, deck);
+    gathered(alloc, &mut wanted, block)
+}
+
+// Puts the lines in at the spot.
+fn put_at_spot(alloc: Global, deck: &mut Deck, lines: &[&str], spot: &Spot) -> Result<(), EditErr>
+    ensures ok { OnOk result (put_at (spot_in deck.old.lines spot.now) (lines_lent lines.now)
+        deck.old.lines ≡ Ok deck.new.lines) }
+    ensures refused { IfErr result (IsRefusalOf
+        (put_at (spot_in deck.old.lines spot.now) (lines_lent lines.now) deck.old.lines)) }
+{
     let Some(place) = place_in(alloc, deck, spot)? else {
         return Err(EditErr::NoAnchor);
     };
     go_to(deck, place);
-    put_in(deck, &lines)
+    put_in(deck, lines)
 }
 
 // The lines of a block, each once.
@@ -124,10 +144,20 @@ fn anchor_in(
     ensures deck { deck.new.lines ≡ deck.old.lines }
 {
     let mut matcher = pattern.matcher(alloc)?;
+    Ok(anchor_by(deck, &mut matcher, is_first))
+}
+
+// The place of the first or of the last line that the matcher matches.
+fn anchor_by(deck: &mut Deck, matcher: &mut Matcher<'_>, is_first: bool) -> Option<usize>
+    ensures place { result ≡ anchor matcher.old is_first deck.old.lines }
+    ensures within { IfSome result (λ n. n < length deck.old.lines) }
+    ensures small { IfSome result (λ n. n + 1 < 2 ^ 64) }
+    ensures deck { deck.new.lines ≡ deck.old.lines }
+{
     if is_first {
-        Ok(first_in(deck, &mut matcher))
+        first_in(deck, matcher)
     } else {
-        Ok(last_in(deck, &mut matcher))
+        last_in(deck, matcher)
     }
 }
 

@@ -1,5 +1,5 @@
 // Edits line by line: deletes, replaces and field edits, over a deck.
-ghost use Rattle.std.specs.Prelude.{◌≡◌, ℕ, ◌≤◌, List, map, length, Ok, Err, IfOk, IfErr, OnOk};
+ghost use Rattle.std.specs.Prelude.{◌≡◌, ℕ, ◌+◌, ◌<◌, ◌≤◌, List, map, length, insert, remove, Ok, Err, IfOk, IfErr, OnOk};
 ghost use Rattle.cfa_base.specs.Patterns.{replaced};
 ghost use Rattle.cfa_lines.specs.Decks.{lines_at};
 ghost use Rattle.cfa_edits.specs.Edits.{unmatched, field_edited, each_becomes, or_field_count};
@@ -61,6 +61,18 @@ pub fn delete(alloc: Global, deck: &mut Deck, pattern: &Pattern) -> Result<(), E
     Ok(())
 }
 
+// Puts a line in the place of the one at the deck's place, which goes one further.
+fn put_over(deck: &mut Deck, line: Name) -> Result<(), EditErr>
+    requires { deck.old.place < length deck.old.lines }
+    ensures ok { OnOk result (deck.new ≡ lines_at (remove
+        (insert deck.old.lines deck.old.place line) (deck.old.place + 1)) (deck.old.place + 1)) }
+    ensures memory { IfErr result (λ error. error ≡ EditErr.NoMemory) }
+{
+    deck.insert(line.as_str())?;
+    deck.remove();
+    Ok(())
+}
+
 // Writes the value in the place of what the matcher finds in each line.
 fn write_over(
     alloc: Global,
@@ -76,8 +88,7 @@ fn write_over(
     deck.rewind();
     while let Some(line) = deck.at() {
         let changed = matcher.replace(alloc, line, value, all)?;
-        deck.insert(changed.as_str())?;
-        deck.remove();
+        put_over(deck, changed)?;
     }
     Ok(())
 }
@@ -123,8 +134,7 @@ fn give_fields(
         let Some(changed) = with_field(alloc, line, separator, number, value)? else {
             return Err(EditErr::FieldCount);
         };
-        deck.insert(changed.as_str())?;
-        deck.remove();
+        put_over(deck, changed)?;
     }
     Ok(())
 }

@@ -2,7 +2,7 @@ use Rattle.std.proofs.Common.{◌≡◌, true, false, Some, None, Ok, refl, sym,
 use Rattle.cfa_base.specs.Patterns.{PatternText, matches_in}
 use Rattle.cfa_edits.specs.Edits.{or_field_count, field_edited}
 use Rattle.std.proofs.lemmas.List.{append-nil}
-use Rattle.cfa_edits.proofs.DeckSteps.{turn, end, exchanged_length, exchanged_same_length, inserted_length, fields_keep, fields_step, fields_refuse}
+use Rattle.cfa_edits.proofs.DeckSteps.{turn, end, exchanged_length, exchanged_same_length, fields_keep, fields_step, fields_refuse}
 use Rattle.cfa_edits.proofs.lining.give_fields.Goals as goal
 
 pub loop-line-preserved-then-not-matches : goal.loop-line-preserved-then-not-matches
@@ -21,25 +21,20 @@ returns-in_default-2-clause-refused c =
     rw hit (sym c.in_ok-changed.ensures.ok ∙ c.in_default-2.is) in
     ap or_field_count (fields_refuse (λ line. field_edited c.args.matcher.now c.args.separator c.args.number c.args.value.now line) c.loop-line.deck.lines _ c.loop-line.deck.place c.in-Some.line.now t none c.loop-line.invariant.2)
 
-pub remove-requires : goal.remove-requires
-remove-requires c =
-    let t = turn c.loop-line.deck.lines c.loop-line.deck.place c.in-Some.line.now c.in-Some.ensures.line in
-    rw c.in_ok-insert.ensures.ok (inserted_length c.loop-line.deck.lines c.loop-line.deck.place c.as_str.result.now t.within)
-
 pub loop-line-smaller : goal.loop-line-smaller
 loop-line-smaller c =
     let t = turn c.loop-line.deck.lines c.loop-line.deck.place c.in-Some.line.now c.in-Some.ensures.line in
-    let same = exchanged_same_length c.loop-line.deck.lines c.loop-line.deck.place c.in-Some.line.now c.as_str.result.now t in
-    rw (c.remove.ensures, c.in_ok-insert.ensures.ok, same) (omega (arith, t.within))
+    let same = exchanged_same_length c.loop-line.deck.lines c.loop-line.deck.place c.in-Some.line.now c.in-Some-2.changed t in
+    rw (c.in_ok-put_over.ensures.ok, same) (omega (arith, t.within))
 
 pub loop-line-preserved : goal.loop-line-preserved
 loop-line-preserved c =
     let t = turn c.loop-line.deck.lines c.loop-line.deck.place c.in-Some.line.now c.in-Some.ensures.line in
     let hit : matches_in c.args.matcher.now c.in-Some.line.now ≡ true = ap (λ (m : PatternText). matches_in m c.in-Some.line.now) (sym c.loop-line.invariant.0) ∙ sym c.if-not-matches.ensures.found in
-    let changed : field_edited c.args.matcher.now c.args.separator c.args.number c.args.value.now c.in-Some.line.now ≡ Some c.as_str.result.now =
-    rw hit (sym c.in_ok-changed.ensures.ok ∙ c.in-Some-2.is ∙ ap Some (sym c.as_str.ensures)) in
-    rw (c.remove.ensures, c.in_ok-insert.ensures.ok)
-    (c.matches.ensures.same ∙ c.loop-line.invariant.0, exchanged_length c.loop-line.deck.lines c.loop-line.deck.place c.in-Some.line.now c.as_str.result.now t, fields_step (λ line. field_edited c.args.matcher.now c.args.separator c.args.number c.args.value.now line) c.loop-line.deck.lines _ c.loop-line.deck.place c.in-Some.line.now c.as_str.result.now t changed c.loop-line.invariant.2)
+    let changed : field_edited c.args.matcher.now c.args.separator c.args.number c.args.value.now c.in-Some.line.now ≡ Some c.in-Some-2.changed =
+    rw hit (sym c.in_ok-changed.ensures.ok ∙ c.in-Some-2.is) in
+    rw (c.in_ok-put_over.ensures.ok)
+    (c.matches.ensures.same ∙ c.loop-line.invariant.0, exchanged_length c.loop-line.deck.lines c.loop-line.deck.place c.in-Some.line.now c.in-Some-2.changed t, fields_step (λ line. field_edited c.args.matcher.now c.args.separator c.args.number c.args.value.now line) c.loop-line.deck.lines _ c.loop-line.deck.place c.in-Some.line.now c.in-Some-2.changed t changed c.loop-line.invariant.2)
 
 pub returns-clause-ok : goal.returns-clause-ok
 returns-clause-ok c =

@@ -8,8 +8,8 @@ pub loop-line-preserved : goal.loop-line-preserved
 loop-line-preserved c =
     let t = turn c.loop-line.deck.lines c.loop-line.deck.place c.in-Some.line.now c.in-Some.ensures.line in
     let f : List ℕ → List ℕ = λ line. replaced c.args.matcher.now line c.args.value.now c.args.all in
-    let new : c.as_str.result.now ≡ f c.in-Some.line.now = c.as_str.ensures ∙ c.in_ok-changed.ensures.value ∙ ap (λ (m : PatternText). replaced m c.in-Some.line.now c.args.value.now c.args.all) c.loop-line.invariant.0 in
-    rw (c.remove.ensures, c.in_ok-insert.ensures.ok, new)
+    let new : c.in_ok-changed.changed ≡ f c.in-Some.line.now = c.in_ok-changed.ensures.value ∙ ap (λ (m : PatternText). replaced m c.in-Some.line.now c.args.value.now c.args.all) c.loop-line.invariant.0 in
+    rw (c.in_ok-put_over.ensures.ok, new)
     (c.replace.ensures.same ∙ c.loop-line.invariant.0, exchanged_length c.loop-line.deck.lines c.loop-line.deck.place c.in-Some.line.now (f c.in-Some.line.now) t, map_steps f c.loop-line.deck.lines _ c.loop-line.deck.place c.in-Some.line.now t c.loop-line.invariant.2)
 
 pub returns-clause-ok : goal.returns-clause-ok
