@@ -1,5 +1,5 @@
 // Inserts: which lines of a block aren't there, and where they go.
-ghost use Rattle.std.specs.Prelude.{◌≡◌, ℕ, ◌+◌, ◌^◌, ◌<◌, ◌≤◌, ◌&&◌, ◌++◌, Bool, not, List, take, drop, length, Ok, Err, IfOk, IfErr, IfSome, OnOk};
+ghost use Rattle.std.specs.Prelude.{◌≡◌, ℕ, ◌+◌, ◌^◌, ◌<◌, ◌≤◌, ◌&&◌, ◌++◌, [], Bool, false, not, List, take, drop, length, Ok, Err, IfOk, IfErr, IfSome, OnOk};
 ghost use Rattle.std.specs.List.{position_from};
 ghost use Rattle.cfa_base.specs.Patterns.{matches_in};
 ghost use Rattle.cfa_lines.specs.Decks.{lines_at};
@@ -34,9 +34,12 @@ fn missing<'a>(alloc: Global, deck: &mut Deck, block: &'a Names) -> Result<Vec<&
     ensures memory { IfErr result (λ error. error ≡ EditErr.NoMemory) }
     ensures deck { deck.new.lines ≡ deck.old.lines }
 {
-    let mut wanted = distinct(alloc, block)?;
+    let mut wanted = HashSet::new(alloc);
+    add_lines(&mut wanted, block)?;
     take_out(&mut wanted, deck);
-    gathered(alloc, &mut wanted, block)
+    let mut lines = Vec::new(alloc);
+    gather(&mut lines, &mut wanted, block)?;
+    Ok(lines)
 }
 
 // Puts the lines in at the spot.
@@ -53,17 +56,16 @@ fn put_at_spot(alloc: Global, deck: &mut Deck, lines: &[&str], spot: &Spot) -> R
     put_in(deck, lines)
 }
 
-// The lines of a block, each once.
-fn distinct<'a>(alloc: Global, block: &'a Names) -> Result<HashSet<&'a str>, EditErr>
-    ensures ok { IfOk result
-        (λ set. (line : List ℕ) → has_line set line ≡ is_among block.now line) }
+// Adds the lines of a block to an empty set.
+fn add_lines<'a>(lines: &mut HashSet<&'a str>, block: &'a Names) -> Result<(), EditErr>
+    requires { (line : List ℕ) → has_line lines.old line ≡ false }
+    ensures ok { OnOk result ((line : List ℕ) → has_line lines.new line ≡ is_among block.now line) }
     ensures memory { IfErr result (λ error. error ≡ EditErr.NoMemory) }
 {
-    let mut lines = HashSet::new(alloc);
     for line in block.as_slice() {
         let _is_new = lines.insert(line.as_str())?;
     }
-    Ok(lines)
+    Ok(())
 }
 
 // Takes each line of the deck out of the set.
@@ -79,23 +81,23 @@ fn take_out(wanted: &mut HashSet<&str>, deck: &mut Deck)
     }
 }
 
-// The lines of the block that the set has, in order, each once.
-fn gathered<'a>(
-    alloc: Global,
+// Adds the lines of the block that the set has to an empty list, in order, each once.
+fn gather<'a>(
+    lines: &mut Vec<&'a str>,
     wanted: &mut HashSet<&'a str>,
     block: &'a Names,
-) -> Result<Vec<&'a str>, EditErr>
+) -> Result<(), EditErr>
+    requires { lines.old.items ≡ [] }
     ensures ok { (there : List (List ℕ)) → HasLacking wanted.old block.now there
-        → IfOk result (λ lines. lines_lent lines.items ≡ lacking there block.now) }
+        → OnOk result (lines_lent lines.new.items ≡ lacking there block.now) }
     ensures memory { IfErr result (λ error. error ≡ EditErr.NoMemory) }
 {
-    let mut lines = Vec::new(alloc);
     for line in block.as_slice() {
         if wanted.remove(line.as_str()) {
             lines.push(line.as_str())?;
         }
     }
-    Ok(lines)
+    Ok(())
 }
 
 // How many lines stand before the spot, if its anchor is found.

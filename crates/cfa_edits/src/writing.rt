@@ -5,7 +5,7 @@ ghost use Rattle.cfa_base.specs.Escapes.{escaped};
 ghost use Rattle.cfa_edits.specs.Scripts.{script_text, edit_text, spot_name, spot_pattern, block_text};
 
 use crate::{Edit, Spot};
-use cfa_base::{Name, Names, NoMemory, Pattern, escape_bytes};
+use cfa_base::{Names, NoMemory, escape_bytes};
 use std::alloc::Global;
 
 /// Writes the text of edits behind a text.
@@ -29,47 +29,23 @@ fn write_edit(alloc: Global, text: &mut String, edit: &Edit) -> Result<(), NoMem
     match edit {
         Edit::Delete(pattern) => write_behind(alloc, text, "d:", pattern.text()),
         Edit::Field(pattern, separator, number, value) => {
-            write_field(alloc, text, pattern, *separator, *number, value)
+            write_behind(alloc, text, "f:", pattern.text())?;
+            write_behind(alloc, text, ":", separator.encode_utf8(&mut [0; 4]))?;
+            write!(text, ":{number}")?;
+            write_behind(alloc, text, ":", value.as_str())
         }
-        Edit::Insert(block, spot) => write_insert(alloc, text, block, spot),
+        Edit::Insert(block, spot) => {
+            text.push_str("i:")?;
+            write_spot(alloc, text, spot)?;
+            text.push_str(":")?;
+            write_block(alloc, text, block)
+        }
         Edit::Replace(pattern, value, all) => {
             let word = if *all { "r:all:" } else { "r:first:" };
             write_behind(alloc, text, word, pattern.text())?;
             write_behind(alloc, text, ":", value.as_str())
         }
     }
-}
-
-fn write_field(
-    alloc: Global,
-    text: &mut String,
-    pattern: &Pattern,
-    separator: char,
-    number: u16,
-    value: &Name,
-) -> Result<(), NoMemory>
-    ensures { OnOk result (string_bytes text.new ≡ string_bytes text.old
-        ++ edit_text (Edit.Field pattern.now separator number value.now)) }
-{
-    write_behind(alloc, text, "f:", pattern.text())?;
-    write_behind(alloc, text, ":", separator.encode_utf8(&mut [0; 4]))?;
-    write!(text, ":{number}")?;
-    write_behind(alloc, text, ":", value.as_str())
-}
-
-fn write_insert(
-    alloc: Global,
-    text: &mut String,
-    block: &Names,
-    spot: &Spot,
-) -> Result<(), NoMemory>
-    ensures { OnOk result (string_bytes text.new ≡ string_bytes text.old
-        ++ edit_text (Edit.Insert block.now spot.now)) }
-{
-    text.push_str("i:")?;
-    write_spot(alloc, text, spot)?;
-    text.push_str(":")?;
-    write_block(alloc, text, block)
 }
 
 // The name of a spot and the pattern of its anchor.

@@ -7,5 +7,5 @@ pub returns-clause-ok : goal.returns-clause-ok
 returns-clause-ok c =
     let lines = c.args.deck.now.lines in
     let has : HasLacking c.take_out.new.wanted c.args.block.now lines =
-    λ line. c.take_out.ensures.set line ∙ ap (λ b. b && not (is_among lines line)) (c.in_ok-wanted.ensures.ok line) in
-    c.gathered.ensures.ok lines has
+    λ line. c.take_out.ensures.set line ∙ ap (λ b. b && not (is_among lines line)) (c.in_ok-add_lines.ensures.ok line) in
+    c.in_ok-gather.ensures.ok lines has

@@ -5,7 +5,7 @@ use Rattle.cfa_edits.specs.Edits.{is_among}
 use Rattle.cfa_edits.specs.Steps.{has_line}
 use Rattle.cfa_edits.proofs.DeckSteps.{turn}
 use Rattle.cfa_edits.proofs.InsertSteps.{has_updated, distinct_more}
-use Rattle.cfa_edits.proofs.inserting.distinct.Goals as goal
+use Rattle.cfa_edits.proofs.inserting.add_lines.Goals as goal
 
 pub loop-line-preserved : goal.loop-line-preserved
 loop-line-preserved c =

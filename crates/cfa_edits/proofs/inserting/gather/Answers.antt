@@ -6,8 +6,8 @@ use Rattle.cfa_edits.specs.Edits.{Lines, is_among, lacking}
 use Rattle.cfa_edits.specs.Steps.{lines_lent, has_line}
 use Rattle.cfa_edits.proofs.DeckSteps.{turn}
 use Rattle.cfa_edits.proofs.InsertSteps.{has_updated, lacking_more, lacking_gets, lacking_skips, among_itself, gathers, passes_over, seen_more}
-use Rattle.cfa_edits.proofs.inserting.gathered.Goals.{then-remove+in_ok-push, else-remove}
-use Rattle.cfa_edits.proofs.inserting.gathered.Goals as goal
+use Rattle.cfa_edits.proofs.inserting.gather.Goals.{then-remove+in_ok-push, else-remove}
+use Rattle.cfa_edits.proofs.inserting.gather.Goals as goal
 
 pub loop-line-preserved : goal.loop-line-preserved
 loop-line-preserved c = λ there has.
