@@ -85,7 +85,7 @@ pub(crate) fn note_class(
             note_literal_class(alloc, content, place, first)?;
             note_text_scope(context, content, place, first);
         }
-        Shape::Word(name, place) => note_word(alloc, name, place, first)?,
+        Shape::Word(name, place) => return note_word(alloc, name, place, first),
         Shape::Reference(name, place) => note_name_scope(context, name, place, first),
         Shape::Call(name, arguments, place) => {
             note_call(context, true, name, arguments, place, first);
@@ -112,7 +112,7 @@ fn note_class_item(
             }
             note_text_scope(context, content, place, first);
         }
-        Shape::Word(name, place) => note_word(alloc, name, place, first)?,
+        Shape::Word(name, place) => return note_word(alloc, name, place, first),
         Shape::Reference(name, place) => note_name_scope(context, name, place, first),
         Shape::ListReference(name, place) => note_name_scope(context, name, place, first),
         Shape::Call(name, arguments, place) => {
@@ -150,7 +150,7 @@ pub(crate) fn note_class_list(
         (plain_value value.now))) }
 {
     match shape_of(value) {
-        Shape::List(items, _) => note_class_items(alloc, context, items, first)?,
+        Shape::List(items, _) => return note_class_items(alloc, context, items, first),
         _ => note_no_list(context, value, first),
     }
     Ok(())

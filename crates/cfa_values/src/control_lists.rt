@@ -98,8 +98,7 @@ fn note_sequence_list(
     let known = known_items(alloc, items)?;
     note_known_items(context, items, first);
     note_sequence_items(context.definitions, &known, first);
-    note_repeated(alloc, &known, first)?;
-    Ok(())
+    note_repeated(alloc, &known, first)
 }
 
 /// Notes what is wrong with a value where the sequence of bundles is asked for.
@@ -113,7 +112,7 @@ pub(crate) fn note_sequence(
         ≡ noted first.old (sequence_refusals (seen_context context.now) (plain_value value.now))) }
 {
     match shape_of(value) {
-        Shape::List(items, _) => note_sequence_list(alloc, context, items, first)?,
+        Shape::List(items, _) => return note_sequence_list(alloc, context, items, first),
         _ => note_if(first, true, Code::WrongValue, place_of(value)),
     }
     Ok(())
@@ -132,8 +131,7 @@ fn note_input_list(
 {
     let known = known_items(alloc, items)?;
     note_known_items(context, items, first);
-    note_repeated(alloc, &known, first)?;
-    Ok(())
+    note_repeated(alloc, &known, first)
 }
 
 /// Notes what is wrong with a value where the names of files are asked for.
@@ -149,7 +147,7 @@ pub(crate) fn note_inputs(
     match shape_of(value) {
         Shape::List(items, place) => {
             note_if(first, MOST_INPUTS < items.len(), Code::WrongValue, place);
-            note_input_list(alloc, context, items, first)?;
+            return note_input_list(alloc, context, items, first);
         }
         _ => note_if(first, true, Code::WrongValue, place_of(value)),
     }

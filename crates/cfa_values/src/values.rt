@@ -49,13 +49,13 @@ pub fn note_value(
         Kind::Pattern => note_text(context, Form::AnyText, value, first),
         Kind::List => note_list(context, value, first),
         Kind::FullList => note_full_list(context, value, first),
-        Kind::ClassText => note_class(alloc, context, value, first)?,
-        Kind::ClassTexts => note_class_list(alloc, context, value, first)?,
+        Kind::ClassText => return note_class(alloc, context, value, first),
+        Kind::ClassTexts => return note_class_list(alloc, context, value, first),
         Kind::BodyOf(body) => note_body_value(context, body, value, first),
         Kind::EditBundle => note_edit_value(context, value, first),
         Kind::AgentBundle => note_method_value(context, value, first),
-        Kind::BundleNames => note_sequence(alloc, context, value, first)?,
-        Kind::InputNames => note_inputs(alloc, context, value, first)?,
+        Kind::BundleNames => return note_sequence(alloc, context, value, first),
+        Kind::InputNames => return note_inputs(alloc, context, value, first),
     }
     Ok(())
 }
