@@ -31,3 +31,8 @@ text_or_hidden None = Err Hidden
 abbrev pub pattern_answer : Result (List ℕ) Lack → Result (List ℕ) Lack → Answer
 pattern_answer pattern text =
     class_answer (applied (λ a. matches_whole a.0 a.1) (both (found_by (where_holds (is_pattern Whole)) pattern) text))
+
+-- texts that were joined, unless they lack something
+abbrev pub joined_so_far : Option Lack → List ℕ → Result (List ℕ) Lack
+joined_so_far None whole = Ok whole
+joined_so_far (Some lack) whole = Err lack

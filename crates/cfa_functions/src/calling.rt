@@ -1,10 +1,10 @@
 // Calls of functions.
-ghost use Rattle.std.specs.Prelude.{◌≡◌, IfOk, Some, Ok, map};
-ghost use Rattle.cfa_base.specs.Patterns.{SizeRefusal};
+ghost use Rattle.std.specs.Prelude.{◌≡◌, IfOk, None, Some, Ok, map};
+ghost use Rattle.cfa_base.specs.Patterns.{SizeRefusal, matches_in};
 ghost use Rattle.cfa_tree.specs.Plain.{plain_value};
 ghost use Rattle.cfa_tree.specs.Tree.{value_trees};
 ghost use Rattle.cfa_vars.specs.Scopes.{in_scope};
-ghost use Rattle.cfa_functions.specs.Functions.{as_text, class_made, made};
+ghost use Rattle.cfa_functions.specs.Functions.{applied, as_text, class_answer, class_made, made};
 ghost use Rattle.cfa_functions.specs.Calls.{answer_of};
 ghost use Rattle.cfa_functions.specs.Given.{argument_of, text_or_hidden, pattern_answer};
 ghost use Rattle.cfa_functions.specs.Builds.{IsBuilt, pattern_built, pattern_in, pattern_of_call, refused_in};
@@ -17,7 +17,7 @@ use crate::making::make_text;
 use crate::reading::{Given, arguments_given};
 use crate::wanting::{as_text, one_text, two_texts};
 use cfa_base as base;
-use cfa_base::{How, Name, PatternErr, Patterns};
+use cfa_base::{How, Name, Pattern, PatternErr, Patterns};
 use cfa_kinds::{ClassFunction, Function, function_named};
 use cfa_tree::Value;
 use cfa_vars::{Scopes, look_up};
@@ -77,6 +77,18 @@ fn find_variable(arguments: &[Given<'_>], scopes: &Scopes<'_>) -> Answer
     }
 }
 
+// What a pattern that was built answers for a text, or for one that is hidden.
+fn match_text(alloc: Global, built: Pattern, text: Option<&Name>) -> Result<Answer, CallErr>
+    ensures answer { IfOk result (λ a. a
+        ≡ class_answer (applied (matches_in built) (text_or_hidden text.entry))) }
+    ensures sizes { refused_in result ≡ None }
+{
+    match text {
+        Some(text) => Ok(Answer::Class(built.matches(alloc, text)?)),
+        None => Ok(Answer::TooLong),
+    }
+}
+
 // What a pattern answers for a text, or for one that is hidden. The text that a refusal tells is copied first, so that
 // want of memory comes before the build.
 fn match_built<P: Patterns>(
@@ -92,10 +104,7 @@ fn match_built<P: Patterns>(
 {
     let refused = pattern.copy(alloc)?;
     match pats.build(alloc, pattern, How::Whole) {
-        Ok(built) => match text {
-            Some(text) => Ok(Answer::Class(built.matches(alloc, text)?)),
-            None => Ok(Answer::TooLong),
-        },
+        Ok(built) => match_text(alloc, built, text),
         Err(PatternErr::Bad) => Ok(Answer::Unresolved),
         Err(PatternErr::TooBig) => Err(CallErr::PatternTooBig(refused)),
         Err(PatternErr::NoMemory) => Err(CallErr::NoMemory),
@@ -120,6 +129,27 @@ fn match_argument<P: Patterns>(
     }
 }
 
+// What a pattern answers for what is given as the text.
+fn match_given<P: Patterns>(
+    alloc: Global,
+    pattern: &Given<'_>,
+    text: &Given<'_>,
+    pats: &mut P,
+) -> Result<Answer, CallErr>
+    ensures answer { IfOk result (λ a. a
+        ≡ pattern_answer (as_text (argument_of pattern.now)) (as_text (argument_of text.now))) }
+    ensures sizes { SizeRefusal
+        (IsBuilt (pattern_built (as_text (argument_of pattern.now))
+        (as_text (argument_of text.now))))
+        (refused_in result) (P.shown pats.old) (P.shown pats.new) }
+{
+    match as_text(text) {
+        Ok(text) => match_argument(alloc, pattern, Some(text), pats),
+        Err(Lack::Missing) => Ok(Answer::Unresolved),
+        Err(Lack::Hidden) => match_argument(alloc, pattern, None, pats),
+    }
+}
+
 fn match_pattern<P: Patterns>(
     alloc: Global,
     arguments: &[Given<'_>],
@@ -133,11 +163,7 @@ fn match_pattern<P: Patterns>(
         (refused_in result) (P.shown pats.old) (P.shown pats.new) }
 {
     match arguments {
-        [pattern, text] => match as_text(text) {
-            Ok(text) => match_argument(alloc, pattern, Some(text), pats),
-            Err(Lack::Missing) => Ok(Answer::Unresolved),
-            Err(Lack::Hidden) => match_argument(alloc, pattern, None, pats),
-        },
+        [pattern, text] => match_given(alloc, pattern, text, pats),
         _ => Ok(Answer::Unresolved),
     }
 }

@@ -1,8 +1,9 @@
 // The lists that values give.
-ghost use Rattle.std.specs.Prelude.{◌≡◌, ◌++◌, IfOk, OnOk, map};
+ghost use Rattle.std.specs.Prelude.{◌≡◌, ◌++◌, IfOk, OnOk, Some, map};
 ghost use Rattle.cfa_tree.specs.Plain.{plain_value};
 ghost use Rattle.cfa_tree.specs.Tree.{value_trees};
 ghost use Rattle.cfa_vars.specs.Scopes.{in_scope, look};
+ghost use Rattle.cfa_functions.specs.declared.listing.ValueList.TheVariants.{Unresolved};
 ghost use Rattle.cfa_functions.specs.Calls.{items_under, one_item, item_given, items_given, list_given};
 
 use crate::reading::{ValueText, referred_list, text_of_value};
@@ -22,13 +23,20 @@ pub enum ValueList {
     TooLong,
 }
 
+// What a name gives that is that of no list.
+fn no_list(alloc: Global, name: &str) -> Result<ValueList, NoMemory>
+    ensures { IfOk result (λ l. l ≡ Unresolved (Some name.now)) }
+{
+    Ok(ValueList::Unresolved(Some(Name::from_text(alloc, name)?)))
+}
+
 fn items_under(alloc: Global, name: &str, scopes: &Scopes<'_>) -> Result<ValueList, NoMemory>
     ensures { IfOk result (λ l. l ≡ items_under name.now (look (in_scope scopes.now) name.now)) }
 {
     match look_up(scopes, name) {
         Some(Variable::List(items)) => Ok(ValueList::Items(items.copy(alloc)?)),
-        Some(Variable::Text(_)) => Ok(ValueList::Unresolved(Some(Name::from_text(alloc, name)?))),
-        None => Ok(ValueList::Unresolved(Some(Name::from_text(alloc, name)?))),
+        Some(Variable::Text(_)) => no_list(alloc, name),
+        None => no_list(alloc, name),
     }
 }
 

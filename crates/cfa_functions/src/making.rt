@@ -1,9 +1,11 @@
 // What functions make of their arguments.
-ghost use Rattle.std.specs.Prelude.{◌≡◌, ◌<◌, ◌==◌, [], if◌then◌else◌, IfOk, map, length, option_copied, slice_get};
+ghost use Rattle.std.specs.Prelude.{◌≡◌, ◌<◌, ◌==◌, [], if◌then◌else◌, IfOk, None, Ok, Some, map, length, option_copied, slice_get};
+ghost use Rattle.std.specs.String.{string_bytes};
 ghost use Rattle.std.specs.Fmt.{decimal};
 ghost use Rattle.cfa_base.specs.Joined.{joined};
-ghost use Rattle.cfa_functions.specs.Functions.{canonical_byte, canonified, item_at, text_made};
-ghost use Rattle.cfa_functions.specs.Given.{argument_of};
+ghost use Rattle.cfa_functions.specs.Functions.{canonical_byte, canonified, concatenated, followed_by, item_at, text_made};
+ghost use Rattle.cfa_functions.specs.Given.{argument_of, joined_so_far};
+ghost use Rattle.cfa_functions.specs.declared.answering.Lack.TheVariants.{Hidden};
 ghost use Rattle.cfa_kinds.specs.declared.functions.TextFunction.TheVariants.{Nth, Concat};
 
 use crate::answering::{Answer, Lack, limited};
@@ -31,22 +33,37 @@ pub fn canonify(alloc: Global, text: &Name) -> Result<Name, NoMemory>
     Ok(Name::from_string(whole)?)
 }
 
-fn concat(alloc: Global, arguments: &[Given<'_>]) -> Result<Answer, NoMemory>
-    ensures { IfOk result (λ a. a ≡ text_made Concat (map argument_of arguments.now)) }
+fn hidden_if(is_hidden: bool) -> Option<Lack>
+    ensures { result ≡ (if is_hidden then Some Hidden else None) }
 {
-    let mut whole = String::new(alloc);
+    if is_hidden { Some(Lack::Hidden) } else { None }
+}
+
+// Adds the texts of arguments, and tells what they lack.
+fn add_texts(whole: &mut String, arguments: &[Given<'_>]) -> Result<Option<Lack>, NoMemory>
+    ensures { IfOk result (λ lack. joined_so_far lack (string_bytes whole.new)
+        ≡ followed_by (Ok (string_bytes whole.old))
+        (concatenated (map argument_of arguments.now))) }
+{
     let mut is_hidden = false;
     for argument in arguments {
         match as_text(argument) {
             Ok(text) => whole.push_str(text.as_str())?,
-            Err(Lack::Missing) => return Ok(Answer::Unresolved),
+            Err(Lack::Missing) => return Ok(Some(Lack::Missing)),
             Err(Lack::Hidden) => is_hidden = true,
         }
     }
-    if is_hidden {
-        return Ok(Answer::TooLong);
+    Ok(hidden_if(is_hidden))
+}
+
+fn concat(alloc: Global, arguments: &[Given<'_>]) -> Result<Answer, NoMemory>
+    ensures { IfOk result (λ a. a ≡ text_made Concat (map argument_of arguments.now)) }
+{
+    let mut whole = String::new(alloc);
+    match add_texts(&mut whole, arguments)? {
+        Some(lack) => Ok(lack.answer()),
+        None => Ok(limited(Name::from_string(whole)?)),
     }
-    Ok(limited(Name::from_string(whole)?))
 }
 
 fn glue_before<'g>(place: usize, glue: &'g Name) -> &'g str
