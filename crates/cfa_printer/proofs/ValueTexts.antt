@@ -19,38 +19,31 @@ item_texts : (vs : List Value) → printed_values (value_trees (map plain_value 
 item_texts [] = refl
 item_texts (v ∷ vs) = ap (λ xs. printed_value (plain_value v) ∷ xs) (item_texts vs)
 
-list_is : (v : Value) (items : Vec Value Global) (place : Place) (slice : List Value) → v ≡ Listed items place → slice ≡ items.items →
+pub list_is : (v : Value) (items : Vec Value Global) (place : Place) (slice : List Value) → v ≡ Listed items place → slice ≡ items.items →
     printed_value (plain_value v) ≡ listed (map (λ x. printed_value (plain_value x)) slice)
 list_is v items place slice is same =
     ap printed_value (ap plain_value is ∙ plain_value-List items place)
     ∙ ap listed (item_texts items.items ∙ ap (map (λ x. printed_value (plain_value x))) (sym same))
 
-pub no_item_text : (v : Value) (items : Vec Value Global) (place : Place) (slice : List Value) (old out : List ℕ) → v ≡ Listed items place → slice ≡ items.items → (length slice == 0) ≡ true →
-    out ≡ old ++ codes "{ }" → out ≡ old ++ printed_value (plain_value v)
-no_item_text v items place slice old out is same none added =
-    added ∙ ap (λ x. old ++ x) (sym (list_is v items place slice is same ∙ ap (λ xs. listed (map (λ x. printed_value (plain_value x)) xs)) (nil_from_length slice (eqb-true (length slice) 0 none))))
+pub no_items : (items : List Value) → (length items == 0) ≡ true → listed (map (λ x. printed_value (plain_value x)) items) ≡ codes "{ }"
+no_items items none = ap (λ xs. listed (map (λ x. printed_value (plain_value x)) xs)) (nil_from_length items (eqb-true (length items) 0 none))
 
-some_items : (slice : List Value) → (length slice == 0) ≡ false →
+pub some_items : (slice : List Value) → (length slice == 0) ≡ false →
     listed (map (λ x. printed_value (plain_value x)) slice) ≡ codes "{ " ++ (joined (codes ", ") (map (λ x. printed_value (plain_value x)) slice) ++ codes " }")
 some_items [] some = absurd (false≢true (sym some))
 some_items (x ∷ xs) some = refl
 
-pub items_text : (v : Value) (items : Vec Value Global) (place : Place) (slice : List Value) (old first mid out : List ℕ) → v ≡ Listed items place → slice ≡ items.items → (length slice == 0) ≡ false →
-    first ≡ old ++ codes "{ " → mid ≡ first ++ joined (codes ", ") (map (λ x. printed_value (plain_value x)) slice) → out ≡ mid ++ codes " }" →
-    out ≡ old ++ printed_value (plain_value v)
-items_text v items place slice old first mid out is same some one two three =
-    regrouped old (codes "{ ") (joined (codes ", ") (map (λ x. printed_value (plain_value x)) slice)) (codes " }") _ out mid first
-    (list_is v items place slice is same ∙ some_items slice some) one two three
+pub call_is : (v : Value) (function : List ℕ) (arguments : Vec Value Global) (place : Place) (slice : List Value) → v ≡ Called function arguments place → slice ≡ arguments.items →
+    printed_value (plain_value v) ≡ function ++ in_parentheses (joined (codes ", ") (map (λ x. printed_value (plain_value x)) slice))
+call_is v function arguments place slice is same =
+    ap printed_value (ap plain_value is ∙ plain_value-Call function arguments place)
+    ∙ ap (λ xs. function ++ in_parentheses (joined (codes ", ") xs)) (item_texts arguments.items ∙ ap (map (λ x. printed_value (plain_value x))) (sym same))
 
-pub call_text : (v : Value) (function : List ℕ) (arguments : Vec Value Global) (place : Place) (slice : List Value) (old named first mid out : List ℕ) → v ≡ Called function arguments place → slice ≡ arguments.items →
-    named ≡ old ++ function → first ≡ named ++ codes "(" → mid ≡ first ++ joined (codes ", ") (map (λ x. printed_value (plain_value x)) slice) → out ≡ mid ++ codes ")" →
-    out ≡ old ++ printed_value (plain_value v)
-call_text v function arguments place slice old named first mid out is same zero one two three =
-    regrouped named (codes "(") (joined (codes ", ") (map (λ x. printed_value (plain_value x)) slice)) (codes ")") _ out mid first refl one two three
-    ∙ (ap (λ x. x ++ in_parentheses (joined (codes ", ") (map (λ y. printed_value (plain_value y)) slice))) zero
-    ∙ (append_assoc old function _ ∙ ap (λ x. old ++ x) (sym
-    (ap printed_value (ap plain_value is ∙ plain_value-Call function arguments place)
-    ∙ ap (λ xs. function ++ in_parentheses (joined (codes ", ") xs)) (item_texts arguments.items ∙ ap (map (λ x. printed_value (plain_value x))) (sym same))))))
+pub call_text : (function inner old named first mid out : List ℕ) → named ≡ old ++ function → first ≡ named ++ codes "(" → mid ≡ first ++ inner → out ≡ mid ++ codes ")" →
+    out ≡ old ++ (function ++ in_parentheses inner)
+call_text function inner old named first mid out zero one two three =
+    regrouped named (codes "(") inner (codes ")") _ out mid first refl one two three
+    ∙ (ap (λ x. x ++ in_parentheses inner) zero ∙ append_assoc old function (in_parentheses inner))
 
 -- Attributes.
 

@@ -5,7 +5,7 @@ ghost use Rattle.cfa_printer.specs.OfTheCode.{Appends};
 ghost use Rattle.cfa_tree.specs.Plain.{plain_attribute};
 ghost use Rattle.cfa_printer.specs.Printing.{printed_attribute, printed_attributes, printed_body_attribute};
 
-use crate::texts::push_between;
+use crate::texts::{push_between, push_text};
 use crate::values::push_value;
 use cfa_base::NoMemory;
 use cfa_tree::Attribute;
@@ -41,8 +41,7 @@ fn push_body_attribute(out: &mut String, attribute: &Attribute) -> Result<(), No
 {
     out.push_str("  ")?;
     push_attribute(out, attribute)?;
-    out.push_str(";\n")?;
-    Ok(())
+    push_text(out, ";\n")
 }
 
 /// Adds the attributes of a body, each on its line.

@@ -8,7 +8,7 @@ ghost use Rattle.cfa_printer.specs.Printing.{printed_name, printed_params, head_
 
 use crate::attributes::push_body_attributes;
 use crate::promises::push_promises;
-use crate::texts::push_between;
+use crate::texts::{push_between, push_text};
 use cfa_base::{Name, NoMemory};
 use cfa_tree::{Block, Body, Bundle, Named, Policy, Section};
 use std::alloc::Global;
@@ -51,8 +51,7 @@ fn push_params(out: &mut String, params: &[Named]) -> Result<(), NoMemory>
     }
     out.push_str("(")?;
     push_names(out, params)?;
-    out.push_str(")")?;
-    Ok(())
+    push_text(out, ")")
 }
 
 // Adds a block up to its first brace, with its first word and the space behind it.
@@ -73,8 +72,7 @@ fn push_head(
     out.push_str(" ")?;
     out.push_str(name.name.as_str())?;
     push_params(out, params)?;
-    out.push_str("\n{\n")?;
-    Ok(())
+    push_text(out, "\n{\n")
 }
 
 fn push_bundle(out: &mut String, bundle: &Bundle) -> Result<(), NoMemory>
@@ -89,8 +87,7 @@ fn push_bundle(out: &mut String, bundle: &Bundle) -> Result<(), NoMemory>
         bundle.params.as_slice(),
     )?;
     push_sections(out, bundle.sections.as_slice())?;
-    out.push_str("}\n")?;
-    Ok(())
+    push_text(out, "}\n")
 }
 
 fn push_body(out: &mut String, body: &Body) -> Result<(), NoMemory>
@@ -99,8 +96,7 @@ fn push_body(out: &mut String, body: &Body) -> Result<(), NoMemory>
 {
     push_head(out, "body", &body.kind, &body.name, body.params.as_slice())?;
     push_body_attributes(out, body.attributes.as_slice())?;
-    out.push_str("}\n")?;
-    Ok(())
+    push_text(out, "}\n")
 }
 
 fn push_block(out: &mut String, block: &Block) -> Result<(), NoMemory>

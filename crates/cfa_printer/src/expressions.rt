@@ -4,7 +4,7 @@ ghost use Rattle.cfa_printer.specs.OfTheCode.{Appends};
 ghost use Rattle.cfa_tree.specs.Plain.{plain_expr};
 ghost use Rattle.cfa_printer.specs.Printing.{all_of_in, one_of_in, printed_expr};
 
-use crate::texts::push_between;
+use crate::texts::{push_between, push_text};
 use cfa_base::NoMemory;
 use cfa_tree::Expr;
 
@@ -43,10 +43,7 @@ pub fn push_expr(out: &mut String, expr: &Expr, around: Around) -> Result<(), No
     ensures { OnOk result (Appends out.old out.new (printed_expr around (plain_expr expr.now))) }
 {
     match expr {
-        Expr::Class(name) => {
-            out.push_str(name.as_str())?;
-            Ok(())
-        }
+        Expr::Class(name) => push_text(out, name.as_str()),
         Expr::Not(inner) => {
             out.push_str("!")?;
             push_expr(out, inner, Around::And)

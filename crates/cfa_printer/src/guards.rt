@@ -7,6 +7,7 @@ ghost use Rattle.cfa_printer.specs.Printing.{printed_guard, guard_line};
 ghost use Rattle.cfa_printer.specs.SameExpr.{same_expr, same_exprs, same_guard};
 
 use crate::expressions::{Around, push_expr};
+use crate::texts::push_text;
 use cfa_base::NoMemory;
 use cfa_tree::Expr;
 
@@ -55,10 +56,7 @@ fn push_guard(out: &mut String, guard: Option<&Expr>) -> Result<(), NoMemory>
     ensures { OnOk result (Appends out.old out.new (printed_guard (guard_tree guard.entry))) }
 {
     match guard {
-        None => {
-            out.push_str("any")?;
-            Ok(())
-        }
+        None => push_text(out, "any"),
         Some(expr) => push_expr(out, expr, Around::Nothing),
     }
 }
@@ -77,6 +75,5 @@ pub fn push_guard_line(
     }
     out.push_str("    ")?;
     push_guard(out, guard)?;
-    out.push_str("::\n")?;
-    Ok(())
+    push_text(out, "::\n")
 }

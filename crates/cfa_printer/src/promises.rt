@@ -7,7 +7,7 @@ ghost use Rattle.cfa_printer.specs.Printing.{printed_promisee, printed_promise, 
 
 use crate::attributes::push_attributes;
 use crate::guards::push_guard_line;
-use crate::texts::push_quoted;
+use crate::texts::{push_quoted, push_text};
 use crate::values::push_value;
 use cfa_base::NoMemory;
 use cfa_tree::{Expr, Promise, Promises, Value};
@@ -32,8 +32,7 @@ fn push_promise(out: &mut String, promise: &Promise) -> Result<(), NoMemory>
     push_quoted(out, promise.promiser.as_str())?;
     push_promisee(out, &promise.promisee)?;
     push_attributes(out, promise.attributes.as_slice())?;
-    out.push_str(";\n")?;
-    Ok(())
+    push_text(out, ";\n")
 }
 
 // The guard of the promise at this index.

@@ -7,17 +7,23 @@ ghost use Rattle.cfa_printer.specs.Printing.{escaped, quoted};
 
 use cfa_base::NoMemory;
 
+/// Adds a text as it is.
+pub fn push_text(out: &mut String, text: &str) -> Result<(), NoMemory>
+    ensures { OnOk result (Appends out.old out.new text.now) }
+{
+    out.push_str(text)?;
+    Ok(())
+}
+
 // Adds a character of a text in quotes.
 fn push_escaped(out: &mut String, character: char) -> Result<(), NoMemory>
     ensures { OnOk result (Appends out.old out.new (flat_map escaped (encode_utf8 character))) }
 {
     if character == '"' {
-        out.push_str("\\\"")?;
-        return Ok(());
+        return push_text(out, "\\\"");
     }
     if character == '\\' {
-        out.push_str("\\\\")?;
-        return Ok(());
+        return push_text(out, "\\\\");
     }
     out.push(character)?;
     Ok(())
@@ -39,8 +45,7 @@ pub fn push_quoted(out: &mut String, content: &str) -> Result<(), NoMemory>
 {
     out.push_str("\"")?;
     push_content(out, content)?;
-    out.push_str("\"")?;
-    Ok(())
+    push_text(out, "\"")
 }
 
 /// Adds the separator before each text but the first.
@@ -50,6 +55,5 @@ pub fn push_between(out: &mut String, index: usize, separator: &str) -> Result<(
     if index == 0 {
         return Ok(());
     }
-    out.push_str(separator)?;
-    Ok(())
+    push_text(out, separator)
 }
