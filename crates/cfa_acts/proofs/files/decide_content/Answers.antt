@@ -3,7 +3,7 @@ use Rattle.std.specs.FinMap as map
 use Rattle.cfa_outside.specs.declared.sites.Look.{Look}
 use Rattle.cfa_acts.specs.declared.acts.Decision.TheVariants.{Kept}
 use Rattle.cfa_acts.specs.Acts.{puts_file, has_bytes}
-use Rattle.cfa_acts.proofs.Seen.{of_all, at_end, seen_then}
+use Rattle.cfa_acts.proofs.Seen.{of_all, seen_then}
 use Rattle.cfa_acts.proofs.Decisions.{content_decided}
 use Rattle.cfa_acts.proofs.files.decide_content.Goals as goal
 
