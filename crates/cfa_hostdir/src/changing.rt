@@ -14,9 +14,11 @@ use std::fs::OpenFile;
 use std::io::Write;
 use std::rt::Files;
 
-// The line of a changed row that is made for it alone.
+// The line of a changed row that is made for it alone, and let go by name.
 fn line_of(alloc: Global, change: RowChange) -> Result<Bytes, HostErr> {
-    Ok(change_line(alloc, &change)?)
+    let line = change_line(alloc, &change);
+    drop(change);
+    Ok(line?)
 }
 
 // The row of a node's permissions.

@@ -58,3 +58,8 @@ impl From<RowsErr> for HostErr {
         }
     }
 }
+
+/// The answer of a step that the system was asked for.
+pub fn answer_of(step: io::Result<()>) -> Result<(), HostErr> {
+    Ok(step?)
+}

@@ -1,5 +1,5 @@
 // Real files, read and written whole.
-use crate::errors::HostErr;
+use crate::errors::{HostErr, answer_of};
 use crate::looking::{Found, Kind, kind_at};
 use cfa_base::Bytes;
 use std::alloc::Global;
@@ -10,8 +10,7 @@ use std::os::unix::fs::MetadataExt;
 use std::rt::Files;
 
 pub fn sync_folder<R: Files>(rt: &R, path: &str) -> Result<(), HostErr> {
-    fs::open(rt, path)?.sync_all()?;
-    Ok(())
+    answer_of(fs::open(rt, path)?.sync_all())
 }
 
 /// Makes a file with these bytes and syncs it. Where something stands there already, a link too, none is made.
@@ -20,8 +19,7 @@ pub fn write_new<R: Files>(rt: &R, path: &str, bytes: &[u8]) -> Result<(), HostE
     options.write(true).create_new(true);
     let mut file = options.open(rt, path)?;
     file.write_all(bytes)?;
-    file.sync_all()?;
-    Ok(())
+    answer_of(file.sync_all())
 }
 
 // The bytes up to the end, which stood at `len`, of which there are to be no more than `most`.

@@ -1,5 +1,5 @@
 // Files of a host that grow at their end: the journal, and the rows that changed since the tables were written.
-use crate::errors::HostErr;
+use crate::errors::{HostErr, answer_of};
 use crate::files::sync_folder;
 use crate::looking::{Kind, kind_at};
 use std::fs::{OpenFile, OpenOptions};
@@ -18,22 +18,21 @@ pub struct Growing<F> {
 
 fn write_and_sync<F: Write + OpenFile>(file: &mut F, bytes: &[u8]) -> Result<(), HostErr> {
     file.write_all(bytes)?;
-    file.sync_data()?;
-    Ok(())
+    answer_of(file.sync_data())
 }
 
 fn cut_to<F: OpenFile>(file: &F, len: u64) -> Result<(), HostErr> {
     file.set_len(len)?;
-    file.sync_data()?;
-    Ok(())
+    answer_of(file.sync_data())
 }
 
 // Opens a file at its end, which is to be at `len`. It is made where it is missing.
 fn open_at<R: Files>(rt: &R, root: &str, path: &str, len: u64) -> Result<R::File, HostErr> {
-    let found = kind_at(rt, path)?;
-    if found == Kind::Dir || found == Kind::Other {
-        return Err(HostErr::Refused);
-    }
+    let is_new = match kind_at(rt, path)? {
+        Kind::Missing => true,
+        Kind::File(_) => false,
+        Kind::Dir | Kind::Other => return Err(HostErr::Refused),
+    };
     let mut options = OpenOptions::new();
     options.append(true).create(true);
     let file = options.open(rt, path)?;
@@ -44,7 +43,7 @@ fn open_at<R: Files>(rt: &R, root: &str, path: &str, len: u64) -> Result<R::File
     if now > len {
         cut_to(&file, len)?;
     }
-    if found == Kind::Missing {
+    if is_new {
         file.sync_all()?;
         sync_folder(rt, root)?;
     }

@@ -20,7 +20,7 @@ const LEAST_CHANGES: u64 = 1 << 20;
 const CHANGES_PER_ROW: u64 = 256;
 
 /// Which tables have rows that changed since they were written.
-#[derive(Clone, Copy, PartialEq, Eq)]
+#[derive(Clone, Copy)]
 pub struct Changed {
     perms: bool,
     services: bool,

@@ -5,7 +5,7 @@ use cfa_base::{Bytes, Key, Name, NoMemory};
 use cfa_outside::{Path, Perms, ServiceRow};
 use cfa_rows::Format;
 use cfa_tables::{Locks, Permissions, RowChange, Services, read_locks, read_perms, read_services};
-use std::alloc::{AllocFailed, Global};
+use std::alloc::{AllocError, AllocFailed, Global};
 use std::collections::BTreeMap;
 
 /// The rows of a table, by the texts of their keys.
@@ -38,6 +38,12 @@ impl<V: Drop> KeptRows<V> {
     pub fn put_at(&mut self, alloc: Global, key: &str, row: V) -> Result<Option<V>, HostErr> {
         let key = String::from_str(alloc, key)?;
         Ok(self.put(key, row)?)
+    }
+
+    // Puts a row at the text of its key, where there was memory for that.
+    fn take(&mut self, key: Result<String, AllocError>, row: V) -> Result<(), HostErr> {
+        self.put(key?, row)?;
+        Ok(())
     }
 
     pub fn remove(&mut self, key: &str) {
@@ -93,21 +99,18 @@ impl HostTables {
     }
 
     fn put_perms(&mut self, alloc: Global, path: Path, perms: Perms) -> Result<(), HostErr> {
-        let key = String::from_str(alloc, path.text().as_str())?;
-        self.perms.put(key, (path, perms))?;
-        Ok(())
+        let key = String::from_str(alloc, path.text().as_str());
+        self.perms.take(key, (path, perms))
     }
 
     fn put_service(&mut self, alloc: Global, name: Name, row: ServiceRow) -> Result<(), HostErr> {
-        let key = String::from_str(alloc, name.as_str())?;
-        self.services.put(key, (name, row))?;
-        Ok(())
+        let key = String::from_str(alloc, name.as_str());
+        self.services.take(key, (name, row))
     }
 
     fn put_lock(&mut self, alloc: Global, key: Key, moment: u64) -> Result<(), HostErr> {
-        let text = String::from_str(alloc, key.text())?;
-        self.locks.put(text, (key, moment))?;
-        Ok(())
+        let text = String::from_str(alloc, key.text());
+        self.locks.take(text, (key, moment))
     }
 
     /// Takes the rows of a table's text.

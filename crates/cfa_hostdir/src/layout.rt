@@ -2,7 +2,7 @@
 use std::alloc::{AllocError, Global};
 
 /// A table of a host.
-#[derive(Clone, Copy, PartialEq, Eq)]
+#[derive(Clone, Copy)]
 pub enum Table {
     Perms,
     Services,

@@ -1,11 +1,12 @@
 // What stands at a real path. No symbolic link is followed: each component is looked at by itself.
 use crate::errors::HostErr;
+use std::fs::Metadata;
 use std::io::{ErrorKind, Read};
 use std::os::unix::fs::MetadataExt;
 use std::rt::Files;
 
 /// A regular file that was found: its size, and which file it is.
-#[derive(Clone, Copy, PartialEq, Eq)]
+#[derive(Clone, Copy)]
 pub struct Found {
     pub size: u64,
     pub device: u64,
@@ -13,7 +14,7 @@ pub struct Found {
 }
 
 /// What stands at the end of a real path.
-#[derive(Clone, Copy, PartialEq, Eq)]
+#[derive(Clone, Copy)]
 pub enum Kind {
     Missing,
     /// A regular file.
@@ -24,7 +25,7 @@ pub enum Kind {
 }
 
 /// What stands at a real path whose directories were looked at too.
-#[derive(Clone, Copy, PartialEq, Eq)]
+#[derive(Clone, Copy)]
 pub enum Spot {
     /// Nothing. The path up to this place is the first part that is missing.
     Missing(usize),
@@ -34,15 +35,24 @@ pub enum Spot {
     Dir,
 }
 
-pub fn kind_at<R: Files>(rt: &R, path: &str) -> Result<Kind, HostErr> {
-    match rt.symlink_metadata(path) {
-        Ok(found) if found.is_file() => Ok(Kind::File(Found {
+// What the system tells of what stands at a path.
+fn kind_of(found: &Metadata) -> Kind {
+    if found.is_file() {
+        Kind::File(Found {
             size: found.len(),
             device: found.dev(),
             inode: found.ino(),
-        })),
-        Ok(found) if found.is_dir() => Ok(Kind::Dir),
-        Ok(_) => Ok(Kind::Other),
+        })
+    } else if found.is_dir() {
+        Kind::Dir
+    } else {
+        Kind::Other
+    }
+}
+
+pub fn kind_at<R: Files>(rt: &R, path: &str) -> Result<Kind, HostErr> {
+    match rt.symlink_metadata(path) {
+        Ok(found) => Ok(kind_of(&found)),
         Err(error) if error.kind() == ErrorKind::NotFound => Ok(Kind::Missing),
         Err(error) => Err(HostErr::from(error)),
     }

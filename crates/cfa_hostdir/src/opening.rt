@@ -1,6 +1,6 @@
 // What is done at the first call on a host: its folder is taken hold of, the tables are read with the rows that changed
 // since, and a last line of the journal that was cut off is taken away.
-use crate::errors::HostErr;
+use crate::errors::{HostErr, answer_of};
 use crate::files::{read_if_there, sync_folder};
 use crate::growing::Growing;
 use crate::held::{Changed, Held};
@@ -88,8 +88,7 @@ fn take_changes<R: Files>(
 
 fn read_piece<F: Read + Seek>(file: &mut F, from: u64, piece: &mut [u8]) -> Result<(), HostErr> {
     file.seek(SeekFrom::Start(from))?;
-    file.read_exact(piece)?;
-    Ok(())
+    answer_of(file.read_exact(piece))
 }
 
 // The length of the first part of a file that ends by a newline.

@@ -1,6 +1,6 @@
 // Files and directories, put and taken away as a whole. What is put is built at the stage, synced from the deepest up, and
 // comes by one rename; then the folder above is synced.
-use crate::errors::HostErr;
+use crate::errors::{HostErr, answer_of};
 use crate::files::{sync_folder, write_new};
 use crate::looking::{Kind, Spot, ends_component, folder_of, kind_at, part_of};
 use std::alloc::Global;
@@ -16,7 +16,7 @@ pub enum Leaf<'a> {
 }
 
 /// Whether a change that was made is known to last.
-#[derive(Clone, Copy, PartialEq, Eq)]
+#[derive(Clone, Copy)]
 pub enum Lasting {
     Durable,
     /// It is seen, and nobody knows whether it is seen after a power cut.
@@ -27,8 +27,8 @@ pub enum Lasting {
 fn clear_stage<R: Files>(rt: &R, alloc: Global, stage: &str) -> Result<(), HostErr> {
     match kind_at(rt, stage)? {
         Kind::Missing => Ok(()),
-        Kind::File(_) => Ok(rt.remove_file(stage)?),
-        Kind::Dir => Ok(rt.remove_dir_all(alloc, stage)?),
+        Kind::File(_) => answer_of(rt.remove_file(stage)),
+        Kind::Dir => answer_of(rt.remove_dir_all(alloc, stage)),
         Kind::Other => Err(HostErr::Refused),
     }
 }
