@@ -21,6 +21,11 @@ const VALID: &str = "valid\n";
 pub struct Call {
     words: Vec<Name>,
     moment: u64,
+    outside: Outside,
+}
+
+#[derive(Drop)]
+struct Outside {
     inputs: MemoryInputs,
     out: MemorySink,
     pats: RegexPatterns,
@@ -40,13 +45,18 @@ fn is_word(text: &str) -> bool {
     )
 }
 
-fn words_of(alloc: Global, line: &str) -> Result<Vec<Name>> {
-    let mut words = Vec::new(alloc);
+fn push_words(alloc: Global, words: &mut Vec<Name>, line: &str) -> Result<()> {
     for word in line.split(' ').skip(1) {
         if is_word(word) {
             words.push(Name::from_text(alloc, word)?)?;
         }
     }
+    Ok(())
+}
+
+fn words_of(alloc: Global, line: &str) -> Result<Vec<Name>> {
+    let mut words = Vec::new(alloc);
+    push_words(alloc, &mut words, line)?;
     Ok(words)
 }
 
@@ -70,16 +80,26 @@ fn sink_of(alloc: Global, line: &str) -> Result<MemorySink> {
     Ok(MemorySink::new(alloc, room, failing)?)
 }
 
+fn outside_of(alloc: Global, texts: Vec<(Name, Bytes)>, line: &str) -> Result<Outside> {
+    let pats = RegexPatterns::new(alloc, failing(alloc, line, " ?")?);
+    let out = sink_of(alloc, line)?;
+    let reading = failing(alloc, line, " <")?;
+    Ok(Outside {
+        inputs: MemoryInputs::new(alloc, texts, reading)?,
+        out,
+        pats,
+    })
+}
+
 // The call of a line on these texts, the first of each name.
 pub fn call_of(alloc: Global, texts: Vec<(Name, Bytes)>, line: &str) -> Result<Call> {
-    let inputs = MemoryInputs::new(alloc, texts, failing(alloc, line, " <")?)?;
-    let pats = RegexPatterns::new(alloc, failing(alloc, line, " ?")?);
+    let moment = number_behind(line, " @", MOMENT)?;
+    let outside = outside_of(alloc, texts, line)?;
+    let words = words_of(alloc, line)?;
     Ok(Call {
-        words: words_of(alloc, line)?,
-        moment: number_behind(line, " @", MOMENT)?,
-        inputs,
-        out: sink_of(alloc, line)?,
-        pats,
+        words,
+        moment,
+        outside,
     })
 }
 
@@ -90,10 +110,10 @@ pub fn make<S: Site>(alloc: Global, call: &mut Call, site: &mut S, report: &mut 
         alloc,
         call.words.as_slice(),
         call.moment,
-        &mut call.inputs,
+        &mut call.outside.inputs,
         site,
-        &mut call.out,
-        &mut call.pats,
+        &mut call.outside.out,
+        &mut call.outside.pats,
     )
 }
 
@@ -125,7 +145,7 @@ fn is_answer(line: &str, lines: &str, put: &str, status: u8) -> bool {
 
 // What a call put.
 pub fn put_by(call: &Call) -> &str {
-    str::from_utf8(call.out.bytes()).unwrap_or("no text")
+    str::from_utf8(call.outside.out.bytes()).unwrap_or("no text")
 }
 
 // Compares what a call put and answered with its line and the lines behind it.

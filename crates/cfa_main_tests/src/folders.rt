@@ -47,15 +47,27 @@ fn services_of(alloc: Global, host: &str) -> Result<String> {
     Ok(services)
 }
 
-// The host in a new folder, by its lines (`worlds`), which are of directories, files of text and services.
-pub fn host_in(rt: &HostRuntime, folder: &str, host: &str) -> Result<HostSite<HostRuntime>> {
-    make_folder(rt, folder)?;
+// Puts what the lines of a host tell into its folder.
+fn put_nodes(rt: &HostRuntime, folder: &str, host: &str) -> Result<()> {
     for line in host.lines() {
         if let Some(given) = line.strip_prefix("+ ") {
             put_node(rt, folder, given)?;
         }
     }
+    Ok(())
+}
+
+fn put_services(rt: &HostRuntime, folder: &str, host: &str) -> Result<()> {
     let table = format!(in rt.alloc(); "{folder}/services.tab")?;
-    fs::write(rt, table.as_str(), services_of(rt.alloc(), host)?.as_str())?;
-    Ok(HostSite::new(rt.clone()?, Name::from_text(rt.alloc(), folder)?))
+    let services = services_of(rt.alloc(), host)?;
+    Ok(fs::write(rt, table.as_str(), services.as_str())?)
+}
+
+// The host in a new folder, by its lines (`worlds`), which are of directories, files of text and services.
+pub fn host_in(rt: &HostRuntime, folder: &str, host: &str) -> Result<HostSite<HostRuntime>> {
+    make_folder(rt, folder)?;
+    put_nodes(rt, folder, host)?;
+    put_services(rt, folder, host)?;
+    let name = Name::from_text(rt.alloc(), folder)?;
+    Ok(HostSite::new(rt.clone()?, name))
 }

@@ -5,31 +5,35 @@ use super::worlds::parts;
 use anyhow::{Result, bail};
 use std::alloc::Global;
 
-// Another call of the bundle `b` and a number, or nothing. The further calls are told by the bundles that make them, and those that
-// they call.
-fn call_back(alloc: Global, number: u32, back: &str) -> Result<String> {
-    let mut call = String::new(alloc);
-    for pair in back.split(", ") {
-        let (from, to) = parts(pair, " ");
-        if from.parse::<u32>().ok() == Some(number) {
-            call.push_str(format!(in alloc; " 'back' usebundle => b{to};")?.as_str())?;
-        }
+// Adds the call that is told, `FROM TO`, where the bundle `b` and this number makes it.
+fn push_call(alloc: Global, text: &mut String, number: u32, told: &str) -> Result<()> {
+    let (from, to) = parts(told, " ");
+    if from.parse::<u32>().ok() == Some(number) {
+        text.push_str(format!(in alloc; " 'back' usebundle => b{to};")?.as_str())?;
     }
-    Ok(call)
+    Ok(())
+}
+
+// Adds the bundle `b` and a number, which calls the next one, and those that the further calls tell.
+fn push_bundle(alloc: Global, text: &mut String, number: u32, further: &str) -> Result<()> {
+    let next = u64::from(number) + 1;
+    let first = format!(in alloc;
+        "bundle agent b{number} {{ methods: 'next' usebundle => b{next};"
+    )?;
+    text.push_str(first.as_str())?;
+    for told in further.split(", ") {
+        push_call(alloc, text, number, told)?;
+    }
+    Ok(text.push_str(" }\n")?)
 }
 
 // Some thousand bundles, each of which calls the next, where the search for cycles is told apart from one that goes along the chain
 // again from each call: bundles from `b0` on, each on a line of its own from the second on, the last of which calls none but by the
 // further calls.
-fn chain_of(alloc: Global, back: &str) -> Result<String> {
+fn chain_of(alloc: Global, further: &str) -> Result<String> {
     let mut policy = "bundle agent main { }\n".to_string(alloc)?;
     for number in 0..2_000u32 {
-        let further = call_back(alloc, number, back)?;
-        let (next, further) = (number + 1, further.as_str());
-        let bundle = format!(in alloc;
-            "bundle agent b{number} {{ methods: 'next' usebundle => b{next};{further} }}\n"
-        )?;
-        policy.push_str(bundle.as_str())?;
+        push_bundle(alloc, &mut policy, number, further)?;
     }
     policy.push_str("bundle agent b2000 { }\n")?;
     Ok(policy)
@@ -38,11 +42,11 @@ fn chain_of(alloc: Global, back: &str) -> Result<String> {
 fn check_chain(
     alloc: Global,
     row: &str,
-    back: &str,
+    further: &str,
     answer: &str,
     report: &mut Report,
 ) -> Result<()> {
-    let policy = chain_of(alloc, back)?;
+    let policy = chain_of(alloc, further)?;
     check_source(alloc, row, policy.as_str().as_bytes(), answer, report)
 }
 
@@ -56,10 +60,10 @@ fn check_longest(alloc: Global, row: &str, answer: &str, report: &mut Report) ->
 // Checks the source of a row, and compares. The broken one stops being a text.
 fn check_row(alloc: Global, row: &str, report: &mut Report) -> Result<()> {
     let (answer, made) = sides(row);
-    let (word, back) = parts(made, " ");
+    let (word, further) = parts(made, " ");
     match word {
         "broken" => check_source(alloc, row, b"%\n'\xc3\xa9 \xc3".as_slice(), answer, report),
-        "chain" => check_chain(alloc, row, back, answer, report),
+        "chain" => check_chain(alloc, row, further, answer, report),
         "longest" => check_longest(alloc, row, answer, report),
         _ => bail!("no source of the name {word}"),
     }

@@ -155,12 +155,17 @@ pub fn compare_row(alloc: Global, frame: &str, row: &str, report: &mut Report) -
     Ok(())
 }
 
+// A text with a field in the places of the mark of its number.
+fn with_field(alloc: Global, text: &str, place: usize, field: &str) -> Result<String> {
+    let mark = format!(in alloc; "<{place}>")?;
+    Ok(text.replace(alloc, mark.as_str(), field)?)
+}
+
 // A row with the fields of a line in the places of `<0>`, `<1>` ..
 pub fn filled(alloc: Global, row: &str, line: &str) -> Result<String> {
     let mut text = row.to_string(alloc)?;
     for (place, field) in line.split(" | ").enumerate() {
-        let mark = format!(in alloc; "<{place}>")?;
-        text = text.as_str().replace(alloc, mark.as_str(), field)?;
+        text = with_field(alloc, text.as_str(), place, field)?;
     }
     Ok(text)
 }
@@ -180,13 +185,25 @@ fn compare_run_in(
     compare_call(rt.alloc(), texts, run, site, report)
 }
 
+fn compare_runs_in(
+    rt: &HostRuntime,
+    heading: &str,
+    runs: &str,
+    site: &mut HostSite<HostRuntime>,
+    report: &mut Report,
+) -> Result<()> {
+    for run in runs.split("\n$ ") {
+        compare_run_in(rt, heading, run, site, report)?;
+    }
+    Ok(())
+}
+
 // Makes the runs of a row on the real host, and compares what they put and answer.
 pub fn compare_row_in(rt: &HostRuntime, row: &str, report: &mut Report) -> Result<()> {
     report.count_row();
     let (heading, runs) = parts(row, "\n$ ");
     let mut site = host_in(rt, FOLDER, heading)?;
-    for run in runs.split("\n$ ") {
-        compare_run_in(rt, heading, run, &mut site, report)?;
-    }
-    Ok(())
+    let compared = compare_runs_in(rt, heading, runs, &mut site, report);
+    drop(site);
+    compared
 }

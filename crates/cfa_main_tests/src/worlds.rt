@@ -17,14 +17,20 @@ fn path_of(alloc: Global, text: &str) -> Result<Path> {
     Ok(Path::read(alloc, &Name::from_text(alloc, text)?)?)
 }
 
+fn add_node(alloc: Global, world: &mut World, path: &str, node: Node) -> Result<()> {
+    let path = path_of(alloc, path)?;
+    Ok(world.nodes.add(alloc, &path, node)?)
+}
+
 fn add_file(alloc: Global, world: &mut World, path: &str, bytes: &[u8]) -> Result<()> {
-    let file = Node::File(Bytes::from_slice(alloc, bytes)?, root_perms(alloc, 0o600)?);
-    Ok(world.nodes.add(alloc, &path_of(alloc, path)?, file)?)
+    let bytes = Bytes::from_slice(alloc, bytes)?;
+    let perms = root_perms(alloc, 0o600)?;
+    add_node(alloc, world, path, Node::File(bytes, perms))
 }
 
 fn add_dir(alloc: Global, world: &mut World, path: &str) -> Result<()> {
-    let dir = Node::Dir(root_perms(alloc, 0o700)?);
-    Ok(world.nodes.add(alloc, &path_of(alloc, path)?, dir)?)
+    let perms = root_perms(alloc, 0o700)?;
+    add_node(alloc, world, path, Node::Dir(perms))
 }
 
 // The word is the first of the two, and not the second.
@@ -80,26 +86,37 @@ fn add_given(alloc: Global, world: &mut World, given: &str) -> Result<()> {
     }
 }
 
+// Adds what the lines of a host tell.
+fn add_host(alloc: Global, world: &mut World, heading: &str) -> Result<()> {
+    for line in heading.lines() {
+        if let Some(given) = line.strip_prefix("+ ") {
+            add_given(alloc, world, given)?;
+        }
+    }
+    Ok(())
+}
+
+// The number behind a mark, on a line of its own.
+fn number_in(heading: &str, mark: &str) -> Result<Option<u32>> {
+    for line in heading.lines() {
+        if let Some(number) = line.strip_prefix(mark) {
+            return Ok(Some(number.parse::<u32>()?));
+        }
+    }
+    Ok(None)
+}
+
 // The site in memory of a heading: `+ dir PATH`, `+ file PATH BYTES` with the bytes as an escaped field, `+ raw PATH` of one byte
 // that begins no text, `+ long PATH SIZE`, `+ service NAME running|stopped enabled|disabled RESTARTS` and
 // `+ lock |KEY TEXT| MOMENT`. Its call of the number behind `! ` fails, and each call once as many changes were made as stand
 // behind `!! `.
 pub fn site_of(alloc: Global, heading: &str) -> Result<MemorySite> {
+    let stop = number_in(heading, "!! ")?;
+    let failing_call = number_in(heading, "! ")?.unwrap_or(0);
+    let failing = vec![in alloc; failing_call]?;
     let mut world = World::new(alloc);
-    let mut failing_call = 0;
-    let mut stop = None;
-    for line in heading.lines() {
-        if let Some(given) = line.strip_prefix("+ ") {
-            add_given(alloc, &mut world, given)?;
-        }
-        if let Some(number) = line.strip_prefix("! ") {
-            failing_call = number.parse::<u32>()?;
-        }
-        if let Some(changes) = line.strip_prefix("!! ") {
-            stop = Some(changes.parse::<u32>()?);
-        }
-    }
-    Ok(MemorySite::new(alloc, world, vec![in alloc; failing_call]?, stop)?)
+    add_host(alloc, &mut world, heading)?;
+    Ok(MemorySite::new(alloc, world, failing, stop)?)
 }
 
 // The host of a run: what the run before left, or a new one of the lines that it tells, which are none behind `+ new`. Behind
