@@ -13,11 +13,11 @@ use crate::putting::{put_ended, put_report};
 use crate::running::Tally;
 use cfa_acts::Act;
 use cfa_base::{Name, NoMemory};
-use cfa_classes::Status;
 use cfa_outcomes::Outcome;
 use cfa_output::Stop;
 use cfa_outside::{Sink, Site};
 use cfa_resolve::{Instance, Work};
+use cfa_statuses::Status;
 use cfa_walk::{Ending, Teller};
 use std::alloc::Global;
 

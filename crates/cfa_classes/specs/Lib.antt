@@ -1,4 +1,1 @@
 pub mod Calendar
-pub mod Raised
-pub mod Status
-pub mod lemmas

@@ -3,13 +3,8 @@
 #![tactic(auto)]
 
 mod calendar;
-mod levels;
-mod raising;
-mod valuing;
 
 pub use calendar::hard;
 pub use cfa_base::LAST_MOMENT;
+pub use cfa_statuses::{Status, Statuses, value};
 pub use cfa_tree::{ExprErr, read_expr};
-pub use levels::Status;
-pub use raising::Statuses;
-pub use valuing::value;

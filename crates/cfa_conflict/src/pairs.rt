@@ -9,8 +9,8 @@ use crate::resources::{class_resource, resource_of};
 use crate::{Cause, Conflict};
 use cfa_acts::{Act, disturbs};
 use cfa_base::NoMemory;
-use cfa_classes::Status;
 use cfa_resolve::{Instance, Work, copy_id};
+use cfa_statuses::Status;
 use cfa_walk::{Blame, Visit};
 use std::alloc::Global;
 

@@ -1,8 +1,8 @@
 -- Each instance that a run visits has a key text and comes with a status, and one with acts is told where it was visited.
 use Rattle.std.proofs.Common.{◌≡◌, true, false, List, [], ◌∷◌, refl, ap, subst, ◌⊎◌, inl, inr}
 use Rattle.std.specs.List.{AllByRecursion as Each}
-use Rattle.cfa_classes.specs.declared.levels.Status.{Status}
-use Rattle.cfa_classes.specs.declared.levels.Status.TheVariants.{No, Maybe, Yes}
+use Rattle.cfa_statuses.specs.declared.levels.Status.{Status}
+use Rattle.cfa_statuses.specs.declared.levels.Status.TheVariants.{No, Maybe, Yes}
 use Rattle.cfa_kinds.specs.declared.kinds.PromiseType.{PromiseType}
 use Rattle.cfa_resolve.specs.declared.instances.Instance.{Instance}
 use Rattle.cfa_resolve.specs.declared.instances.Work.{Work}

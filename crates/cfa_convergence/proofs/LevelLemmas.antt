@@ -4,9 +4,9 @@ use Rattle.std.proofs.Common.{◌≡◌, ℕ, zero, suc, ◌+◌, Bool, true, fa
 use Rattle.std.specs.Prelude.{cond}
 use Rattle.std.specs.List.{AllByRecursion as Each}
 use Rattle.cfa_base.specs.declared.places.PromiseId.{PromiseId}
-use Rattle.cfa_classes.specs.declared.levels.Status.{Status}
-use Rattle.cfa_classes.specs.declared.levels.Status.TheVariants.{No, Maybe, Yes}
-use Rattle.cfa_classes.specs.Status.{lesser}
+use Rattle.cfa_statuses.specs.declared.levels.Status.{Status}
+use Rattle.cfa_statuses.specs.declared.levels.Status.TheVariants.{No, Maybe, Yes}
+use Rattle.cfa_statuses.specs.Status.{lesser}
 use Rattle.cfa_defines.specs.ClassPromises.{Raise, raises_of}
 use Rattle.cfa_defines.specs.FirstMaybe.{first_maybe_of_guard}
 use Rattle.cfa_defines.specs.VarsPromises.{setting_choices, count_choices, data_set}

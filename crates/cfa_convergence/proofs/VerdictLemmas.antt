@@ -9,8 +9,8 @@ use Rattle.cfa_acts.specs.declared.acts.Act.{Act}
 use Rattle.cfa_acts.specs.declared.acts.Act.TheVariants.{Create, MakeDir, Delete, Content, Copy, Edit, Perms, Start, Stop, Enable, Disable, Restart, Bust}
 use Rattle.cfa_acts.specs.Disturbs.{disturbs}
 use Rattle.cfa_acts.specs.Laws.{is_restart}
-use Rattle.cfa_classes.specs.declared.levels.Status.{Status}
-use Rattle.cfa_classes.specs.declared.levels.Status.TheVariants.{No, Maybe, Yes}
+use Rattle.cfa_statuses.specs.declared.levels.Status.{Status}
+use Rattle.cfa_statuses.specs.declared.levels.Status.TheVariants.{No, Maybe, Yes}
 use Rattle.cfa_conflict.specs.declared.verdicts.Conflict.{Conflict}
 use Rattle.cfa_conflict.specs.Analyses.{verdict_over, analysis_of}
 use Rattle.cfa_conflict.specs.Conflicts.{has_acts, is_visited, is_live, first_visit, is_visited_after, unsettled_conflict, restart_of, restarts_of, unsure_by, unsure_at, undone, undone_by, undone_by_other, undone_by_later, undone_in, undone_from, conflicts_at, conflicts_from, conflicts, live_instances, first_or_accepted, verdict_of}

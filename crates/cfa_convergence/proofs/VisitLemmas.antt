@@ -6,9 +6,9 @@ use Rattle.std.specs.Str.{bytes_eq}
 use Rattle.std.proofs.lemmas.Bool.{false≢true, false_from_ne_true, and_from, eqb-true}
 use Rattle.std.proofs.lemmas.List.{map-append}
 use Rattle.cfa_base.specs.lemmas.EqualTexts.{same_text}
-use Rattle.cfa_classes.specs.declared.levels.Status.{Status}
-use Rattle.cfa_classes.specs.declared.levels.Status.TheVariants.{No, Maybe}
-use Rattle.cfa_classes.specs.Status.{greater}
+use Rattle.cfa_statuses.specs.declared.levels.Status.{Status}
+use Rattle.cfa_statuses.specs.declared.levels.Status.TheVariants.{No, Maybe}
+use Rattle.cfa_statuses.specs.Status.{greater}
 use Rattle.cfa_conflict.specs.Conflicts.{first_visit, has_visit, is_visited_after}
 use Rattle.cfa_conflict.specs.lemmas.Anywhere.{in_left}
 use Rattle.cfa_resolve.specs.declared.instances.Instance.{Instance}

@@ -6,8 +6,8 @@ use Rattle.std.specs.List.{AllByRecursion as Each}
 use Rattle.cfa_acts.specs.declared.acts.Act.{Act}
 use Rattle.cfa_acts.specs.Disturbs.{disturbs}
 use Rattle.cfa_acts.specs.Laws.{is_restart}
-use Rattle.cfa_classes.specs.declared.levels.Status.{Status}
-use Rattle.cfa_classes.specs.declared.levels.Status.TheVariants.{No, Yes}
+use Rattle.cfa_statuses.specs.declared.levels.Status.{Status}
+use Rattle.cfa_statuses.specs.declared.levels.Status.TheVariants.{No, Yes}
 use Rattle.cfa_resolve.specs.declared.instances.Instance.{Instance}
 use Rattle.cfa_resolve.specs.declared.instances.Work.{Work}
 use Rattle.cfa_walk.specs.History.{History, Begun, Set, Raised, Reached, Listed, Told, is_named}

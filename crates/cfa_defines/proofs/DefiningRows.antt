@@ -5,8 +5,8 @@ use Rattle.std.specs.Str.{bytes_eq}
 use Rattle.cfa_tree.specs.ClassTexts.{expression_of}
 use Rattle.cfa_tree.specs.Tree.{ValueTree, call, value_trees, PromiseTree}
 use Rattle.cfa_tree.specs.lemmas.Written.{here, quoted, items}
-use Rattle.cfa_classes.specs.declared.levels.Status.{Status}
-use Rattle.cfa_classes.specs.declared.levels.Status.TheVariants.{No, Maybe, Yes}
+use Rattle.cfa_statuses.specs.declared.levels.Status.{Status}
+use Rattle.cfa_statuses.specs.declared.levels.Status.TheVariants.{No, Maybe, Yes}
 use Rattle.cfa_kinds.specs.declared.kinds.PromiseType.TheVariants as promises
 use Rattle.cfa_kinds.specs.Kinds.{vars_attribute, classes_attribute}
 use Rattle.cfa_kinds.specs.Functions.{function_named}

@@ -6,7 +6,7 @@ use Rattle.cfa_tree.specs.declared.expressions.Expr.{Expr, And, Or}
 use Rattle.cfa_tree.specs.Plain.{plain_expr}
 use Rattle.cfa_tree.specs.Tree.{expr_trees}
 use Rattle.cfa_tree.specs.lemmas.Rows.{plain_expr-And, plain_expr-Or}
-use Rattle.cfa_classes.specs.declared.levels.Status.{Status}
+use Rattle.cfa_statuses.specs.declared.levels.Status.{Status}
 use Rattle.cfa_defines.specs.FirstMaybe.{first_maybe, first_maybe_among}
 
 module _ (status : List ℕ → Status) where

@@ -1,9 +1,9 @@
 -- What several expressions say together, one more at a time.
 use Rattle.std.proofs.Common.{◌≡◌, ◌∙◌, List, [], ◌∷◌, ◌++◌, ap, sym, refl}
 use Rattle.cfa_base.specs.lemmas.Lists.{option_or-none, option_or-assoc}
-use Rattle.cfa_classes.specs.declared.levels.Status.{Status}
-use Rattle.cfa_classes.specs.Status.{lesser, greater}
-use Rattle.cfa_classes.specs.lemmas.Orders.{lesser_assoc, greater_assoc, lesser_Yes, greater_No}
+use Rattle.cfa_statuses.specs.declared.levels.Status.{Status}
+use Rattle.cfa_statuses.specs.Status.{lesser, greater}
+use Rattle.cfa_statuses.specs.lemmas.Orders.{lesser_assoc, greater_assoc, lesser_Yes, greater_No}
 use Rattle.cfa_defines.specs.declared.saying.Said.{Said}
 use Rattle.cfa_defines.specs.declared.saying.Said.TheVariants.{Says as says, NoExpression as no_expression, Stops as stops}
 use Rattle.cfa_defines.specs.declared.saying.Join.{Join}

@@ -2,8 +2,8 @@
 -- read as it is.
 use Rattle.std.specs.Prelude.{ℕ, Bool, true, not, List, [], Option, Some, None}
 use Rattle.std.specs.List.{list_any}
-use Rattle.cfa_classes.specs.declared.levels.Status.{Status}
-use Rattle.cfa_classes.specs.Status.{lesser, greater}
+use Rattle.cfa_statuses.specs.declared.levels.Status.{Status}
+use Rattle.cfa_statuses.specs.Status.{lesser, greater}
 use Rattle.cfa_defines.specs.declared.saying.Said.{Said}
 use Rattle.cfa_defines.specs.declared.saying.Join.{Join}
 use Rattle.cfa_defines.specs.declared.saying.Join.TheVariants.{All as of_all, One as of_one}
@@ -14,7 +14,7 @@ use Rattle.cfa_defines.specs.declared.reads.Read.{Read}
 use Rattle.cfa_defines.specs.declared.reads.Read.TheVariants.{Text as a_text, List as a_list}
 use Rattle.cfa_defines.specs.OwnTexts.{is_past_limit}
 use Rattle.cfa_tree.specs.Tree.{ValueTree, ValueTrees, PromiseTree}
-use Rattle.cfa_classes.specs.Raised.{greater_in}
+use Rattle.cfa_statuses.specs.Raised.{greater_in}
 use Rattle.cfa_functions.specs.Calls.{referred_list}
 use Rattle.cfa_defines.specs.declared.expressions.Context.{Context}
 

@@ -1,7 +1,7 @@
 // What classes promises raise.
 ghost use Rattle.std.specs.Prelude.{◌≡◌, IfOk, map, Some};
 ghost use Rattle.cfa_base.specs.Patterns.{SizeRefusal};
-ghost use Rattle.cfa_classes.specs.Raised.{greater_in};
+ghost use Rattle.cfa_statuses.specs.Raised.{greater_in};
 ghost use Rattle.cfa_functions.specs.Builds.{refused_in};
 ghost use Rattle.cfa_tree.specs.Plain.{plain_promise};
 ghost use Rattle.cfa_vars.specs.Scopes.{in_scope};
@@ -13,8 +13,8 @@ ghost use Rattle.cfa_defines.specs.SeenRaises.{seen_raise};
 use crate::expressions::{Context, expressed};
 use crate::saying::Said;
 use cfa_base::{Name, Patterns};
-use cfa_classes::{Status, Statuses};
 use cfa_functions::{CallErr, canonify};
+use cfa_statuses::{Status, Statuses};
 use cfa_tree::Promise;
 use cfa_vars::{Choice, ChoiceList, Expanded, Scopes, expand};
 use std::alloc::Global;

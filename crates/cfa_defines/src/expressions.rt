@@ -1,7 +1,7 @@
 // What the expressions of a classes promise say.
 ghost use Rattle.std.specs.Prelude.{◌≡◌, IfOk, map};
 ghost use Rattle.cfa_base.specs.Patterns.{SizeRefusal};
-ghost use Rattle.cfa_classes.specs.Raised.{greater_in};
+ghost use Rattle.cfa_statuses.specs.Raised.{greater_in};
 ghost use Rattle.cfa_functions.specs.Builds.{IsBuilt, pattern_of_call, refused_in};
 ghost use Rattle.cfa_functions.specs.Calls.{answer_of};
 ghost use Rattle.cfa_tree.specs.Plain.{plain_promise, plain_value};
@@ -17,9 +17,9 @@ use crate::combining::held_list;
 use crate::maybes::first_maybe;
 use crate::saying::{Join, Said};
 use cfa_base::{Name, NoMemory, Patterns, copy_name};
-use cfa_classes::{ExprErr, Status, Statuses, read_expr, value};
 use cfa_functions::{Answer, CallErr, ValueText, call, referred_list, text_of_value};
-use cfa_tree::{Promise, Value};
+use cfa_statuses::{Status, Statuses, value};
+use cfa_tree::{ExprErr, Promise, Value, read_expr};
 use cfa_values::value_named;
 use cfa_vars::Scopes;
 use std::alloc::Global;

@@ -1,12 +1,12 @@
 // The first class that may be set or not.
 ghost use Rattle.std.specs.Prelude.{◌≡◌, map, option_copied, option_map};
-ghost use Rattle.cfa_classes.specs.Raised.{greater_in};
+ghost use Rattle.cfa_statuses.specs.Raised.{greater_in};
 ghost use Rattle.cfa_tree.specs.Plain.{plain_expr};
 ghost use Rattle.cfa_tree.specs.Tree.{expr_trees};
 ghost use Rattle.cfa_defines.specs.FirstMaybe.{first_maybe, first_maybe_among, first_maybe_of_guard};
 
 use cfa_base::Name;
-use cfa_classes::{Status, Statuses};
+use cfa_statuses::{Status, Statuses};
 use cfa_tree::{Expr, Guard};
 
 /// The first class of an expression, in text order, whose status is Maybe, without taking memory. A class has the greater

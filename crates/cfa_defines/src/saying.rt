@@ -4,7 +4,7 @@ ghost use Rattle.cfa_defines.specs.ClassPromises.{joined, opposite};
 ghost use Rattle.cfa_defines.specs.OfTheCode.{operation, together};
 
 use cfa_base::Name;
-use cfa_classes::Status;
+use cfa_statuses::Status;
 
 /// What an expression says.
 #[derive(Drop)]

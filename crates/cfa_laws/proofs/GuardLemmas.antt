@@ -1,8 +1,8 @@
 -- Guards in a run and in the open walk, and the first class of one that may hold or not.
 use Rattle.std.proofs.Common.{◌≡◌, ℕ, List, Option, Some, None}
 use Rattle.cfa_tree.specs.Tree.{ExprTree}
-use Rattle.cfa_classes.specs.declared.levels.Status.{Status}
-use Rattle.cfa_classes.specs.declared.levels.Status.TheVariants.{Maybe}
+use Rattle.cfa_statuses.specs.declared.levels.Status.{Status}
+use Rattle.cfa_statuses.specs.declared.levels.Status.TheVariants.{Maybe}
 use Rattle.cfa_defines.specs.FirstMaybe.{first_maybe_of_guard}
 use Rattle.cfa_scripts.specs.EditBundles.{guard_under}
 use Rattle.cfa_laws.specs.Statuses.{Within, yes_yes, AllWithin}

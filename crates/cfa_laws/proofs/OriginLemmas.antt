@@ -11,11 +11,11 @@ use Rattle.cfa_base.specs.lemmas.EqualTexts.{same_text, is_text}
 use Rattle.cfa_tree.specs.Tree.{ValueTree, BlockTree}
 use Rattle.cfa_kinds.specs.declared.kinds.PromiseType.{PromiseType}
 use Rattle.cfa_kinds.specs.declared.kinds.PromiseType.TheVariants as promises
-use Rattle.cfa_classes.specs.declared.levels.Status.{Status}
-use Rattle.cfa_classes.specs.declared.levels.Status.TheVariants.{No, Maybe, Yes}
-use Rattle.cfa_classes.specs.Status.{lesser, greater}
-use Rattle.cfa_classes.specs.Raised.{status_in, raised}
-use Rattle.cfa_classes.specs.lemmas.Raised.{status_in-none_raised, status_in-raised}
+use Rattle.cfa_statuses.specs.declared.levels.Status.{Status}
+use Rattle.cfa_statuses.specs.declared.levels.Status.TheVariants.{No, Maybe, Yes}
+use Rattle.cfa_statuses.specs.Status.{lesser, greater}
+use Rattle.cfa_statuses.specs.Raised.{status_in, raised}
+use Rattle.cfa_statuses.specs.lemmas.Raised.{status_in-none_raised, status_in-raised}
 use Rattle.cfa_served.specs.Served.{bundle_of}
 use Rattle.cfa_vars.specs.Scopes.{Table}
 use Rattle.cfa_vars.specs.Expansion.{Chosen}

@@ -4,9 +4,9 @@ use Rattle.std.specs.Prelude.{◌||◌, codes}
 use Rattle.std.specs.List.{list_any, filter_map, cons_option}
 use Rattle.cfa_tree.specs.ClassTexts.{expression_of}
 use Rattle.cfa_tree.specs.Tree.{ExprTree, ValueTree, text, word, reference, list_reference, list, call, ValueTrees, no_value, more_values, PromiseTree}
-use Rattle.cfa_classes.specs.declared.levels.Status.{Status}
-use Rattle.cfa_classes.specs.declared.levels.Status.TheVariants.{No, Yes}
-use Rattle.cfa_classes.specs.Status.{lesser, greater, value_of as status_of}
+use Rattle.cfa_statuses.specs.declared.levels.Status.{Status}
+use Rattle.cfa_statuses.specs.declared.levels.Status.TheVariants.{No, Yes}
+use Rattle.cfa_statuses.specs.Status.{lesser, greater, value_of as status_of}
 use Rattle.cfa_values.specs.Attributes.{value_of}
 use Rattle.cfa_vars.specs.declared.expanding.Expanded.{Expanded}
 use Rattle.cfa_vars.specs.declared.expanding.Expanded.TheVariants.{Done, Unresolved as unset, TooLong as past}

@@ -4,7 +4,7 @@ use Rattle.std.specs.Prelude.{option_map}
 use Rattle.std.specs.List.{cons_option}
 use Rattle.cfa_base.specs.lemmas.Lists.{none_left, none_right}
 use Rattle.cfa_tree.specs.Tree.{ValueTree}
-use Rattle.cfa_classes.specs.declared.levels.Status.{Status}
+use Rattle.cfa_statuses.specs.declared.levels.Status.{Status}
 use Rattle.cfa_vars.specs.Expansion.{Chosen}
 use Rattle.cfa_defines.specs.declared.combining.Combined.{Combined}
 use Rattle.cfa_defines.specs.declared.combining.Combined.TheVariants.{Lacks as lacks, TooMany as too_many, TooLong as too_long, Found as found}

@@ -3,9 +3,9 @@
 use Rattle.std.proofs.Common.{◌≡◌, ℕ, Bool, true, false, List, [], Option, Some, None, refl, ap, ap₂, ◌∙◌}
 use Rattle.std.specs.Option.{option_or}
 use Rattle.cfa_tree.specs.Tree.{ExprTree, class, negated, all_of, one_of, ExprTrees, no_expr, more_exprs}
-use Rattle.cfa_classes.specs.declared.levels.Status.{Status}
-use Rattle.cfa_classes.specs.declared.levels.Status.TheVariants.{No, Maybe, Yes}
-use Rattle.cfa_classes.specs.Status.{swapped, lesser, greater, value_of, least_of, greatest_of}
+use Rattle.cfa_statuses.specs.declared.levels.Status.{Status}
+use Rattle.cfa_statuses.specs.declared.levels.Status.TheVariants.{No, Maybe, Yes}
+use Rattle.cfa_statuses.specs.Status.{swapped, lesser, greater, value_of, least_of, greatest_of}
 use Rattle.cfa_functions.specs.declared.answering.Answer.TheVariants.{Unresolved}
 use Rattle.cfa_defines.specs.FirstMaybe.{if_maybe, first_maybe, first_maybe_among}
 use Rattle.cfa_defines.specs.ClassPromises.{said_of, answer_said, joined, all_said, opposite, Raise, stops_all, raise_of}

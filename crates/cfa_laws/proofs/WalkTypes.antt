@@ -1,7 +1,7 @@
 -- The types of a walk of an edit bundle, of what it left inside, and of a raise with the origin that it hands. They have no names
 -- outside of their crate: they are what the definitions of the walk give.
 use Rattle.std.specs.Prelude.{ℕ, List, Option}
-use Rattle.cfa_classes.specs.declared.levels.Status.{Status}
+use Rattle.cfa_statuses.specs.declared.levels.Status.{Status}
 use Rattle.cfa_defines.specs.ClassPromises.{Raise}
 use Rattle.cfa_scripts.specs.EditBundles.{Around, inside_at_first, walk_at_first, handed_raise}
 

@@ -2,8 +2,8 @@
 -- expressions, and what is unsettled in an edit bundle for a global class, to which it goes back.
 use Rattle.std.specs.Prelude.{◌≡◌, ℕ, List, Option, Some}
 use Rattle.std.specs.List.{AllByRecursion as Each}
-use Rattle.cfa_classes.specs.declared.levels.Status.{Status}
-use Rattle.cfa_classes.specs.declared.levels.Status.TheVariants.{Maybe}
+use Rattle.cfa_statuses.specs.declared.levels.Status.{Status}
+use Rattle.cfa_statuses.specs.declared.levels.Status.TheVariants.{Maybe}
 use Rattle.cfa_defines.specs.ClassPromises.{Raise, raises_of}
 use Rattle.cfa_resolve.specs.Instances.{Reached}
 use Rattle.cfa_resolve.specs.Resolution.{resolution}

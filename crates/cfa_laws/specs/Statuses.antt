@@ -2,8 +2,8 @@
 -- nothing is undecided. What promises make of statuses that lie together lies together too: the classes that a classes promise
 -- raises, and the instances that a promise resolves to where nothing is unsettled in its edit bundle.
 use Rattle.std.specs.Prelude.{◌≡◌, ℕ, List, [], ◌∷◌, Option}
-use Rattle.cfa_classes.specs.declared.levels.Status.{Status}
-use Rattle.cfa_classes.specs.declared.levels.Status.TheVariants.{No, Maybe, Yes}
+use Rattle.cfa_statuses.specs.declared.levels.Status.{Status}
+use Rattle.cfa_statuses.specs.declared.levels.Status.TheVariants.{No, Maybe, Yes}
 use Rattle.cfa_defines.specs.ClassPromises.{Raise, raises_of}
 use Rattle.cfa_resolve.specs.Instances.{Reached}
 use Rattle.cfa_resolve.specs.Resolution.{resolution}

@@ -5,11 +5,11 @@ use super::texts::add_text;
 use super::worlds::parts;
 use anyhow::{Result, bail};
 use cfa_base::{Bytes, Name, Names, NoMemory, PromiseId};
-use cfa_classes::Statuses;
 use cfa_outside::{MemoryInputs, RegexPatterns};
 use cfa_resolve::{ResolveErr, Resolved, View, is_acting, resolve};
 use cfa_schema::Checked;
 use cfa_sources::read_policy;
+use cfa_statuses::Statuses;
 use cfa_vars::{Datum, Scope, Scopes, SharedScopes};
 use std::alloc::Global;
 

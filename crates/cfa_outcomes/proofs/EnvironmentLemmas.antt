@@ -15,11 +15,11 @@ use Rattle.cfa_base.specs.declared.places.PromiseId.{PromiseId}
 use Rattle.cfa_base.specs.lemmas.TextKeys.{in_hash}
 use Rattle.cfa_base.specs.lemmas.TextMaps.{get-put, remove-insert, ties_alike, same_texts}
 use Rattle.cfa_base.specs.lemmas.EqualTexts.{same_text, texts_apart}
-use Rattle.cfa_classes.specs.declared.levels.Status.{Status}
-use Rattle.cfa_classes.specs.declared.levels.Status.TheVariants.{No, Maybe, Yes}
-use Rattle.cfa_classes.specs.Status.{greater}
-use Rattle.cfa_classes.specs.Raised.{Raised, none_raised, status_in, raised}
-use Rattle.cfa_classes.specs.lemmas.Raised.{unwrap_or-cond, status_in-none_raised, status_in-raised_same, status_in-raised_other}
+use Rattle.cfa_statuses.specs.declared.levels.Status.{Status}
+use Rattle.cfa_statuses.specs.declared.levels.Status.TheVariants.{No, Maybe, Yes}
+use Rattle.cfa_statuses.specs.Status.{greater}
+use Rattle.cfa_statuses.specs.Raised.{Raised, none_raised, status_in, raised}
+use Rattle.cfa_statuses.specs.lemmas.Raised.{unwrap_or-cond, status_in-none_raised, status_in-raised_same, status_in-raised_other}
 use Rattle.cfa_base.specs.Index.{is_listed}
 use Rattle.cfa_outcomes.specs.Environments.{EnvironmentMaps, with_class, Sources, Marks, marks_at, mark_in, marked, sourced, all_yes}
 use Rattle.cfa_outcomes.proofs.HashedTexts.{get-hashed, hashed-put}

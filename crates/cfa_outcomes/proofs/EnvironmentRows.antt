@@ -3,8 +3,8 @@
 use Rattle.std.proofs.Common.{◌≡◌, ℕ, [], ◌∷◌, Some, None, codes}
 use Rattle.std.specs.FinMap as finite
 use Rattle.cfa_base.specs.declared.places.PromiseId.{PromiseId}
-use Rattle.cfa_classes.specs.declared.levels.Status.TheVariants.{No, Maybe, Yes}
-use Rattle.cfa_classes.specs.lemmas.Raised.{status_in-raised, status_in-none_raised}
+use Rattle.cfa_statuses.specs.declared.levels.Status.TheVariants.{No, Maybe, Yes}
+use Rattle.cfa_statuses.specs.lemmas.Raised.{status_in-raised, status_in-none_raised}
 use Rattle.cfa_outcomes.specs.Environments.{EnvironmentMaps, first_environment, status_of, source_of, mark_of, with_class, with_mark}
 use Rattle.cfa_outcomes.proofs.EnvironmentLemmas.{status_in-all_yes, get-sourced, marks_at-marked, marks_at-none}
 

@@ -10,10 +10,10 @@ use Rattle.std.specs.Str.{bytes_eq}
 use Rattle.cfa_base.specs.TextMaps.{text_map}
 use Rattle.cfa_base.specs.lemmas.TextKeys.{in_hash, hash_updates}
 use Rattle.cfa_base.specs.lemmas.TextMaps.{get-put, get-text_map, same_texts}
-use Rattle.cfa_classes.specs.declared.levels.Status.{Status}
-use Rattle.cfa_classes.specs.declared.levels.Status.TheVariants.{No}
-use Rattle.cfa_classes.specs.Status.{greater}
-use Rattle.cfa_classes.specs.Raised.{Raised, status_in, raised}
+use Rattle.cfa_statuses.specs.declared.levels.Status.{Status}
+use Rattle.cfa_statuses.specs.declared.levels.Status.TheVariants.{No}
+use Rattle.cfa_statuses.specs.Status.{greater}
+use Rattle.cfa_statuses.specs.Raised.{Raised, status_in, raised}
 
 -- a look-up by bytes
 pub get-hashed : {K X S : Type 0} (bytes : K → List ℕ) (m : hash.HashMap K X S) (bs : List ℕ) → finite.get (text_map bytes m.entries) bs ≡ in_hash bytes m bs

@@ -3,8 +3,8 @@ use Rattle.std.specs.Prelude.{ℕ, List, refl}
 use Rattle.std.specs.Coded.{Coded, code_by, coded×, coded_list, coded_ℕ}
 use Rattle.std.specs.FinMap as finite
 use Rattle.cfa_base.specs.declared.places.PromiseId.{PromiseId}
-use Rattle.cfa_classes.specs.contracts.levels.Status as status_row
-use Rattle.cfa_classes.specs.Raised.{Raised}
+use Rattle.cfa_statuses.specs.contracts.levels.Status as status_row
+use Rattle.cfa_statuses.specs.Raised.{Raised}
 use Rattle.cfa_outcomes.specs.Environments.{EnvironmentMaps, Sources, Marks}
 
 abbrev pub text_code : Coded (List ℕ)

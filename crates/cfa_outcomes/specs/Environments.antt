@@ -5,9 +5,9 @@ use Rattle.std.specs.Prelude.{ℕ, List, Option, Some, None, if◌then◌else◌
 use Rattle.std.specs.FinMap as finite
 use Rattle.cfa_base.specs.TextMaps.{TextMap}
 use Rattle.cfa_base.specs.declared.places.PromiseId.{PromiseId}
-use Rattle.cfa_classes.specs.declared.levels.Status.{Status}
-use Rattle.cfa_classes.specs.declared.levels.Status.TheVariants.{Yes}
-use Rattle.cfa_classes.specs.Raised.{Raised, none_raised, status_in, raised}
+use Rattle.cfa_statuses.specs.declared.levels.Status.{Status}
+use Rattle.cfa_statuses.specs.declared.levels.Status.TheVariants.{Yes}
+use Rattle.cfa_statuses.specs.Raised.{Raised, none_raised, status_in, raised}
 
 -- the sources that are known, by their classes
 abbrev pub Sources : Type 0

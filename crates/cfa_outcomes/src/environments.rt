@@ -1,14 +1,14 @@
 // Environments: what was raised and marked.
 ghost use Rattle.std.specs.Prelude.{◌≡◌, ◌≢◌, ℕ, List, None, IfOk, OnOk, OnErr, if◌then◌else◌, option_copied};
 ghost use Rattle.std.specs.Option.{option_or};
-ghost use Rattle.cfa_classes.specs.declared.levels.Status.TheVariants.{No as no, Yes as yes};
-ghost use Rattle.cfa_classes.specs.Status.{greater};
+ghost use Rattle.cfa_statuses.specs.declared.levels.Status.TheVariants.{No as no, Yes as yes};
+ghost use Rattle.cfa_statuses.specs.Status.{greater};
 ghost use Rattle.cfa_base.specs.Index.{is_listed};
 ghost use Rattle.cfa_outcomes.specs.Environments.{status_of, source_of, mark_of, with_class, with_mark, first_environment};
 
 use crate::marking::Marks;
 use cfa_base::{Name, Names, NoMemory, PromiseId, TextMap};
-use cfa_classes::{Status, Statuses};
+use cfa_statuses::{Status, Statuses};
 use std::alloc::Global;
 use std::marker::Model;
 

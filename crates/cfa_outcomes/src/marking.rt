@@ -6,7 +6,7 @@ ghost use Rattle.cfa_outcomes.specs.Environments.{mark_in, marked};
 
 use crate::text_marks::TextMarks;
 use cfa_base::{Name, NoMemory};
-use cfa_classes::Status;
+use cfa_statuses::Status;
 use std::alloc::Global;
 use std::collections::HashMap;
 use std::marker::Model;

@@ -1,9 +1,9 @@
 // The marks of the instances of one path, by their texts.
 ghost use Rattle.std.specs.Prelude.{◌≡◌, OnOk, OnErr};
-ghost use Rattle.cfa_classes.specs.Raised.{none_raised, status_in, raised};
+ghost use Rattle.cfa_statuses.specs.Raised.{none_raised, status_in, raised};
 
 use cfa_base::{Name, NoMemory};
-use cfa_classes::Status;
+use cfa_statuses::Status;
 use std::alloc::Global;
 use std::collections::HashMap;
 use std::marker::Model;
@@ -19,7 +19,7 @@ pub struct TextMarks {
 impl Model for TextMarks {
     ghost use Rattle.std.specs.Rc.{rc_str_bytes};
     ghost use Rattle.cfa_base.specs.TextMaps.{text_map};
-    ghost use Rattle.cfa_classes.specs.Raised.{Raised};
+    ghost use Rattle.cfa_statuses.specs.Raised.{Raised};
     ghost use Rattle.cfa_outcomes.specs.EnvironmentCodes.{raised_code};
 
     ghost Value = { Raised };

@@ -8,8 +8,8 @@ use Rattle.cfa_tree.specs.Tree.{word, list_reference, call, value_trees, Attribu
 use Rattle.cfa_kinds.specs.declared.kinds.PromiseType.TheVariants as promises
 use Rattle.cfa_kinds.specs.Kinds.{files_attribute, outcome_attribute, classes_body_attribute, location_attribute, edit_field_attribute, edit_defaults_attribute, field_edits_attribute, insert_lines_attribute, vars_attribute, classes_attribute, promise_type}
 use Rattle.cfa_kinds.specs.Forms.{is_boolean}
-use Rattle.cfa_classes.specs.declared.levels.Status.TheVariants.{No}
-use Rattle.cfa_classes.specs.Raised.{status_in, raised}
+use Rattle.cfa_statuses.specs.declared.levels.Status.TheVariants.{No}
+use Rattle.cfa_statuses.specs.Raised.{status_in, raised}
 use Rattle.cfa_vars.specs.declared.scoping.Datum.TheVariants.{Text as text_of, List as list_of}
 use Rattle.cfa_vars.specs.References.{reference_at, pieces, list_reference_of}
 use Rattle.cfa_vars.specs.Scopes.{Table, look, key_of}

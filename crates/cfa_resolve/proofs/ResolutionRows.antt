@@ -3,7 +3,7 @@ use Rattle.std.proofs.Common.{◌≡◌, ℕ, List, [], ◌∷◌, true, Some, N
 use Rattle.std.specs.Prelude.{map}
 use Rattle.cfa_base.specs.declared.places.PromiseId.{PromiseId}
 use Rattle.cfa_tree.specs.Tree.{ValueTree, text, word, list_reference, list, call, value_trees, AttributeTree, NamedTree, BlockTree, body, PolicyTree}
-use Rattle.cfa_classes.specs.declared.levels.Status.TheVariants.{No}
+use Rattle.cfa_statuses.specs.declared.levels.Status.TheVariants.{No}
 use Rattle.cfa_kinds.specs.declared.kinds.PromiseType.{PromiseType}
 use Rattle.cfa_kinds.specs.declared.kinds.PromiseType.TheVariants as promises
 use Rattle.cfa_vars.specs.declared.scoping.Datum.TheVariants.{Text as text_of, List as list_of}

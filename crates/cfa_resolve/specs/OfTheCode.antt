@@ -2,7 +2,7 @@
 use Rattle.std.specs.Prelude.{ℕ, ◌≤◌, List, length, Option, Some, None}
 use Rattle.cfa_tree.specs.Plain.{plain_promise}
 use Rattle.cfa_schema.specs.Seen.{tree_of}
-use Rattle.cfa_classes.specs.Raised.{status_in}
+use Rattle.cfa_statuses.specs.Raised.{status_in}
 use Rattle.cfa_vars.specs.Scopes.{in_scope}
 use Rattle.cfa_resolve.specs.declared.reached.Reached.{Reached as Held}
 use Rattle.cfa_resolve.specs.Instances.{Reached}

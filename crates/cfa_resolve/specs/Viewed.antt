@@ -3,7 +3,7 @@ use Rattle.std.specs.Prelude.{ℕ, List, Option, Some, None, Result, Ok, Err, If
 use Rattle.cfa_base.specs.declared.places.PromiseId.{PromiseId}
 use Rattle.cfa_tree.specs.Plain.{plain_promise}
 use Rattle.cfa_tree.specs.Tree.{PolicyTree}
-use Rattle.cfa_classes.specs.Raised.{status_in}
+use Rattle.cfa_statuses.specs.Raised.{status_in}
 use Rattle.cfa_served.specs.Checked.{typed_promise_of}
 use Rattle.cfa_vars.specs.Scopes.{in_scope}
 use Rattle.cfa_resolve.specs.declared.instances.FoundPromise.{FoundPromise}

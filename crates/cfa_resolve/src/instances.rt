@@ -6,9 +6,9 @@ ghost use Rattle.cfa_resolve.specs.declared.instances.ResolveErr.TheVariants.{No
 use cfa_acts::Act;
 use cfa_base as base;
 use cfa_base::{Name, Names, Parts, PromiseId};
-use cfa_classes::Statuses;
 use cfa_kinds::PromiseType;
 use cfa_scripts::{ScriptErr, Unsettled};
+use cfa_statuses::Statuses;
 use cfa_tree::Promise;
 use cfa_vars::{Datum, Scopes};
 use std::alloc::Global;

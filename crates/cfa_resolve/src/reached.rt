@@ -1,8 +1,8 @@
 // An activation's promise.
 use cfa_base::{Name, PromiseId};
-use cfa_classes::Statuses;
 use cfa_kinds::PromiseType;
 use cfa_schema::Checked;
+use cfa_statuses::Statuses;
 use cfa_tree::Promise;
 use cfa_vars::Scopes;
 

@@ -1,7 +1,7 @@
 // What promises resolve to.
 ghost use Rattle.std.specs.Prelude.{◌≡◌, ◌∷◌, [], ◌≤◌, ◌<◌, Some, IfOk, IfSome, IsErrOf, IsTrue, ◌↔◌, length};
 ghost use Rattle.cfa_base.specs.Patterns.{SizeRefusal};
-ghost use Rattle.cfa_classes.specs.Raised.{status_in};
+ghost use Rattle.cfa_statuses.specs.Raised.{status_in};
 ghost use Rattle.cfa_served.specs.Checked.{typed_promise_of};
 ghost use Rattle.cfa_schema.specs.Seen.{tree_of};
 ghost use Rattle.cfa_vars.specs.Scopes.{in_scope};

@@ -3,8 +3,8 @@ use Rattle.std.proofs.Common.{◌≡◌, ◌≤◌, ◌<◌, ◌+◌, ◌∙◌,
 use Rattle.std.proofs.lemmas.List.{drop_more}
 use Rattle.cfa_base.specs.Patterns.{SizeRefusal, refuses}
 use Rattle.cfa_base.specs.Shown.{Shown, HasFailed}
-use Rattle.cfa_classes.specs.declared.levels.Status.{Status}
-use Rattle.cfa_classes.specs.declared.levels.Status.TheVariants.{No, Maybe, Yes}
+use Rattle.cfa_statuses.specs.declared.levels.Status.{Status}
+use Rattle.cfa_statuses.specs.declared.levels.Status.TheVariants.{No, Maybe, Yes}
 use Rattle.cfa_kinds.specs.declared.kinds.PromiseType.{PromiseType}
 use Rattle.cfa_kinds.specs.declared.kinds.PromiseType.TheVariants as promises
 use Rattle.cfa_scripts.specs.declared.numbering.Numbered.{Numbered as Held}
@@ -16,7 +16,7 @@ use Rattle.cfa_scripts.specs.Walking.{seen_numbered}
 use Rattle.cfa_vars.specs.declared.scoping.Datum.{Datum}
 use Rattle.cfa_vars.specs.Named.{put}
 use Rattle.cfa_vars.specs.Scopes.{Table}
-use Rattle.cfa_classes.specs.Raised.{raised}
+use Rattle.cfa_statuses.specs.Raised.{raised}
 use Rattle.cfa_scripts.specs.declared.raising.HandedRaise.{HandedRaise}
 use Rattle.cfa_scripts.specs.declared.walking.Inside.{Inside}
 

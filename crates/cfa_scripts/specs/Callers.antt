@@ -1,6 +1,6 @@
 -- Who calls an edit bundle, as contracts see it.
 use Rattle.cfa_schema.specs.Seen.{tree_of}
-use Rattle.cfa_classes.specs.Raised.{status_in}
+use Rattle.cfa_statuses.specs.Raised.{status_in}
 use Rattle.cfa_vars.specs.Scopes.{in_scope}
 use Rattle.cfa_scripts.specs.declared.calling.Caller.{Caller as Lent}
 use Rattle.cfa_scripts.specs.EditScripts.{Caller}

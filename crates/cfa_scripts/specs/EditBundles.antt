@@ -13,10 +13,10 @@ use Rattle.cfa_base.specs.declared.places.PromiseId.{PromiseId}
 use Rattle.cfa_tree.specs.Tree.{ExprTree, PolicyTree}
 use Rattle.cfa_kinds.specs.declared.kinds.PromiseType.{PromiseType}
 use Rattle.cfa_kinds.specs.declared.kinds.PromiseType.TheVariants as promises
-use Rattle.cfa_classes.specs.declared.levels.Status.{Status}
-use Rattle.cfa_classes.specs.declared.levels.Status.TheVariants.{No, Maybe, Yes}
-use Rattle.cfa_classes.specs.Status.{lesser, greater, value_of}
-use Rattle.cfa_classes.specs.Raised.{none_raised, status_in, raised}
+use Rattle.cfa_statuses.specs.declared.levels.Status.{Status}
+use Rattle.cfa_statuses.specs.declared.levels.Status.TheVariants.{No, Maybe, Yes}
+use Rattle.cfa_statuses.specs.Status.{lesser, greater, value_of}
+use Rattle.cfa_statuses.specs.Raised.{none_raised, status_in, raised}
 use Rattle.cfa_vars.specs.declared.scoping.Datum.{Datum}
 use Rattle.cfa_vars.specs.Named.{put}
 use Rattle.cfa_vars.specs.Scopes.{Table, InScope}

@@ -2,7 +2,7 @@
 use Rattle.std.specs.Prelude.{ℕ, List}
 use Rattle.cfa_tree.specs.Plain.{plain_promise}
 use Rattle.cfa_schema.specs.Seen.{tree_of}
-use Rattle.cfa_classes.specs.Raised.{status_in}
+use Rattle.cfa_statuses.specs.Raised.{status_in}
 use Rattle.cfa_scripts.specs.declared.numbering.Numbered.{Numbered as Held}
 use Rattle.cfa_scripts.specs.declared.walking.Around.{Around as Lent}
 use Rattle.cfa_scripts.specs.Numbered.{Numbered}

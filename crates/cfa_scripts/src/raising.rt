@@ -18,10 +18,10 @@ use crate::blaming::Unsettled;
 use crate::numbering::Numbered;
 use crate::walking::{Around, Inside};
 use cfa_base::{Name, NoMemory, Patterns, TextMap};
-use cfa_classes::{Status, value};
 use cfa_defines::{Raise, data_set, first_maybe_of_guard, raises_of, setting_choices};
 use cfa_functions::CallErr;
 use cfa_kinds::PromiseType;
+use cfa_statuses::{Status, value};
 use cfa_tree::Promise;
 use cfa_vars::{ChoiceList, Datum, Scope, Scopes};
 use std::alloc::Global;
@@ -46,7 +46,7 @@ pub(crate) fn scopes_at<'a>(around: &Around<'a>, inside: &'a Inside) -> Scopes<'
 }
 
 /// The status of a promise's guard.
-#[tactic(auto, unfolding(cfa_classes::specs::Raised::greater_in))]
+#[tactic(auto, unfolding(cfa_statuses::specs::Raised::greater_in))]
 pub(crate) fn guard_status(around: &Around<'_>, inside: &Inside, promise: &Promise) -> Status
     ensures { result ≡ guard_under (statuses_at (seen_around around.now) inside.now)
         (plain_promise promise.now).guard }
@@ -57,7 +57,7 @@ pub(crate) fn guard_status(around: &Around<'_>, inside: &Inside, promise: &Promi
     }
 }
 
-#[tactic(auto, unfolding(cfa_classes::specs::Raised::greater_in))]
+#[tactic(auto, unfolding(cfa_statuses::specs::Raised::greater_in))]
 fn first_in_guard<'p>(
     around: &Around<'_>,
     inside: &Inside,
@@ -182,7 +182,7 @@ pub(crate) fn set_each(
 }
 
 /// What a classes promise raises.
-#[tactic(auto, unfolding(cfa_classes::specs::Raised::greater_in))]
+#[tactic(auto, unfolding(cfa_statuses::specs::Raised::greater_in))]
 pub(crate) fn raises_at<P: Patterns>(
     alloc: Global,
     around: &Around<'_>,

@@ -22,10 +22,10 @@ use crate::raising::{
 };
 use crate::walking::{Around, Inside, Walk};
 use cfa_base::{NoMemory, Parts, Patterns};
-use cfa_classes::Status;
 use cfa_defines::{Combined, count_choices};
 use cfa_functions::CallErr;
 use cfa_kinds::PromiseType;
+use cfa_statuses::Status;
 use std::alloc::Global;
 
 // Counts visits, unless they are more than are left.

@@ -5,8 +5,8 @@ ghost use Rattle.cfa_scripts.specs.EditBundles.{walk_at_first};
 use crate::blaming::Unsettled;
 use crate::contributing::Contribution;
 use cfa_base::{Name, Parts, TextMap};
-use cfa_classes::Statuses;
 use cfa_schema::Checked;
+use cfa_statuses::Statuses;
 use cfa_vars::{Scope, Scopes, SharedScopes};
 use std::alloc::Global;
 

@@ -8,10 +8,10 @@ use Rattle.std.proofs.lemmas.Option.{none-some, same_Some, slice_get-map, slice_
 use Rattle.std.proofs.lemmas.Slice.Eq.{bytes_eq-Decides}
 use Rattle.cfa_base.specs.declared.places.PromiseId.{PromiseId}
 use Rattle.cfa_base.specs.declared.texts.Name.{Name}
-use Rattle.cfa_classes.specs.declared.levels.Status.{Status}
-use Rattle.cfa_classes.specs.declared.levels.Status.TheVariants.{No}
-use Rattle.cfa_classes.specs.Raised.{Raised as StatusMap, greater_in}
-use Rattle.cfa_classes.specs.Status.{greater, value_of}
+use Rattle.cfa_statuses.specs.declared.levels.Status.{Status}
+use Rattle.cfa_statuses.specs.declared.levels.Status.TheVariants.{No}
+use Rattle.cfa_statuses.specs.Raised.{Raised as StatusMap, greater_in}
+use Rattle.cfa_statuses.specs.Status.{greater, value_of}
 use Rattle.cfa_outcomes.specs.Environments.{EnvironmentMaps, status_of, source_of, mark_of}
 use Rattle.cfa_outcomes.specs.declared.outcomes.Outcome.TheVariants.{Kept}
 use Rattle.cfa_tree.specs.Tree.{ExprTree}

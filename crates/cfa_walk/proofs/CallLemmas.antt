@@ -4,7 +4,7 @@ use Rattle.std.specs.Prelude.{Ok, Err}
 use Rattle.cfa_acts.specs.declared.acts.Act.{Act}
 use Rattle.cfa_base.specs.Shown.{Shown}
 use Rattle.cfa_base.specs.lemmas.EqualTexts.{same_text}
-use Rattle.cfa_classes.specs.declared.levels.Status.{Status}
+use Rattle.cfa_statuses.specs.declared.levels.Status.{Status}
 use Rattle.cfa_output.specs.declared.ends.Stop.{Stop}
 use Rattle.cfa_output.specs.declared.ends.Stop.TheVariants.{Outside, Memory, Visits, Pattern}
 use Rattle.cfa_outcomes.specs.declared.outcomes.Outcome.{Outcome}

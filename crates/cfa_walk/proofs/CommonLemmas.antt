@@ -6,9 +6,9 @@ use Rattle.std.proofs.lemmas.List.{map-append, take-append-drop}
 use Rattle.std.proofs.lemmas.List.Elements.{All-get_or, filter-append}
 use denote.Enum.Bare.{sameb, same_true}
 use Rattle.cfa_kinds.specs.contracts.kinds.PromiseType.{the_type as the_types}
-use Rattle.cfa_classes.specs.contracts.levels.Status.{the_type as the_statuses}
-use Rattle.cfa_classes.specs.declared.levels.Status.{Status}
-use Rattle.cfa_classes.specs.declared.levels.Status.TheVariants.{No, Maybe, Yes}
+use Rattle.cfa_statuses.specs.contracts.levels.Status.{the_type as the_statuses}
+use Rattle.cfa_statuses.specs.declared.levels.Status.{Status}
+use Rattle.cfa_statuses.specs.declared.levels.Status.TheVariants.{No, Maybe, Yes}
 use Rattle.cfa_kinds.specs.declared.kinds.PromiseType.{PromiseType}
 use Rattle.cfa_kinds.specs.declared.kinds.PromiseType.TheVariants.{Vars, Classes, Files, Methods, Services, Reports, DeleteLines, FieldEdits, InsertLines, ReplacePatterns}
 use Rattle.cfa_output.specs.declared.ends.Stop.{Stop}

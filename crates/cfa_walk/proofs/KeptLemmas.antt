@@ -5,10 +5,10 @@ use Rattle.std.specs.Option.{option_or}
 use Rattle.std.specs.Str.{bytes_eq}
 use Rattle.std.proofs.lemmas.Bool.{false≢true, and_parts}
 use Rattle.cfa_base.specs.declared.places.PromiseId.{PromiseId}
-use Rattle.cfa_classes.specs.declared.levels.Status.{Status}
-use Rattle.cfa_classes.specs.declared.levels.Status.TheVariants.{No, Maybe, Yes}
-use Rattle.cfa_classes.specs.Status.{greater}
-use Rattle.cfa_classes.specs.lemmas.Orders.{greater_No}
+use Rattle.cfa_statuses.specs.declared.levels.Status.{Status}
+use Rattle.cfa_statuses.specs.declared.levels.Status.TheVariants.{No, Maybe, Yes}
+use Rattle.cfa_statuses.specs.Status.{greater}
+use Rattle.cfa_statuses.specs.lemmas.Orders.{greater_No}
 use Rattle.cfa_outcomes.specs.Environments.{EnvironmentMaps, status_of, source_of, mark_of}
 use Rattle.cfa_outcomes.specs.declared.outcomes.Outcome.{Outcome}
 use Rattle.cfa_resolve.specs.declared.instances.Instance.{Instance}

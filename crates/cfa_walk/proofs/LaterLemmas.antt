@@ -1,7 +1,7 @@
 -- States and activations that follow one another, and what was found out before and still holds.
 use Rattle.std.proofs.Common.{◌≡◌, ℕ, ◌+◌, ◌≤◌, List, get_or, Option, Some, None, OnOk, refl, sym, ap, ◌∙◌, arith}
 use Rattle.std.specs.Prelude.{Result, Ok, Err}
-use Rattle.cfa_classes.specs.Raised.{Raised, status_in}
+use Rattle.cfa_statuses.specs.Raised.{Raised, status_in}
 use Rattle.cfa_resolve.specs.declared.instances.Resolved.{Resolved}
 use Rattle.cfa_resolve.specs.Resolution.{resolution, reached_at}
 use Rattle.cfa_tree.specs.Tree.{PolicyTree}

@@ -4,7 +4,7 @@ use Rattle.std.specs.Prelude.{Result, Ok, Err}
 use Rattle.cfa_base.specs.Shown.{Shown}
 use Rattle.cfa_base.specs.Causes.{Rose}
 use Rattle.cfa_base.specs.lemmas.Causes.{rose_later}
-use Rattle.cfa_classes.specs.declared.levels.Status.{Status}
+use Rattle.cfa_statuses.specs.declared.levels.Status.{Status}
 use Rattle.cfa_output.specs.declared.ends.Object.TheVariants.{Inputs, Site, Sink}
 use Rattle.cfa_output.specs.declared.ends.Stop.{Stop}
 use Rattle.cfa_output.specs.declared.ends.Stop.TheVariants.{Outside, Memory, Visits, Pattern}

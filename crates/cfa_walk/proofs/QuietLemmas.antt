@@ -1,7 +1,7 @@
 -- Common bundles one after the other.
 use Rattle.std.proofs.Common.{◌≡◌, ◌∙◌, ℕ, true, List, [], ◌∷◌, ◌++◌, length, refl, ap, sym, subst}
 use Rattle.std.specs.Prelude.{Result, Ok, Err}
-use Rattle.cfa_classes.specs.declared.levels.Status.TheVariants.{Yes}
+use Rattle.cfa_statuses.specs.declared.levels.Status.TheVariants.{Yes}
 use Rattle.cfa_output.specs.declared.ends.Stop.{Stop}
 use Rattle.cfa_output.specs.declared.ends.Stop.TheVariants.{Outside, Memory, Visits, Pattern}
 use Rattle.cfa_kinds.specs.declared.kinds.PromiseType.TheVariants.{Vars, Classes}

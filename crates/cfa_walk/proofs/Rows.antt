@@ -4,8 +4,8 @@ use Rattle.std.specs.Fmt.{digits}
 use Rattle.cfa_base.specs.Escapes.{escaped, escape_of}
 use Rattle.cfa_tree.specs.ClassTexts.{expression_of}
 use Rattle.cfa_tree.specs.Tree.{class, negated, word, call, value_trees, AttributeTree, PolicyTree}
-use Rattle.cfa_classes.specs.declared.levels.Status.{Status}
-use Rattle.cfa_classes.specs.declared.levels.Status.TheVariants.{Maybe, Yes}
+use Rattle.cfa_statuses.specs.declared.levels.Status.{Status}
+use Rattle.cfa_statuses.specs.declared.levels.Status.TheVariants.{Maybe, Yes}
 use Rattle.cfa_kinds.specs.Kinds.{bundle_type, promise_type, files_attribute, outcome_attribute, methods_attribute, services_attribute, vars_attribute, classes_attribute, delete_attribute, copy_from_attribute, perms_attribute, classes_body_attribute, action_attribute}
 use Rattle.cfa_kinds.specs.Forms.{is_boolean}
 use Rattle.cfa_kinds.specs.Functions.{function_named}

@@ -2,7 +2,7 @@
 use Rattle.std.proofs.Common.{◌≡◌, ◌∙◌, ℕ, List, [], ◌∷◌, ◌++◌, length, IsTrue, Option, Some, None, refl, ap, sym, subst}
 use Rattle.std.specs.Prelude.{Result, Ok, Err}
 use Rattle.cfa_base.specs.Shown.{Shown}
-use Rattle.cfa_classes.specs.declared.levels.Status.TheVariants.{Yes}
+use Rattle.cfa_statuses.specs.declared.levels.Status.TheVariants.{Yes}
 use Rattle.cfa_output.specs.declared.ends.Stop.{Stop}
 use Rattle.cfa_output.specs.declared.ends.Stop.TheVariants.{Outside, Memory, Visits, Pattern}
 use Rattle.cfa_kinds.specs.declared.kinds.BundleType.{BundleType}

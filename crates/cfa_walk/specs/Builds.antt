@@ -1,8 +1,8 @@
 -- The patterns that a run builds: those of the promises that it reaches with a guard that may hold, by what is looked up in the history
 -- before them, the promise at which it ends as too large included.
 use Rattle.std.specs.Prelude.{ℕ, List, [], ◌∷◌, ◌⊎◌}
-use Rattle.cfa_classes.specs.declared.levels.Status.{Status}
-use Rattle.cfa_classes.specs.declared.levels.Status.TheVariants.{No, Maybe, Yes}
+use Rattle.cfa_statuses.specs.declared.levels.Status.{Status}
+use Rattle.cfa_statuses.specs.declared.levels.Status.TheVariants.{No, Maybe, Yes}
 use Rattle.cfa_kinds.specs.declared.kinds.PromiseType.TheVariants as promises
 use Rattle.cfa_defines.specs.Builds.{BuiltBy}
 use Rattle.cfa_defines.specs.VarsPromises.{setting_choices}

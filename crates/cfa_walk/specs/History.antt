@@ -6,9 +6,9 @@ use Rattle.std.specs.Prelude.{ℕ, ◌+◌, Bool, true, false, ◌&&◌, List, [
 use Rattle.std.specs.Option.{option_or}
 use Rattle.std.specs.Str.{bytes_eq}
 use Rattle.cfa_base.specs.declared.places.PromiseId.{PromiseId}
-use Rattle.cfa_classes.specs.declared.levels.Status.{Status}
-use Rattle.cfa_classes.specs.declared.levels.Status.TheVariants.{No}
-use Rattle.cfa_classes.specs.Status.{greater}
+use Rattle.cfa_statuses.specs.declared.levels.Status.{Status}
+use Rattle.cfa_statuses.specs.declared.levels.Status.TheVariants.{No}
+use Rattle.cfa_statuses.specs.Status.{greater}
 use Rattle.cfa_vars.specs.declared.scoping.Datum.{Datum}
 use Rattle.cfa_vars.specs.Named.{put}
 use Rattle.cfa_vars.specs.Scopes.{Table}

@@ -3,8 +3,8 @@ use Rattle.std.specs.Prelude.{◌≡◌, ℕ, ◌+◌, ◌<◌, ⊤, false, List
 use Rattle.std.specs.Option.{option_or}
 use Rattle.std.specs.FinMap as finite
 use Rattle.cfa_base.specs.TextMaps.{TextMap}
-use Rattle.cfa_classes.specs.declared.levels.Status.{Status}
-use Rattle.cfa_classes.specs.declared.levels.Status.TheVariants.{No, Yes}
+use Rattle.cfa_statuses.specs.declared.levels.Status.{Status}
+use Rattle.cfa_statuses.specs.declared.levels.Status.TheVariants.{No, Yes}
 use Rattle.cfa_outcomes.specs.declared.outcomes.Outcome.TheVariants.{Kept}
 use Rattle.cfa_outcomes.specs.Environments.{status_of, source_of, mark_of, EnvironmentMaps}
 use Rattle.cfa_tree.specs.Tree.{PolicyTree, ExprTree}
@@ -21,8 +21,8 @@ use Rattle.cfa_walk.specs.Waits.{wait_of_call, waits_in}
 use Rattle.cfa_walk.specs.Walks.{listed_instances, listings, unsettled_promises}
 use Rattle.cfa_walk.specs.Views.{Setting, Home, global_status, shared_names, shared_in}
 use Rattle.cfa_base.specs.declared.places.PromiseId.{PromiseId}
-use Rattle.cfa_classes.specs.Status.{greater, value_of}
-use Rattle.cfa_classes.specs.Raised.{Raised, status_in, greater_in}
+use Rattle.cfa_statuses.specs.Status.{greater, value_of}
+use Rattle.cfa_statuses.specs.Raised.{Raised, status_in, greater_in}
 use Rattle.cfa_resolve.specs.Instances.{Reached}
 use Rattle.cfa_resolve.specs.declared.instances.Resolved.{Resolved}
 use Rattle.cfa_resolve.specs.Resolution.{resolution, reached_at}

@@ -8,7 +8,7 @@ use Rattle.std.specs.List.{Contains}
 use Rattle.cfa_base.specs.Causes.{Rose}
 use Rattle.cfa_base.specs.Shown.{Shown, HasFailed}
 use Rattle.cfa_base.specs.Patterns.{refuses}
-use Rattle.cfa_classes.specs.declared.levels.Status.{Status}
+use Rattle.cfa_statuses.specs.declared.levels.Status.{Status}
 use Rattle.cfa_output.specs.declared.ends.Object.TheVariants.{Inputs, Site, Sink}
 use Rattle.cfa_output.specs.declared.ends.Stop.{Stop}
 use Rattle.cfa_output.specs.declared.ends.Stop.TheVariants.{Outside, Memory, Visits, Pattern}

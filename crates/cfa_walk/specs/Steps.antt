@@ -8,8 +8,8 @@ use Rattle.cfa_walk.specs.declared.activations.Activation.{Activation}
 use Rattle.cfa_walk.specs.declared.remembering.Found.{Found}
 use Rattle.cfa_output.specs.declared.ends.Stop.{Stop}
 use Rattle.cfa_output.specs.declared.ends.Stop.TheVariants.{Outside, Memory, Visits, Pattern}
-use Rattle.cfa_classes.specs.declared.levels.Status.{Status}
-use Rattle.cfa_classes.specs.declared.levels.Status.TheVariants.{No, Yes}
+use Rattle.cfa_statuses.specs.declared.levels.Status.{Status}
+use Rattle.cfa_statuses.specs.declared.levels.Status.TheVariants.{No, Yes}
 use Rattle.cfa_kinds.specs.declared.kinds.PromiseType.{PromiseType}
 use Rattle.cfa_outcomes.specs.declared.outcomes.Outcome.{Outcome}
 use Rattle.cfa_resolve.specs.declared.instances.Instance.{Instance}
@@ -35,7 +35,7 @@ use Rattle.cfa_tree.specs.Plain.{plain_block}
 use Rattle.cfa_served.specs.Served.{bundle_of}
 use Rattle.cfa_base.specs.Index.{is_listed}
 use Rattle.cfa_walk.specs.Waits.{waits_in}
-use Rattle.cfa_classes.specs.Status.{lesser}
+use Rattle.cfa_statuses.specs.Status.{lesser}
 use Rattle.cfa_vars.specs.Scopes.{InScope}
 use Rattle.cfa_vars.specs.Expansion.{Chosen}
 use Rattle.cfa_defines.specs.FirstMaybe.{first_maybe_of_guard}

@@ -4,8 +4,8 @@
 use Rattle.std.specs.Prelude.{ℕ, Bool, true, false, List, [], ◌∷◌, ◌++◌, map, Option, None, if◌then◌else◌, option_map, unwrap_or}
 use Rattle.std.specs.List.{cons_option, filter_map, position}
 use Rattle.cfa_base.specs.declared.places.PromiseId.{PromiseId}
-use Rattle.cfa_classes.specs.declared.levels.Status.{Status}
-use Rattle.cfa_classes.specs.declared.levels.Status.TheVariants.{No, Maybe, Yes}
+use Rattle.cfa_statuses.specs.declared.levels.Status.{Status}
+use Rattle.cfa_statuses.specs.declared.levels.Status.TheVariants.{No, Maybe, Yes}
 use Rattle.cfa_scripts.specs.declared.blaming.Unsettled.{Unsettled}
 use Rattle.cfa_resolve.specs.declared.instances.Instance.{Instance}
 use Rattle.cfa_resolve.specs.Resolution.{resolution, is_acting}

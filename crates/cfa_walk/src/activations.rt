@@ -1,6 +1,6 @@
 // What is kept of an activation of a bundle.
 ghost use Rattle.std.specs.Prelude.{◌≡◌, ◌<◌, [], ◌∷◌, IfOk, OnOk, IfSome, Some, None, List, option_map, option_copied, false};
-ghost use Rattle.cfa_classes.specs.declared.levels.Status.TheVariants.{Yes as yes};
+ghost use Rattle.cfa_statuses.specs.declared.levels.Status.TheVariants.{Yes as yes};
 ghost use Rattle.cfa_tree.specs.Plain.{plain_expr};
 ghost use Rattle.cfa_vars.specs.declared.scoping.Datum.{Datum};
 ghost use Rattle.cfa_vars.specs.Scopes.{in_scope};
@@ -17,9 +17,9 @@ use crate::states::State;
 use crate::tellers::Ending;
 use crate::waits::Wait;
 use cfa_base::{Name, Names, NoMemory, PromiseId};
-use cfa_classes::{Status, value};
 use cfa_outcomes::{Environment, Outcome};
 use cfa_resolve::Instance;
+use cfa_statuses::{Status, value};
 use cfa_tree::Guard;
 use cfa_vars::{Datum, Scope, Scopes};
 use std::alloc::Global;

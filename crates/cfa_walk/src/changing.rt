@@ -5,8 +5,8 @@ ghost use Rattle.cfa_vars.specs.Named.{thing_at};
 ghost use Rattle.cfa_walk.specs.Kept.{IsRaised};
 
 use cfa_base::{Name, NoMemory, PromiseId, are_same_names, is_same_name};
-use cfa_classes::Status;
 use cfa_outcomes::Environment;
+use cfa_statuses::Status;
 use cfa_vars::{Datum, Scope};
 
 /// One change more.

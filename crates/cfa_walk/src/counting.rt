@@ -15,10 +15,10 @@ use crate::remembering::{Found, moment_of, still_found};
 use crate::states::State;
 use crate::waits::waits_of;
 use cfa_base::Patterns;
-use cfa_classes::Status;
 use cfa_output::Stop;
 use cfa_resolve::{FoundPromise, ResolveErr, Resolved, View, instances_are_named, resolve_promise};
 use cfa_schema::Checked;
+use cfa_statuses::Status;
 use std::alloc::Global;
 
 // What a promise resolves to, where it counts no more visits than are left.

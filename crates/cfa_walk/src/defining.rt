@@ -24,7 +24,6 @@ use crate::states::State;
 use crate::waits::own_unsettled;
 use crate::walks::Blame;
 use cfa_base::{Name, NoMemory, Patterns, PromiseId};
-use cfa_classes::Status;
 use cfa_defines::{
     Raise, count_choices, data_set, first_maybe_of_guard, raises_of, setting_choices,
 };
@@ -32,6 +31,7 @@ use cfa_functions::CallErr;
 use cfa_kinds::PromiseType;
 use cfa_output::Stop;
 use cfa_resolve::copy_id;
+use cfa_statuses::Status;
 use cfa_tree::Promise;
 use cfa_vars::{ChoiceList, Datum, Scopes};
 use std::alloc::Global;

@@ -10,9 +10,9 @@ ghost use Rattle.cfa_walk.specs.Views.{Setting};
 use crate::states::State;
 use crate::tellers::Ending;
 use cfa_base::{Name, NameIndex, Names, NoMemory};
-use cfa_classes::Status;
 use cfa_outcomes::Outcome;
 use cfa_resolve::{Instance, copy_id};
+use cfa_statuses::Status;
 use std::alloc::Global;
 
 /// The classes that are raised for an outcome.

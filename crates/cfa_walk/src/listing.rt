@@ -8,11 +8,11 @@ use crate::logs::walk_of;
 use crate::walking::make_run;
 use crate::{Context, Ending, Teller, Walk, WalkErr};
 use cfa_base::Patterns;
-use cfa_classes::Status;
 use cfa_outcomes::Outcome;
 use cfa_output::Stop;
 use cfa_resolve::{Instance, Work};
 use cfa_schema::Checked;
+use cfa_statuses::Status;
 use std::alloc::Global;
 
 /// How the instances of a walk end. A report is kept.

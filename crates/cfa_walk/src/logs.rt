@@ -10,8 +10,8 @@ use crate::register::{Register, short};
 use crate::waits::Wait;
 use crate::walks::{Blame, Visit, Walk};
 use cfa_base::{Name, NoMemory, PairIndex, Parts, PromiseId};
-use cfa_classes::Status;
 use cfa_resolve::{Instance, copy_id};
+use cfa_statuses::Status;
 use std::alloc::Global;
 use std::marker::Model;
 

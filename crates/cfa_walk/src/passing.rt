@@ -17,9 +17,9 @@ use crate::states::State;
 use crate::tellers::Teller;
 use crate::visiting::visit_each;
 use cfa_base::Patterns;
-use cfa_classes::Status;
 use cfa_kinds::PromiseType;
 use cfa_output::Stop;
+use cfa_statuses::Status;
 
 // Reaches a promise that has instances, whose guard may hold.
 #[cycle(passes)]

@@ -5,8 +5,8 @@ ghost use Rattle.cfa_walk.specs.Names.{name_of};
 ghost use Rattle.cfa_walk.specs.Logs.{placed, with_place, seen_at, NotesPlace};
 
 use cfa_base::{Name, NoMemory, TextMap};
-use cfa_classes::Status;
 use cfa_resolve::Instance;
+use cfa_statuses::Status;
 use std::alloc::Global;
 use std::collections::BTreeMap;
 use std::marker::Model;

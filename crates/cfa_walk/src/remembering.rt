@@ -10,8 +10,8 @@ use crate::activations::{Activation, guard_status};
 use crate::numbered::Numbered;
 use crate::states::State;
 use cfa_base::NoMemory;
-use cfa_classes::Status;
 use cfa_resolve::Resolved;
+use cfa_statuses::Status;
 use std::alloc::Global;
 
 /// How many changes there were: of the statuses of global classes and of the shared scopes, and of the local classes and

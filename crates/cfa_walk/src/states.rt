@@ -20,10 +20,10 @@ use crate::shared_scopes::shared_scopes;
 use crate::waits::{Wait, copy_wait, wait_on};
 use crate::walks::Blame;
 use cfa_base::{Name, Names, NoMemory, PromiseId, TextMap};
-use cfa_classes::Status;
 use cfa_outcomes::Environment;
 use cfa_resolve::{Instance, Unsettled, Work};
 use cfa_schema::Checked;
+use cfa_statuses::Status;
 use cfa_vars::SharedScopes;
 use std::alloc::Global;
 

@@ -5,10 +5,10 @@ ghost use Rattle.cfa_walk.specs.History.{History, Event};
 ghost use Rattle.cfa_walk.specs.Levels.{HasVisited, HasTold, Faults, Later, Stops, IsTellersStop, is_quiet};
 ghost use Rattle.cfa_walk.specs.Tellers as tellers;
 
-use cfa_classes::Status;
 use cfa_outcomes::Outcome;
 use cfa_output::Stop;
 use cfa_resolve::Instance;
+use cfa_statuses::Status;
 use std::alloc::Global;
 
 /// How an instance ends, or may end.

@@ -16,10 +16,10 @@ use crate::scenes::Scene;
 use crate::states::State;
 use crate::tellers::Teller;
 use cfa_base::{Name, Parts, Patterns};
-use cfa_classes::Status;
 use cfa_outcomes::Outcome;
 use cfa_output::Stop;
 use cfa_resolve::{Instance, Work};
+use cfa_statuses::Status;
 use cfa_vars::Datum;
 
 // Goes through the bundle of a call, and answers its worst outcome.

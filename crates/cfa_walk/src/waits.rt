@@ -14,9 +14,9 @@ use crate::numbered::Numbered;
 use crate::states::State;
 use crate::walks::Blame;
 use cfa_base::{Name, NoMemory, PromiseId};
-use cfa_classes::Status;
 use cfa_defines::first_maybe_of_guard;
 use cfa_resolve::copy_id;
+use cfa_statuses::Status;
 use cfa_tree::{Guard, Promise};
 use std::alloc::Global;
 

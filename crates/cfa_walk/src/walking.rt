@@ -18,10 +18,10 @@ use crate::scenes::Scene;
 use crate::states::State;
 use crate::{Context, Teller};
 use cfa_base::{Name, Patterns};
-use cfa_classes::Status;
 use cfa_kinds::{BundleType, PromiseType, bundle_type};
 use cfa_output::Stop;
 use cfa_schema::Checked;
+use cfa_statuses::Status;
 use cfa_tree::Bundle;
 use std::alloc::Global;
 

@@ -2,8 +2,8 @@
 ghost use Rattle.std.specs.Prelude.{◌≡◌};
 
 use cfa_base::{Name, NoMemory, Parts, PromiseId};
-use cfa_classes::Status;
 use cfa_resolve::Instance;
+use cfa_statuses::Status;
 use thiserror::Error;
 
 /// Why something may come or not: a class may be set or not, as this promise may be repaired or not.

@@ -1,8 +1,8 @@
 -- How statuses in a run and in the open walk lie together: so do what operations make of them, and expressions under them.
 use Rattle.std.proofs.Common.{ℕ, List}
 use Rattle.cfa_tree.specs.Tree.{ExprTree, class, negated, all_of, one_of, ExprTrees, no_expr, more_exprs}
-use Rattle.cfa_classes.specs.declared.levels.Status.{Status}
-use Rattle.cfa_classes.specs.Status.{swapped, lesser, greater, value_of as status_of, least_of, greatest_of}
+use Rattle.cfa_statuses.specs.declared.levels.Status.{Status}
+use Rattle.cfa_statuses.specs.Status.{swapped, lesser, greater, value_of as status_of, least_of, greatest_of}
 use Rattle.cfa_laws.specs.Statuses.{Within, no_no, no_maybe, yes_maybe, yes_yes}
 
 pub within_swapped : {r w : Status} → Within r w → Within (swapped r) (swapped w)

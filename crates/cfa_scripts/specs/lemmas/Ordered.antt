@@ -15,8 +15,8 @@ use Rattle.cfa_bodies.specs.declared.sayings.Said.{Said}
 use Rattle.cfa_bodies.specs.declared.hearing.Heard.{Heard}
 use Rattle.cfa_bodies.specs.declared.hearing.Heard.TheVariants.{Lacks as lacks_body, TooMany as many_in_body, TooLong as long_in_body, All as all_heard}
 use Rattle.cfa_bodies.specs.Bodies.{Bodies, bodies_of, said_in, text_in, heard, text_or_empty}
-use Rattle.cfa_classes.specs.declared.levels.Status.{Status}
-use Rattle.cfa_classes.specs.declared.levels.Status.TheVariants.{No, Maybe, Yes}
+use Rattle.cfa_statuses.specs.declared.levels.Status.{Status}
+use Rattle.cfa_statuses.specs.declared.levels.Status.TheVariants.{No, Maybe, Yes}
 use Rattle.cfa_defines.specs.declared.combining.Combined.{Combined}
 use Rattle.cfa_defines.specs.declared.combining.Combined.TheVariants.{Lacks as lacks, TooMany as too_many, TooLong as too_long, Found as found}
 use Rattle.cfa_defines.specs.OwnTexts.{combined, own_reads}

@@ -2,7 +2,7 @@ use Rattle.std.proofs.Common.{◌≡◌, ◌∙◌, ℕ, All, suc, ◌+◌, ◌-
 use Rattle.std.specs.Prelude.{Ok, Err}
 use Rattle.std.proofs.lemmas.List.{get_or_default, length-map, take_all, take_more, take-append-drop}
 use Rattle.cfa_base.specs.lemmas.Results.{on_err}
-use Rattle.cfa_classes.specs.declared.levels.Status.TheVariants.{No}
+use Rattle.cfa_statuses.specs.declared.levels.Status.TheVariants.{No}
 use Rattle.cfa_kinds.specs.declared.kinds.PromiseType.{PromiseType}
 use Rattle.cfa_kinds.specs.declared.kinds.PromiseType.TheVariants.{Vars}
 use Rattle.cfa_schema.specs.Laws.{IsCounted}

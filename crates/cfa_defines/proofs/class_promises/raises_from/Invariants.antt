@@ -1,6 +1,6 @@
 use Rattle.std.proofs.Common.{◌≡◌, ◌++◌, drop, map}
 use Rattle.std.specs.List.{list_any, filter_map}
-use Rattle.cfa_classes.specs.Raised.{greater_in}
+use Rattle.cfa_statuses.specs.Raised.{greater_in}
 use Rattle.cfa_tree.specs.Plain.{plain_promise}
 use Rattle.cfa_vars.specs.Scopes.{in_scope}
 use Rattle.cfa_defines.specs.ClassPromises.{raised_in, stops_all, raise_of}

@@ -1,5 +1,5 @@
 use Rattle.std.proofs.Common.{◌∙◌, ap, sym, map, rules}
-use Rattle.cfa_classes.specs.Raised.{greater_in}
+use Rattle.cfa_statuses.specs.Raised.{greater_in}
 use Rattle.cfa_tree.specs.Plain.{plain_expr}
 use Rattle.cfa_tree.specs.Tree.{expr_trees}
 use Rattle.cfa_defines.specs.FirstMaybe.{first_maybe_among}

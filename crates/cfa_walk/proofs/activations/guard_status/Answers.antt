@@ -1,7 +1,7 @@
 use Rattle.std.proofs.Common.{◌∙◌, sym, ap}
 use Rattle.std.specs.Prelude.{option_map}
-use Rattle.cfa_classes.specs.Raised.{greater_in}
-use Rattle.cfa_classes.specs.Status.{value_of}
+use Rattle.cfa_statuses.specs.Raised.{greater_in}
+use Rattle.cfa_statuses.specs.Status.{value_of}
 use Rattle.cfa_tree.specs.Plain.{plain_expr}
 use Rattle.cfa_walk.specs.Kept.{guard_value}
 use Rattle.cfa_walk.specs.Views.{guard_status}

@@ -1,4 +1,4 @@
-use Rattle.cfa_classes.specs.declared.levels.Status.TheVariants.{No}
+use Rattle.cfa_statuses.specs.declared.levels.Status.TheVariants.{No}
 use Rattle.cfa_kinds.specs.declared.kinds.PromiseType.TheVariants.{Vars}
 use Rattle.std.proofs.Common.{◌∙◌, true, [], ◌∷◌, ap}
 use Rattle.cfa_resolve.specs.Resolution.{is_acting}

@@ -2,7 +2,7 @@ use Rattle.std.proofs.Common.{◌≡◌, ◌∙◌, [], ◌∷◌, map, subst, a
 use Rattle.cfa_base.specs.lemmas.Options.{some_at}
 use Rattle.cfa_schema.specs.Seen.{tree_of}
 use Rattle.cfa_walk.specs.Steps.{seen_bundle, AreCounted}
-use Rattle.cfa_classes.specs.declared.levels.Status.TheVariants.{Yes}
+use Rattle.cfa_statuses.specs.declared.levels.Status.TheVariants.{Yes}
 use Rattle.cfa_walk.specs.History.{History, Begun}
 use Rattle.cfa_walk.specs.Kept.{Keeps, Stands, IsOf, GuardsRepeat, seen_numbered}
 use Rattle.cfa_walk.specs.Views.{Setting}

@@ -3,7 +3,7 @@ use Rattle.std.specs.Prelude.{Err}
 use Rattle.cfa_base.specs.lemmas.Options.{some_at}
 use Rattle.cfa_base.specs.lemmas.Results.{on_err}
 use Rattle.cfa_walk.specs.Steps.{QuietWalkDone, common_walk, seen_bundle}
-use Rattle.cfa_classes.specs.declared.levels.Status.TheVariants.{Yes}
+use Rattle.cfa_statuses.specs.declared.levels.Status.TheVariants.{Yes}
 use Rattle.cfa_walk.specs.History.{History}
 use Rattle.cfa_walk.specs.Kept.{Keeps, Stands, IsOf, IsUntouched, seen_numbered}
 use Rattle.cfa_walk.specs.Views.{Setting}

@@ -1,6 +1,6 @@
 use Rattle.std.proofs.Common.{ap, ◌∙◌}
 use Rattle.std.proofs.lemmas.Result.{on_ok_weaker}
-use Rattle.cfa_classes.specs.Status.{greater}
+use Rattle.cfa_statuses.specs.Status.{greater}
 use Rattle.cfa_outcomes.specs.Environments.{mark_in, mark_of}
 use Rattle.cfa_outcomes.proofs.EnvironmentLemmas.{mark_in-marked_same, mark_in-marked_other}
 use Rattle.cfa_outcomes.proofs.environments.Environment.mark.Goals as goal

@@ -2,7 +2,7 @@ use Rattle.std.proofs.Common.{◌≡◌, sym, ap, ◌∙◌}
 use Rattle.std.proofs.lemmas.List.{take_all}
 use Rattle.std.specs.FinMap as finite
 use Rattle.cfa_base.specs.TextMaps.{text_cmp}
-use Rattle.cfa_classes.specs.Raised.{status_in}
+use Rattle.cfa_statuses.specs.Raised.{status_in}
 use Rattle.cfa_outcomes.specs.Environments.{all_yes, mark_in}
 use Rattle.cfa_outcomes.proofs.EnvironmentLemmas.{given, one_more_yes, are_all_yes, mark_in-none, status_in-all_yes}
 use Rattle.cfa_outcomes.proofs.environments.Environment.new.Goals as goal

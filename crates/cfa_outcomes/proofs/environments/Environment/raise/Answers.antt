@@ -2,7 +2,7 @@ use Rattle.std.proofs.Common.{Some, refl, sym, ap, ◌∙◌}
 use Rattle.std.proofs.lemmas.Result.{on_ok_weaker}
 use Rattle.std.specs.FinMap as finite
 use Rattle.std.specs.Option.{option_or}
-use Rattle.cfa_classes.specs.lemmas.Raised.{status_in-raised_same, status_in-raised_other}
+use Rattle.cfa_statuses.specs.lemmas.Raised.{status_in-raised_same, status_in-raised_other}
 use Rattle.cfa_outcomes.specs.Environments.{status_of, source_of, sourced}
 use Rattle.cfa_outcomes.proofs.EnvironmentLemmas.{is_with_class, sourced_same, sourced_other, sourced_known, sourced_by_none}
 use Rattle.cfa_outcomes.proofs.environments.Environment.raise.Goals as goal

@@ -1,6 +1,6 @@
 use Rattle.std.proofs.Common.{◌≡◌, Some, None, refl, sym, ap, ◌∙◌}
 use Rattle.std.specs.FinMap as finite
-use Rattle.cfa_classes.specs.Raised.{raised}
+use Rattle.cfa_statuses.specs.Raised.{raised}
 use Rattle.cfa_outcomes.specs.Environments.{source_of, sourced}
 use Rattle.cfa_outcomes.proofs.EnvironmentLemmas.{is_with_class, sourced_new, source_taken_out}
 use Rattle.cfa_outcomes.proofs.environments.Environment.raise_first.Goals as goal

@@ -1,7 +1,7 @@
 use Rattle.std.proofs.Common.{Some, None, sym, ap, ◌∙◌}
 use Rattle.std.specs.Rc.{rc_str_bytes}
-use Rattle.cfa_classes.specs.Raised.{status_in}
-use Rattle.cfa_classes.specs.lemmas.Raised.{status_in-none_raised}
+use Rattle.cfa_statuses.specs.Raised.{status_in}
+use Rattle.cfa_statuses.specs.lemmas.Raised.{status_in-none_raised}
 use Rattle.cfa_outcomes.proofs.EnvironmentLemmas.{marks_at-found}
 use Rattle.cfa_outcomes.proofs.marking.Marks.get.Goals as goal
 

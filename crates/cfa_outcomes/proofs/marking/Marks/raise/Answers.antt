@@ -2,7 +2,7 @@ use Rattle.std.proofs.Common.{ap, ◌∙◌}
 use Rattle.std.proofs.lemmas.Result.{on_ok_weaker, on_err_weaker}
 use Rattle.std.specs.Rc.{rc_str_bytes}
 use Rattle.cfa_base.specs.TextMaps.{text_map}
-use Rattle.cfa_classes.specs.Raised.{raised}
+use Rattle.cfa_statuses.specs.Raised.{raised}
 use Rattle.cfa_outcomes.proofs.EnvironmentLemmas.{marked-written, marked-left, marked-added}
 use Rattle.cfa_outcomes.proofs.marking.Marks.raise.Goals as goal
 

@@ -1,6 +1,6 @@
 // The three statuses, and their order.
 ghost use Rattle.std.specs.Prelude.{◌≡◌};
-ghost use Rattle.cfa_classes.specs.Status.{swapped, lesser, greater};
+ghost use Rattle.cfa_statuses.specs.Status.{swapped, lesser, greater};
 
 /// Whether a class or a class expression holds. `No` is less than `Maybe`, and `Maybe` is less than `Yes`.
 #[derive(Clone, Copy, Debug, PartialEq, Eq)]

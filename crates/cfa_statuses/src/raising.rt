@@ -1,8 +1,8 @@
 // The statuses that classes were raised to.
 ghost use Rattle.std.specs.Prelude.{◌≡◌, ◌≢◌, List, ℕ, OnOk, OnErr};
-ghost use Rattle.cfa_classes.specs.declared.levels.Status.TheVariants.{No as no};
-ghost use Rattle.cfa_classes.specs.Status.{greater};
-ghost use Rattle.cfa_classes.specs.Raised.{none_raised, status_in, raised};
+ghost use Rattle.cfa_statuses.specs.declared.levels.Status.TheVariants.{No as no};
+ghost use Rattle.cfa_statuses.specs.Status.{greater};
+ghost use Rattle.cfa_statuses.specs.Raised.{none_raised, status_in, raised};
 
 use crate::Status;
 use cfa_base::{Name, NoMemory, TextMap};
@@ -19,8 +19,8 @@ pub struct Statuses {
 impl Model for Statuses {
     ghost use Rattle.std.specs.Coded.{coded_list, coded_ℕ};
     ghost use Rattle.std.specs.FinMap as map;
-    ghost use Rattle.cfa_classes.specs.contracts.levels.Status as status_row;
-    ghost use Rattle.cfa_classes.specs.Raised.{Raised};
+    ghost use Rattle.cfa_statuses.specs.contracts.levels.Status as status_row;
+    ghost use Rattle.cfa_statuses.specs.Raised.{Raised};
 
     ghost Value = { Raised };
 

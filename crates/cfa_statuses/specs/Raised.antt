@@ -3,9 +3,9 @@
 use Rattle.std.specs.Prelude.{ℕ, List, unwrap_or}
 use Rattle.std.specs.FinMap as finite
 use Rattle.cfa_base.specs.TextMaps.{TextMap}
-use Rattle.cfa_classes.specs.declared.levels.Status.{Status}
-use Rattle.cfa_classes.specs.declared.levels.Status.TheVariants.{No}
-use Rattle.cfa_classes.specs.Status.{greater}
+use Rattle.cfa_statuses.specs.declared.levels.Status.{Status}
+use Rattle.cfa_statuses.specs.declared.levels.Status.TheVariants.{No}
+use Rattle.cfa_statuses.specs.Status.{greater}
 
 -- the classes that were raised, with their statuses
 abbrev pub Raised : Type 0

@@ -1,9 +1,9 @@
 use Rattle.std.proofs.Common.{◌≡◌, drop}
 use Rattle.cfa_tree.specs.Plain.{plain_expr}
 use Rattle.cfa_tree.specs.lemmas.Rows.{plain_parts}
-use Rattle.cfa_classes.specs.Raised.{greater_in}
-use Rattle.cfa_classes.specs.Status.{lesser, greater, value_of, least_of, greatest_of}
-use Rattle.cfa_classes.proofs.valuing.+value.Given as goal
+use Rattle.cfa_statuses.specs.Raised.{greater_in}
+use Rattle.cfa_statuses.specs.Status.{lesser, greater, value_of, least_of, greatest_of}
+use Rattle.cfa_statuses.proofs.valuing.+value.Given as goal
 
 abbrev pub invariant-loop-part : goal.invariant-loop-part
 invariant-loop-part l =

@@ -6,10 +6,10 @@ use Rattle.std.specs.declared.vec.Vec.{Vec}
 use Rattle.cfa_tree.specs.declared.expressions.Expr.{Expr, And, Or}
 use Rattle.cfa_tree.specs.Plain.{plain_expr}
 use Rattle.cfa_tree.specs.lemmas.Rows.{plain_parts, plain_expr-And, plain_expr-Or}
-use Rattle.cfa_classes.specs.declared.levels.Status.{Status}
-use Rattle.cfa_classes.specs.declared.levels.Status.TheVariants.{No, Yes}
-use Rattle.cfa_classes.specs.Status.{lesser, greater, value_of, least_of, greatest_of}
-use Rattle.cfa_classes.specs.lemmas.Orders.{lesser_assoc, greater_assoc, lesser_Yes, greater_No}
+use Rattle.cfa_statuses.specs.declared.levels.Status.{Status}
+use Rattle.cfa_statuses.specs.declared.levels.Status.TheVariants.{No, Yes}
+use Rattle.cfa_statuses.specs.Status.{lesser, greater, value_of, least_of, greatest_of}
+use Rattle.cfa_statuses.specs.lemmas.Orders.{lesser_assoc, greater_assoc, lesser_Yes, greater_No}
 
 module _ (status : List ℕ → Status) where
   pub least_begins : (e : Expr) (parts : Vec Expr Global) (items : List Expr) → e ≡ And parts → items ≡ parts.items → lesser Yes (least_of (plain_parts items) status) ≡ value_of (plain_expr e) status

@@ -2,9 +2,9 @@
 use Rattle.std.proofs.Common.{◌≡◌, [], ◌∷◌, cond, codes, refl}
 use Rattle.std.specs.Str.{bytes_eq}
 use Rattle.cfa_tree.specs.Tree.{ExprTree, class, negated, all_of, one_of, no_expr, expr_trees}
-use Rattle.cfa_classes.specs.declared.levels.Status.{Status}
-use Rattle.cfa_classes.specs.declared.levels.Status.TheVariants.{No, Maybe, Yes}
-use Rattle.cfa_classes.specs.Status.{value_of}
+use Rattle.cfa_statuses.specs.declared.levels.Status.{Status}
+use Rattle.cfa_statuses.specs.declared.levels.Status.TheVariants.{No, Maybe, Yes}
+use Rattle.cfa_statuses.specs.Status.{value_of}
 
 abbrev with_a : Status → ExprTree → Status
 with_a status e = value_of e (λ name. cond (bytes_eq name (codes "a")) status No)

@@ -1,7 +1,7 @@
 use Rattle.std.proofs.Common.{sym, ◌∙◌, rules}
-use Rattle.cfa_classes.specs.Raised.{greater_in}
-use Rattle.cfa_classes.proofs.Turns.{least_begins, greatest_begins, least_goes_on, greatest_goes_on, least_ends, greatest_ends}
-use Rattle.cfa_classes.proofs.valuing.+value.Goals as goal
+use Rattle.cfa_statuses.specs.Raised.{greater_in}
+use Rattle.cfa_statuses.proofs.Turns.{least_begins, greatest_begins, least_goes_on, greatest_goes_on, least_ends, greatest_ends}
+use Rattle.cfa_statuses.proofs.valuing.+value.Goals as goal
 
 pub returns-in-Class : goal.returns-in-Class
 unfolding greater_in

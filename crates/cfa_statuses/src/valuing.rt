@@ -1,8 +1,8 @@
 // The value of a class expression.
 ghost use Rattle.std.specs.Prelude.{◌≡◌};
 ghost use Rattle.cfa_tree.specs.Plain.{plain_expr};
-ghost use Rattle.cfa_classes.specs.Status.{value_of};
-ghost use Rattle.cfa_classes.specs.Raised.{greater_in};
+ghost use Rattle.cfa_statuses.specs.Status.{value_of};
+ghost use Rattle.cfa_statuses.specs.Raised.{greater_in};
 
 use crate::{Status, Statuses};
 use cfa_tree::Expr;

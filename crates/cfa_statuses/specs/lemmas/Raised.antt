@@ -6,10 +6,10 @@ use Rattle.std.specs.FinMap as finite
 use Rattle.std.specs.Str.{bytes_eq}
 use Rattle.cfa_base.specs.TextMaps.{text_cmp}
 use Rattle.cfa_base.specs.lemmas.TextMaps.{get-put}
-use Rattle.cfa_classes.specs.declared.levels.Status.{Status}
-use Rattle.cfa_classes.specs.declared.levels.Status.TheVariants.{No}
-use Rattle.cfa_classes.specs.Status.{greater}
-use Rattle.cfa_classes.specs.Raised.{Raised, none_raised, status_in, raised}
+use Rattle.cfa_statuses.specs.declared.levels.Status.{Status}
+use Rattle.cfa_statuses.specs.declared.levels.Status.TheVariants.{No}
+use Rattle.cfa_statuses.specs.Status.{greater}
+use Rattle.cfa_statuses.specs.Raised.{Raised, none_raised, status_in, raised}
 
 pub status_in-none_raised : (name : List ℕ) → status_in none_raised name ≡ No
 unfolding status_in

@@ -1,7 +1,7 @@
 use Rattle.std.proofs.Common.{◌≡◌, ap, ◌∙◌}
-use Rattle.cfa_classes.specs.Raised.{raised, status_in}
-use Rattle.cfa_classes.specs.lemmas.Raised.{status_in-raised_same, status_in-raised_other}
-use Rattle.cfa_classes.proofs.raising.Statuses.raise.Goals as goal
+use Rattle.cfa_statuses.specs.Raised.{raised, status_in}
+use Rattle.cfa_statuses.specs.lemmas.Raised.{status_in-raised_same, status_in-raised_other}
+use Rattle.cfa_statuses.proofs.raising.Statuses.raise.Goals as goal
 
 raises : (c : goal.In_ok-insert) → c.insert.new.self ≡ raised c.args.self.now c.args.class c.args.to
 unfolding raised

@@ -1,8 +1,8 @@
 -- The order of the three statuses.
 use Rattle.std.proofs.Common.{◌≡◌, refl}
-use Rattle.cfa_classes.specs.declared.levels.Status.{Status}
-use Rattle.cfa_classes.specs.declared.levels.Status.TheVariants.{No, Maybe, Yes}
-use Rattle.cfa_classes.specs.Status.{lesser, greater}
+use Rattle.cfa_statuses.specs.declared.levels.Status.{Status}
+use Rattle.cfa_statuses.specs.declared.levels.Status.TheVariants.{No, Maybe, Yes}
+use Rattle.cfa_statuses.specs.Status.{lesser, greater}
 
 pub lesser_assoc : (a b c : Status) → lesser (lesser a b) c ≡ lesser a (lesser b c)
 lesser_assoc No b c = refl

@@ -3,8 +3,8 @@
 -- No.
 use Rattle.std.specs.Prelude.{ℕ, List}
 use Rattle.cfa_tree.specs.Tree.{ExprTree, class, negated, all_of, one_of, ExprTrees, no_expr, more_exprs}
-use Rattle.cfa_classes.specs.declared.levels.Status.{Status}
-use Rattle.cfa_classes.specs.declared.levels.Status.TheVariants.{No, Maybe, Yes}
+use Rattle.cfa_statuses.specs.declared.levels.Status.{Status}
+use Rattle.cfa_statuses.specs.declared.levels.Status.TheVariants.{No, Maybe, Yes}
 
 abbrev pub swapped : Status → Status
 swapped No = Yes
