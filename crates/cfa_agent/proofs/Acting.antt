@@ -20,7 +20,7 @@ use Rattle.cfa_acts.specs.declared.acts.Decision.{Decision}
 use Rattle.cfa_acts.specs.declared.acts.Decision.TheVariants as decisions
 use Rattle.cfa_acts.specs.Acts.{decision}
 use Rattle.cfa_resolve.specs.declared.instances.Instance.{Instance}
-use Rattle.cfa_walk.specs.Tellers.{Actuated, actuated, actuated_by, changing}
+use Rattle.cfa_states.specs.Tellers.{Actuated, actuated, actuated_by, changing}
 use Rattle.cfa_agent.specs.declared.actuating.Actuation.{Actuation}
 use Rattle.cfa_agent.specs.declared.actuating.Step.TheVariants as steps
 use Rattle.cfa_agent.specs.declared.recording.Heading.{Heading}

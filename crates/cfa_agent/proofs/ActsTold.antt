@@ -11,10 +11,10 @@ use Rattle.cfa_acts.specs.declared.acts.Act.{Act}
 use Rattle.cfa_resolve.specs.declared.instances.Instance.{Instance}
 use Rattle.cfa_resolve.specs.declared.instances.Work.TheVariants.{Acts}
 use Rattle.cfa_outcomes.specs.declared.outcomes.Outcome.{Outcome}
-use Rattle.cfa_walk.specs.History.{History, Told as told_event}
-use Rattle.cfa_walk.specs.declared.tellers.Ending.TheVariants.{One}
-use Rattle.cfa_walk.specs.Levels.{HasTold, outcomes_of}
-use Rattle.cfa_walk.specs.Tellers.{actuated, acts_of}
+use Rattle.cfa_states.specs.History.{History, Told as told_event}
+use Rattle.cfa_states.specs.declared.endings.Ending.TheVariants.{One}
+use Rattle.cfa_states.specs.Levels.{HasTold, outcomes_of}
+use Rattle.cfa_states.specs.Tellers.{actuated, acts_of}
 use Rattle.cfa_agent.specs.declared.actuating.Actuation.{Actuation}
 use Rattle.cfa_agent.specs.declared.progress.Running.{Running}
 use Rattle.cfa_agent.specs.Actuating.{DoesActs, done_met, mark_met}

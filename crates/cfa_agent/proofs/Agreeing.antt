@@ -5,7 +5,7 @@ use Rattle.std.proofs.Math.Seq.{drop-append_seam}
 use Rattle.cfa_outside.specs.declared.sites.Entry.{Entry}
 use Rattle.cfa_outside.specs.Sites.{Told, adds}
 use Rattle.cfa_resolve.specs.declared.instances.Instance.{Instance}
-use Rattle.cfa_walk.specs.Tellers.{Actuated}
+use Rattle.cfa_states.specs.Tellers.{Actuated}
 use Rattle.cfa_agent.specs.Actuations.{Mark, mark_of, done_by}
 use Rattle.cfa_agent.specs.Locking.{lock_entries}
 use Rattle.cfa_agent.specs.Marks.{marks_of}

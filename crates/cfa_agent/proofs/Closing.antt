@@ -16,7 +16,7 @@ use Rattle.cfa_acts.specs.declared.acts.Reason.TheVariants.{Fault}
 use Rattle.cfa_journal.specs.declared.records.Record.TheVariants.{Open, Repaired}
 use Rattle.cfa_locks.specs.Locks.{key_of}
 use Rattle.cfa_resolve.specs.declared.instances.Instance.{Instance}
-use Rattle.cfa_walk.specs.Tellers.{Actuated, actuated}
+use Rattle.cfa_states.specs.Tellers.{Actuated, actuated}
 use Rattle.cfa_agent.specs.declared.actuating.Actuation.{Actuation}
 use Rattle.cfa_agent.specs.declared.recording.Heading.{Heading}
 use Rattle.cfa_agent.specs.Actuations.{done_by, is_change, is_some_change, changed, appended, closing_record, run_record, entries_of}

@@ -11,7 +11,7 @@ use Rattle.cfa_acts.specs.declared.acts.Act.TheVariants as act
 use Rattle.cfa_acts.specs.declared.acts.Decision.{Decision}
 use Rattle.cfa_acts.specs.declared.acts.Decision.TheVariants as decisions
 use Rattle.cfa_acts.specs.Acts.{decision, post, needed}
-use Rattle.cfa_walk.specs.Tellers.{Actuated, actuated, actuated_by, changing}
+use Rattle.cfa_states.specs.Tellers.{Actuated, actuated, actuated_by, changing}
 use Rattle.cfa_resolve.specs.declared.instances.Instance.{Instance}
 use Rattle.cfa_agent.specs.declared.recording.Heading.{Heading}
 use Rattle.cfa_journal.specs.declared.records.Record.TheVariants.{Open}

@@ -30,7 +30,7 @@ use Rattle.cfa_acts.specs.declared.acts.Reason.{Reason}
 use Rattle.cfa_acts.specs.declared.acts.Reason.TheVariants.{Fault}
 use Rattle.cfa_locks.specs.Locks.{key_of}
 use Rattle.cfa_resolve.specs.declared.instances.Instance.{Instance}
-use Rattle.cfa_walk.specs.Tellers.{Actuated}
+use Rattle.cfa_states.specs.Tellers.{Actuated}
 use Rattle.cfa_agent.specs.Actuations.{Mark, Done, mark_of, done_by, number_of, appended, changed, run_record, closing_record, is_change, is_some_change, entries_of}
 use Rattle.cfa_agent.specs.Locking.{lock_entries}
 use Rattle.cfa_agent.specs.Marks.{is_closing, closed_by, closed_in, is_of_act, first_closed, counted_on, mark_closed, marks_behind, marks_of}

@@ -27,7 +27,7 @@ use Rattle.cfa_acts.specs.declared.acts.Decision.{Decision}
 use Rattle.cfa_acts.specs.declared.acts.Decision.TheVariants as decisions
 use Rattle.cfa_acts.specs.Acts.{decision, post, needed, copies, sets_perms, puts_row, restarts}
 use Rattle.cfa_acts.specs.Settling.{is_short, puts_text, puts_lines, edits}
-use Rattle.cfa_walk.specs.Tellers.{Actuated, actuated, actuated_by}
+use Rattle.cfa_states.specs.Tellers.{Actuated, actuated, actuated_by}
 use Rattle.cfa_agent.specs.declared.actuating.Actuation.{Actuation}
 use Rattle.cfa_agent.specs.Actuations.{done_by}
 use Rattle.cfa_agent.specs.Marks.{is_of_act}

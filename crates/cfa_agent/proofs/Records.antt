@@ -13,7 +13,7 @@ use Rattle.cfa_journal.specs.declared.records.Record.{Record}
 use Rattle.cfa_output.specs.Lines.{repaired_line, failed_line}
 use Rattle.cfa_resolve.specs.declared.instances.Instance.{Instance}
 use Rattle.cfa_outcomes.specs.declared.outcomes.Outcome.TheVariants.{Kept, Repaired}
-use Rattle.cfa_walk.specs.Tellers.{Actuated, outcome_by}
+use Rattle.cfa_states.specs.Tellers.{Actuated, outcome_by}
 use Rattle.cfa_agent.specs.Actuations.{Mark, Done, done_by, outcome_done, is_change, is_some_change, appended, run_record, entries_of}
 use Rattle.cfa_agent.specs.Ending.{line_by, outcome_counted, is_recorded}
 use Rattle.cfa_agent.specs.Locking.{lock_entries}

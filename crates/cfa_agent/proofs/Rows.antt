@@ -24,10 +24,10 @@ use Rattle.cfa_resolve.specs.KeyTexts.{key_text}
 use Rattle.cfa_resolve.specs.Instances.{made_instance}
 use Rattle.cfa_resolve.specs.Resolution.{resolution, made}
 use Rattle.cfa_tree.specs.lemmas.Written.{promise, section, a_bundle, created}
-use Rattle.cfa_walk.specs.Views.{Setting, shared_names, shared_in}
+use Rattle.cfa_states.specs.Views.{Setting, shared_names, shared_in}
 use Rattle.cfa_defines.specs.VarsPromises.{setting_choices, data_set}
 use Rattle.cfa_defines.specs.ClassPromises.{raises_of}
-use Rattle.cfa_walk.specs.Passes.{run, common_passes, passes, calls_of, reach, visit, told}
+use Rattle.cfa_states.specs.Passes.{run, common_passes, passes, calls_of, reach, visit, told}
 use Rattle.std.specs.Prelude.{◌++◌, false}
 use Rattle.std.specs.FinMap as finite
 use Rattle.cfa_outside.specs.declared.worlds.World.{World}

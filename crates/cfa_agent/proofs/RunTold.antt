@@ -9,10 +9,10 @@ use Rattle.cfa_output.specs.Puts.{puts_nothing, puts_then}
 use Rattle.cfa_output.specs.declared.ends.Object.TheVariants.{Inputs, Site, Sink}
 use Rattle.cfa_output.specs.declared.ends.Stop.{Stop}
 use Rattle.cfa_output.specs.declared.ends.Stop.TheVariants.{Outside, Memory, Visits, Pattern}
-use Rattle.cfa_walk.specs.Builds.{BuiltOn}
-use Rattle.cfa_walk.specs.Levels.{GoesTo, IsTooLarge, Stops, PatternsAre}
-use Rattle.cfa_walk.specs.Passes.{Course, goes, too_large, run}
-use Rattle.cfa_walk.specs.Views.{Setting}
+use Rattle.cfa_states.specs.Builds.{BuiltOn}
+use Rattle.cfa_states.specs.Levels.{GoesTo, IsTooLarge, Stops, PatternsAre}
+use Rattle.cfa_states.specs.Passes.{Course, goes, too_large, run}
+use Rattle.cfa_states.specs.Views.{Setting}
 use Rattle.cfa_walk.specs.Walked.{HasRun}
 use Rattle.cfa_agent.specs.declared.progress.Running.{Running}
 use Rattle.cfa_agent.specs.Actuations.{mark_of}

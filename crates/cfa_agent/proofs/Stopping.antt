@@ -9,7 +9,7 @@ use Rattle.cfa_outside.specs.Sinks.{adds_bytes}
 use Rattle.cfa_output.specs.declared.ends.Object.TheVariants.{Inputs, Site, Sink}
 use Rattle.cfa_output.specs.declared.ends.Stop.{Stop}
 use Rattle.cfa_output.specs.declared.ends.Stop.TheVariants.{Outside, Memory, Visits, Pattern}
-use Rattle.cfa_walk.specs.Levels.{Faults, Later, Stops, IsTellersStop}
+use Rattle.cfa_states.specs.Levels.{Faults, Later, Stops, IsTellersStop}
 use Rattle.cfa_agent.specs.Ending.{StopsPut, StopsTeller}
 use Rattle.cfa_agent.specs.Actuating.{StopsBySite}
 

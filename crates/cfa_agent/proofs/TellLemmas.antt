@@ -16,10 +16,10 @@ use Rattle.cfa_resolve.specs.declared.instances.Work.TheVariants.{Call, Report}
 use Rattle.cfa_vars.specs.declared.scoping.Datum.{Datum}
 use Rattle.cfa_outcomes.specs.declared.outcomes.Outcome.{Outcome}
 use Rattle.cfa_outcomes.specs.declared.outcomes.Outcome.TheVariants.{Kept}
-use Rattle.cfa_walk.specs.History.{History, Told as told_event}
-use Rattle.cfa_walk.specs.declared.tellers.Ending.TheVariants.{One}
-use Rattle.cfa_walk.specs.Levels.{HasVisited, HasTold, Later, outcomes_of, visited_by, EndedAs}
-use Rattle.cfa_walk.specs.Tellers.{worst_in, inner_path}
+use Rattle.cfa_states.specs.History.{History, Told as told_event}
+use Rattle.cfa_states.specs.declared.endings.Ending.TheVariants.{One}
+use Rattle.cfa_states.specs.Levels.{HasVisited, HasTold, Later, outcomes_of, visited_by, EndedAs}
+use Rattle.cfa_states.specs.Tellers.{worst_in, inner_path}
 use Rattle.cfa_agent.specs.declared.progress.Running.{Running}
 use Rattle.cfa_agent.specs.Ending.{tallied, heard, Hears}
 use Rattle.cfa_agent.specs.Locking.{is_skipped, lock_entries}

@@ -24,7 +24,7 @@ use Rattle.cfa_acts.specs.declared.acts.Act.{Act}
 use Rattle.cfa_acts.specs.declared.acts.Decision.{Decision}
 use Rattle.cfa_acts.specs.declared.acts.Reason.TheVariants.{Fault}
 use Rattle.cfa_acts.specs.Acts.{IsOwn, decision}
-use Rattle.cfa_walk.specs.Tellers.{actuated}
+use Rattle.cfa_states.specs.Tellers.{actuated}
 use Rattle.cfa_agent.specs.declared.actuating.Step.{Step}
 use Rattle.cfa_outside.specs.declared.sites.Call.TheVariants as calls
 use Rattle.cfa_acts.specs.declared.acts.Decision.TheVariants as decisions

@@ -21,7 +21,7 @@ use Rattle.cfa_journal.specs.Records.{record_text}
 use Rattle.cfa_locks.specs.Locks.{key_of}
 use Rattle.cfa_resolve.specs.declared.instances.Instance.{Instance}
 use Rattle.cfa_outcomes.specs.declared.outcomes.Outcome.{Outcome}
-use Rattle.cfa_walk.specs.Tellers.{Actuated, actuated, acts_of, outcome_by}
+use Rattle.cfa_states.specs.Tellers.{Actuated, actuated, acts_of, outcome_by}
 
 -- ---- marks
 

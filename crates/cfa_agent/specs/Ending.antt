@@ -15,8 +15,8 @@ use Rattle.cfa_output.specs.Lines.{repaired_line, failed_line}
 use Rattle.cfa_resolve.specs.declared.instances.Instance.{Instance}
 use Rattle.cfa_outcomes.specs.declared.outcomes.Outcome.{Outcome}
 use Rattle.cfa_outcomes.specs.declared.outcomes.Outcome.TheVariants.{Kept, Repaired, Failed}
-use Rattle.cfa_walk.specs.declared.tellers.Ending.TheVariants.{One}
-use Rattle.cfa_walk.specs.Levels.{Faults, Later, HasTold}
+use Rattle.cfa_states.specs.declared.endings.Ending.TheVariants.{One}
+use Rattle.cfa_states.specs.Levels.{Faults, Later, HasTold}
 use Rattle.cfa_agent.specs.declared.actuating.Actuation.{Actuation}
 use Rattle.cfa_agent.specs.declared.progress.Running.{Running}
 use Rattle.cfa_agent.specs.declared.running.Tally.{Tally}

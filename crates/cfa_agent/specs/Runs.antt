@@ -18,10 +18,10 @@ use Rattle.cfa_resolve.specs.declared.instances.Work.{Work}
 use Rattle.cfa_resolve.specs.declared.instances.Work.TheVariants.{Acts, Call, Report}
 use Rattle.cfa_outcomes.specs.declared.outcomes.Outcome.{Outcome}
 use Rattle.cfa_outcomes.specs.declared.outcomes.Outcome.TheVariants.{Kept, Repaired, Failed}
-use Rattle.cfa_walk.specs.History.{History, Begun, Set, Raised, Reached, Listed, Told}
-use Rattle.cfa_walk.specs.Tellers.{Teller, worst_in, inner_path}
-use Rattle.cfa_walk.specs.Views.{Setting}
-use Rattle.cfa_walk.specs.Passes.{Course, goes, too_large, run}
+use Rattle.cfa_states.specs.History.{History, Begun, Set, Raised, Reached, Listed, Told}
+use Rattle.cfa_states.specs.Tellers.{Teller, worst_in, inner_path}
+use Rattle.cfa_states.specs.Views.{Setting}
+use Rattle.cfa_states.specs.Passes.{Course, goes, too_large, run}
 use Rattle.cfa_agent.specs.Locking.{is_skipped, lock_entries}
 use Rattle.cfa_agent.specs.Actuations.{Mark, Done, done_on, outcome_done, entries_of}
 

@@ -7,9 +7,9 @@ use Rattle.cfa_agent.specs.Marks.{marks_of}
 use Rattle.cfa_base.specs.Shown.{Shown, Follows}
 use Rattle.cfa_outside.specs.Sites.{Told, adds}
 use Rattle.cfa_outside.specs.Sinks.{adds_bytes}
-use Rattle.cfa_walk.specs.History.{History, Event, Begun, Set, Raised, Reached, Listed, Told as Heard}
-use Rattle.cfa_walk.specs.Levels.{Faults, is_quiet}
-use Rattle.cfa_walk.specs.Tellers.{Teller}
+use Rattle.cfa_states.specs.History.{History, Event, Begun, Set, Raised, Reached, Listed, Told as Heard}
+use Rattle.cfa_states.specs.Levels.{Faults, is_quiet}
+use Rattle.cfa_states.specs.Tellers.{Teller}
 use Rattle.cfa_agent.specs.declared.progress.Running.{Running}
 use Rattle.cfa_agent.specs.Ran.{counts_of}
 use Rattle.cfa_agent.specs.Runs.{Start, Counts, no_counts, real, actuations_in, has_record, log_in, lines_in, tally_in}

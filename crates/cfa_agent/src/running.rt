@@ -1,6 +1,6 @@
 // A run of a policy on a host.
 ghost use Rattle.std.specs.Prelude.{◌≡◌, ◌≤◌, IfErr, IfOk, IsErrOf, OnOk};
-ghost use Rattle.cfa_walk.specs.Levels.{IsTooLarge};
+ghost use Rattle.cfa_states.specs.Levels.{IsTooLarge};
 ghost use Rattle.cfa_walk.specs.Settings.{setting_of};
 ghost use Rattle.cfa_agent.specs.Runs.{run_of};
 ghost use Rattle.cfa_agent.specs.Standing.{IsFirst};

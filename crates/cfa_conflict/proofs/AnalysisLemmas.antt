@@ -1,17 +1,17 @@
 -- The verdict of an analysis by what its two walks came to.
 use Rattle.std.proofs.Common.{◌≡◌, Some, None, Result, Ok, Err, IsErrOf, IsErrAnd, IfErr, inl, inr, sym, ap, subst, ◌∙◌, refl}
 use Rattle.cfa_walk.specs.declared.listing.Telling.TheVariants.{AllKept, Open}
-use Rattle.cfa_walk.specs.declared.walks.Walk.{Walk}
-use Rattle.cfa_walk.specs.declared.walks.WalkErr.{WalkErr}
-use Rattle.cfa_walk.specs.declared.walks.WalkErr.TheVariants.{TooLarge, PatternTooBig, NoMemory}
-use Rattle.cfa_walk.specs.Levels.{GoesTo, IsTooLarge}
+use Rattle.cfa_states.specs.declared.walks.Walk.{Walk}
+use Rattle.cfa_walk.specs.declared.listing.WalkErr.{WalkErr}
+use Rattle.cfa_walk.specs.declared.listing.WalkErr.TheVariants.{TooLarge, PatternTooBig, NoMemory}
+use Rattle.cfa_states.specs.Levels.{GoesTo, IsTooLarge}
 use Rattle.cfa_walk.specs.Listed.{HasWalked, IsRefused}
 use Rattle.cfa_walk.specs.declared.listing.Telling.{Telling}
-use Rattle.cfa_walk.specs.Passes.{Course, goes, too_large, run}
-use Rattle.cfa_walk.specs.Tellers.{all_kept, open_walk}
+use Rattle.cfa_states.specs.Passes.{Course, goes, too_large, run}
+use Rattle.cfa_states.specs.Tellers.{all_kept, open_walk}
 use Rattle.cfa_walk.specs.Tellings.{told_by}
-use Rattle.cfa_walk.specs.Views.{Setting}
-use Rattle.cfa_walk.specs.Walks.{walked}
+use Rattle.cfa_states.specs.Views.{Setting}
+use Rattle.cfa_states.specs.Walks.{walked}
 use Rattle.cfa_conflict.specs.declared.verdicts.Verdict.{Verdict}
 use Rattle.cfa_conflict.specs.Conflicts.{verdict_of}
 use Rattle.cfa_conflict.specs.Analyses.{RefusesBuilt, verdict_over, analysis_of}

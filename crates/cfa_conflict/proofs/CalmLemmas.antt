@@ -12,8 +12,8 @@ use Rattle.cfa_base.specs.Index.{Text}
 use Rattle.cfa_acts.specs.declared.acts.Act.{Act}
 use Rattle.cfa_acts.specs.Disturbs.{disturbs}
 use Rattle.cfa_resolve.specs.declared.instances.Instance.{Instance}
-use Rattle.cfa_walk.specs.declared.walks.Visit.{Visit}
-use Rattle.cfa_walk.specs.Tellers.{acts_of}
+use Rattle.cfa_states.specs.declared.walks.Visit.{Visit}
+use Rattle.cfa_states.specs.Tellers.{acts_of}
 use Rattle.cfa_conflict.specs.declared.verdicts.Conflict.{Conflict}
 use Rattle.cfa_conflict.specs.Conflicts.{undone, undone_by, undone_by_other, undone_by_later, is_visited_after, undone_in, undone_from}
 use Rattle.cfa_conflict.specs.Targets.{first_of, Row, target_of, rows_from, sought, acts_in, acts_at, is_row, is_like, IsAt, IsNeverUndone}

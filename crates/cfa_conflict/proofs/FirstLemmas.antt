@@ -5,8 +5,8 @@ use Rattle.std.specs.Option.{option_or}
 use Rattle.std.proofs.lemmas.List.{at_drop_more, at_drop_all, take_more}
 use Rattle.cfa_acts.specs.declared.acts.Act.{Act}
 use Rattle.cfa_resolve.specs.declared.instances.Instance.{Instance}
-use Rattle.cfa_walk.specs.declared.walks.Visit.{Visit}
-use Rattle.cfa_walk.specs.declared.walks.Walk.{Walk}
+use Rattle.cfa_states.specs.declared.walks.Visit.{Visit}
+use Rattle.cfa_states.specs.declared.walks.Walk.{Walk}
 use Rattle.cfa_conflict.specs.Conflicts.{undone_by, undone_by_later, undone_in, undone_from, is_live, conflicts_at, conflicts_from}
 use Rattle.cfa_conflict.specs.Targets.{first_of}
 

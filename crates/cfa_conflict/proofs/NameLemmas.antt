@@ -5,10 +5,10 @@ use Rattle.std.specs.Option.{is_some}
 use Rattle.cfa_base.specs.Index.{Text, same_pair, pair_place_of}
 use Rattle.cfa_resolve.specs.declared.instances.Instance.{Instance}
 use Rattle.cfa_values.specs.Lookups.{has_position}
-use Rattle.cfa_walk.specs.declared.walks.Walk.{Walk}
-use Rattle.cfa_walk.specs.History.{is_named}
-use Rattle.cfa_walk.specs.Names.{name_of, names_of}
-use Rattle.cfa_walk.specs.lemmas.Names.{same_instance}
+use Rattle.cfa_states.specs.declared.walks.Walk.{Walk}
+use Rattle.cfa_states.specs.History.{is_named}
+use Rattle.cfa_states.specs.Names.{name_of, names_of}
+use Rattle.cfa_states.specs.lemmas.Names.{same_instance}
 use Rattle.cfa_conflict.specs.Conflicts.{has_acts, is_live}
 
 named_among : (path text : List ℕ) (instances : List Instance)

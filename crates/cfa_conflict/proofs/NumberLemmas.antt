@@ -7,7 +7,7 @@ use Rattle.std.specs.Slice.{IsGetResult}
 use Rattle.std.proofs.lemmas.Option.{slice_get-get_or, slice_get_past}
 use Rattle.std.proofs.lemmas.Bool.{cond-true, cond-false, eq-eqb, ne_eqb, lt-ltb, le-ltb, cases_eq}
 use Rattle.std.proofs.lemmas.List.{at_drop_more}
-use Rattle.cfa_walk.specs.declared.walks.Visit.{Visit}
+use Rattle.cfa_states.specs.declared.walks.Visit.{Visit}
 use Rattle.cfa_conflict.specs.Conflicts.{first_visit, has_visit, is_visited_after}
 use Rattle.cfa_conflict.specs.Targets.{first_from, last_from, unless_zero}
 

@@ -11,7 +11,7 @@ use Rattle.cfa_acts.specs.declared.acts.Act.{Act}
 use Rattle.cfa_acts.specs.declared.acts.Act.TheVariants.{Create, MakeDir, Delete, Content, Copy, Edit, Perms, Start, Stop, Enable, Disable, Restart, Bust}
 use Rattle.cfa_acts.specs.Disturbs.{is_at_or_beneath, disturbs}
 use Rattle.cfa_resolve.specs.declared.instances.Instance.{Instance}
-use Rattle.cfa_walk.specs.Tellers.{acts_of}
+use Rattle.cfa_states.specs.Tellers.{acts_of}
 use Rattle.cfa_conflict.specs.Targets.{Row, goes_on, is_sought, places_of, target_of, placed, rows_of, rows_from, is_row, sought}
 use Rattle.cfa_conflict.specs.lemmas.Anywhere.{in_left, in_right}
 use Rattle.cfa_conflict.proofs.SoughtLemmas.{passes, seeks, disturbs_sought}

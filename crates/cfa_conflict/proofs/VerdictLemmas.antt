@@ -2,9 +2,9 @@
 use Rattle.std.proofs.Common.{◌≡◌, ℕ, ◌+◌, ◌<◌, true, false, cond, List, [], ◌∷◌, ◌++◌, length, get_or, drop, map, Some, None, refl, sym, ap, ◌∙◌}
 use Rattle.std.specs.Prelude.{slice_get}
 use Rattle.cfa_resolve.specs.declared.instances.Instance.{Instance}
-use Rattle.cfa_walk.specs.declared.walks.Blame.{Blame}
-use Rattle.cfa_walk.specs.declared.walks.Visit.{Visit}
-use Rattle.cfa_walk.specs.declared.walks.Walk.{Walk}
+use Rattle.cfa_states.specs.declared.walks.Blame.{Blame}
+use Rattle.cfa_states.specs.declared.walks.Visit.{Visit}
+use Rattle.cfa_states.specs.declared.walks.Walk.{Walk}
 use Rattle.cfa_conflict.specs.declared.verdicts.Conflict.{Conflict}
 use Rattle.cfa_conflict.specs.declared.verdicts.Verdict.TheVariants as verdict
 use Rattle.cfa_conflict.specs.Conflicts.{unsettled_conflict, restarts_of, first_visit, unsure_at, undone_from, is_live, conflicts_at, conflicts_from, conflicts, live_instances, first_or_accepted, verdict_of}

@@ -4,13 +4,13 @@ use Rattle.cfa_conflict.specs.declared.verdicts.Conflict.{Conflict}
 use Rattle.cfa_conflict.specs.declared.verdicts.Verdict.{Verdict}
 use Rattle.cfa_conflict.specs.declared.verdicts.Verdict.TheVariants as verdict
 use Rattle.cfa_conflict.specs.Conflicts.{about, verdict_of}
-use Rattle.cfa_walk.specs.declared.walks.WalkErr.{WalkErr}
-use Rattle.cfa_walk.specs.declared.walks.WalkErr.TheVariants.{TooLarge, PatternTooBig, NoMemory}
-use Rattle.cfa_walk.specs.Builds.{BuiltOn}
-use Rattle.cfa_walk.specs.Passes.{Course, goes, too_large, run}
-use Rattle.cfa_walk.specs.Tellers.{all_kept, open_walk}
-use Rattle.cfa_walk.specs.Views.{Setting}
-use Rattle.cfa_walk.specs.Walks.{walked}
+use Rattle.cfa_walk.specs.declared.listing.WalkErr.{WalkErr}
+use Rattle.cfa_walk.specs.declared.listing.WalkErr.TheVariants.{TooLarge, PatternTooBig, NoMemory}
+use Rattle.cfa_states.specs.Builds.{BuiltOn}
+use Rattle.cfa_states.specs.Passes.{Course, goes, too_large, run}
+use Rattle.cfa_states.specs.Tellers.{all_kept, open_walk}
+use Rattle.cfa_states.specs.Views.{Setting}
+use Rattle.cfa_states.specs.Walks.{walked}
 
 -- over how the walks end; none where one of them is too large
 abbrev pub verdict_over : Setting → (kept walk : Course) → Option Verdict

@@ -22,11 +22,11 @@ use Rattle.cfa_statuses.specs.declared.levels.Status.TheVariants.{No, Maybe, Yes
 use Rattle.cfa_resolve.specs.declared.instances.Instance.{Instance}
 use Rattle.cfa_resolve.specs.declared.instances.Work.{Work}
 use Rattle.cfa_resolve.specs.declared.instances.Work.TheVariants.{Acts, Call, Report}
-use Rattle.cfa_walk.specs.declared.walks.Blame.{Blame}
-use Rattle.cfa_walk.specs.declared.walks.Visit.{Visit}
-use Rattle.cfa_walk.specs.declared.walks.Walk.{Walk}
-use Rattle.cfa_walk.specs.History.{is_named}
-use Rattle.cfa_walk.specs.Tellers.{acts_of}
+use Rattle.cfa_states.specs.declared.walks.Blame.{Blame}
+use Rattle.cfa_states.specs.declared.walks.Visit.{Visit}
+use Rattle.cfa_states.specs.declared.walks.Walk.{Walk}
+use Rattle.cfa_states.specs.History.{is_named}
+use Rattle.cfa_states.specs.Tellers.{acts_of}
 use Rattle.cfa_conflict.specs.declared.verdicts.Cause.{Cause}
 use Rattle.cfa_conflict.specs.declared.verdicts.Cause.TheVariants.{Restarts, ComesAndGoes, Undoes, Unsettled}
 use Rattle.cfa_conflict.specs.declared.verdicts.Conflict.{Conflict}

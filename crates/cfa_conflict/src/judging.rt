@@ -1,8 +1,8 @@
 // The verdict.
 ghost use Rattle.std.specs.Prelude.{◌≡◌, ◌<◌, ◌++◌, false, IfOk, length, vec_len};
 ghost use Rattle.cfa_conflict.specs.Conflicts.{restarts_of, first_visit, unsure_at, undone_in, undone_from, conflicts_from, verdict_of};
-ghost use Rattle.cfa_walk.specs.Names.{names_of};
-ghost use Rattle.cfa_walk.specs.declared.walks.Walk.{Walk as AnyWalk};
+ghost use Rattle.cfa_states.specs.Names.{names_of};
+ghost use Rattle.cfa_states.specs.declared.walks.Walk.{Walk as AnyWalk};
 ghost use Rattle.cfa_conflict.specs.Targets.{first_of, HasRows, HaveLikes, IsAt, IsNeverUndone};
 
 use crate::live::{is_live, live_instances};

@@ -3,7 +3,7 @@ ghost use Rattle.std.specs.Prelude.{◌≡◌, ◌&&◌, IfOk, is_some, length};
 ghost use Rattle.std.specs.List.{filter};
 ghost use Rattle.cfa_base.specs.Index.{pair_place_of};
 ghost use Rattle.cfa_resolve.specs.declared.instances.Instance.{Instance};
-ghost use Rattle.cfa_walk.specs.Names.{name_of};
+ghost use Rattle.cfa_states.specs.Names.{name_of};
 ghost use Rattle.cfa_conflict.specs.Conflicts.{has_acts, live_instances};
 
 use crate::pairs::has_acts;

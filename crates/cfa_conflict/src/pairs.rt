@@ -1,7 +1,7 @@
 // The first conflict of an instance by itself, and of two instances.
 ghost use Rattle.std.specs.Prelude.{◌≡◌, [], All, IfOk, option_copied};
 ghost use Rattle.cfa_acts.specs.Acts.{IsAct};
-ghost use Rattle.cfa_walk.specs.Tellers.{acts_of};
+ghost use Rattle.cfa_states.specs.Tellers.{acts_of};
 ghost use Rattle.cfa_conflict.specs.Conflicts.{has_acts, unsettled_conflict, restart_of, restarts_of, waits_for, unsure_at, undone, undone_by, undone_by_other, undone_by_later};
 ghost use Rattle.cfa_conflict.specs.Targets.{first_of};
 

@@ -5,7 +5,7 @@ ghost use Rattle.std.specs.List.{flat_map, list_any};
 ghost use Rattle.std.specs.List.Sorted.{IsNonDecreasing};
 ghost use Rattle.cfa_acts.specs.Same.{is_same};
 ghost use Rattle.cfa_conflict.specs.Targets.{places_of, target_of, rows_of, rows_from, sought, is_deletion, acts_at, HaveLikes};
-ghost use Rattle.cfa_walk.specs.Tellers.{acts_of};
+ghost use Rattle.cfa_states.specs.Tellers.{acts_of};
 
 use crate::pairs::acts_of;
 use crate::text_places::TextPlaces;

@@ -13,7 +13,7 @@ use Rattle.cfa_acts.specs.declared.acts.Decision.TheVariants.{Kept, Needs, Fail,
 use Rattle.cfa_acts.specs.Acts.{post, decision, has_bytes, is_copied, has_perms, has_row}
 use Rattle.cfa_acts.specs.Settling.{is_settled}
 use Rattle.cfa_acts.specs.Laws.{is_restart, HasScript, KeptWherePostHolds, NeededFits, NeededMakesPost, NeededKeepsPost}
-use Rattle.cfa_walk.specs.Tellers.{Actuated, no_more, actuated_by, actuated, after_all}
+use Rattle.cfa_states.specs.Tellers.{Actuated, no_more, actuated_by, actuated, after_all}
 use Rattle.cfa_laws.specs.Keys.{IsGiven}
 use Rattle.cfa_convergence.specs.Conflicts.{AreQuiet, AreSpared, SpareThemselves}
 use Rattle.cfa_agent.specs.Hosts.{SameHost}

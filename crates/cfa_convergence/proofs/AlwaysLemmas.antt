@@ -10,11 +10,11 @@ use Rattle.cfa_outcomes.specs.declared.outcomes.Outcome.TheVariants.{Kept}
 use Rattle.cfa_resolve.specs.declared.instances.Instance.{Instance}
 use Rattle.cfa_resolve.specs.Resolution.{resolution}
 use Rattle.cfa_vars.specs.declared.scoping.Datum.{Datum}
-use Rattle.cfa_walk.specs.History.{History, Where, everywhere, within, Begun, Set, Raised, Reached, Listed, Told}
-use Rattle.cfa_walk.specs.Numbered.{Numbered}
-use Rattle.cfa_walk.specs.Passes.{Course, goes, too_large, then_on, told, visit_status, raised_to, in_every_list, classes_for, raise_each, raise_lists}
-use Rattle.cfa_walk.specs.Tellers.{inner_path}
-use Rattle.cfa_walk.specs.Views.{Setting, Home, reached_in_history}
+use Rattle.cfa_states.specs.History.{History, Where, everywhere, within, Begun, Set, Raised, Reached, Listed, Told}
+use Rattle.cfa_states.specs.Numbered.{Numbered}
+use Rattle.cfa_states.specs.Passes.{Course, goes, too_large, then_on, told, visit_status, raised_to, in_every_list, classes_for, raise_each, raise_lists}
+use Rattle.cfa_states.specs.Tellers.{inner_path}
+use Rattle.cfa_states.specs.Views.{Setting, Home, reached_in_history}
 use Rattle.cfa_convergence.specs.Conflicts.{HasActs}
 use Rattle.cfa_convergence.specs.Told.{Telling}
 use Rattle.cfa_convergence.proofs.LevelLemmas.{IsCall, IsReport, Steps}

@@ -17,13 +17,13 @@ use Rattle.cfa_resolve.specs.declared.instances.Work.{Work}
 use Rattle.cfa_resolve.specs.declared.instances.Work.TheVariants.{Acts, Call, Report}
 use Rattle.cfa_scripts.specs.declared.blaming.Unsettled.{Unsettled}
 use Rattle.cfa_vars.specs.declared.scoping.Datum.{Datum}
-use Rattle.cfa_walk.specs.declared.waits.Wait.{Wait}
-use Rattle.cfa_walk.specs.History.{History, Where, Begun, Set, Raised, Reached, Listed, Told, mark_in, global_source}
-use Rattle.cfa_walk.specs.Numbered.{Numbered}
-use Rattle.cfa_walk.specs.Tellers.{inner_path}
-use Rattle.cfa_walk.specs.Views.{Setting, Home}
-use Rattle.cfa_walk.specs.Waits.{is_unvisited, is_first, is_call, wait_of_guard, waits_in, wait_of_call}
-use Rattle.cfa_walk.specs.Walks.{blame_edit, unsettled_edits}
+use Rattle.cfa_states.specs.declared.waits.Wait.{Wait}
+use Rattle.cfa_states.specs.History.{History, Where, Begun, Set, Raised, Reached, Listed, Told, mark_in, global_source}
+use Rattle.cfa_states.specs.Numbered.{Numbered}
+use Rattle.cfa_states.specs.Tellers.{inner_path}
+use Rattle.cfa_states.specs.Views.{Setting, Home}
+use Rattle.cfa_states.specs.Waits.{is_unvisited, is_first, is_call, wait_of_guard, waits_in, wait_of_call}
+use Rattle.cfa_states.specs.Walks.{blame_edit, unsettled_edits}
 use Rattle.cfa_laws.specs.Keys.{IsKeyed, IsLine}
 use Rattle.cfa_convergence.specs.Conflicts.{is_same}
 use Rattle.cfa_convergence.specs.Keys.{AreAlike, KeysTellWorks}

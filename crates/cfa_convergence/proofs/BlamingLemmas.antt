@@ -26,14 +26,14 @@ use Rattle.cfa_served.specs.Served.{bundle_of, common_bundles_of}
 use Rattle.cfa_scripts.specs.declared.blaming.Unsettled.{Unsettled}
 use Rattle.cfa_tree.specs.Tree.{ExprTree, BlockTree, NamedTree}
 use Rattle.cfa_vars.specs.declared.scoping.Datum.{Datum}
-use Rattle.cfa_walk.specs.declared.waits.Wait.{Wait}
-use Rattle.cfa_walk.specs.History.{History, Where, everywhere, within, Begun, Set, Reached, Listed, mark_in, visits_in, global_source}
-use Rattle.cfa_walk.specs.Numbered.{Numbered, numbered_in, params_of, name_of, agent_types, common_types, of_type}
-use Rattle.cfa_walk.specs.Passes.{Course, goes, too_large, then_on, told, Calls, tell, worked, visited, visit_status, visit, instances_from, set_each, handed, raise_event, raise_all, most_visits, within_limit, sets_variable, bind, acting_reached, kept_by, guarded, reach, promises_from, types_from, passes, activation, called_by, calls_of, through_common, commons_from, common_passes, by_type, type_of_block, in_sequence, sequence_from, run}
-use Rattle.cfa_walk.specs.Tellers.{Teller, inner_path}
-use Rattle.cfa_walk.specs.Views.{Setting, Home, scopes_in, global_status, status_in, guard_status, reached_in_history}
-use Rattle.cfa_walk.specs.Waits.{wait_on, wait_of_guard, waits_in, wait_of_call}
-use Rattle.cfa_walk.specs.Walks.{blame_for, blame_edit, unsettled_edits}
+use Rattle.cfa_states.specs.declared.waits.Wait.{Wait}
+use Rattle.cfa_states.specs.History.{History, Where, everywhere, within, Begun, Set, Reached, Listed, mark_in, visits_in, global_source}
+use Rattle.cfa_states.specs.Numbered.{Numbered, numbered_in, params_of, name_of, agent_types, common_types, of_type}
+use Rattle.cfa_states.specs.Passes.{Course, goes, too_large, then_on, told, Calls, tell, worked, visited, visit_status, visit, instances_from, set_each, handed, raise_event, raise_all, most_visits, within_limit, sets_variable, bind, acting_reached, kept_by, guarded, reach, promises_from, types_from, passes, activation, called_by, calls_of, through_common, commons_from, common_passes, by_type, type_of_block, in_sequence, sequence_from, run}
+use Rattle.cfa_states.specs.Tellers.{Teller, inner_path}
+use Rattle.cfa_states.specs.Views.{Setting, Home, scopes_in, global_status, status_in, guard_status, reached_in_history}
+use Rattle.cfa_states.specs.Waits.{wait_on, wait_of_guard, waits_in, wait_of_call}
+use Rattle.cfa_states.specs.Walks.{blame_for, blame_edit, unsettled_edits}
 use Rattle.cfa_laws.specs.Keys.{IsResolved, InstancesAreKeyed, IsLine, KeysAreLines}
 use Rattle.cfa_convergence.specs.Keys.{KeysTellWorks}
 use Rattle.cfa_convergence.specs.Policies.{IsKnown, HasKnown}

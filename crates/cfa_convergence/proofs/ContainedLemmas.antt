@@ -14,10 +14,10 @@ use Rattle.cfa_tree.specs.Tree.{NamedTree}
 use Rattle.cfa_vars.specs.declared.scoping.Datum.{Datum}
 use Rattle.cfa_vars.specs.Named.{put}
 use Rattle.cfa_base.specs.Index.{is_listed}
-use Rattle.cfa_walk.specs.History.{History, Where, everywhere, within, Set, Raised, Reached, Listed, Told, scope_in, globally, locally, mark_in}
-use Rattle.cfa_walk.specs.Numbered.{Numbered}
-use Rattle.cfa_walk.specs.Passes.{Course, goes, too_large, then_on, told, classes_for, in_every_list, raised_to, raise_each, set_each, handed, raise_event, raise_all, bind}
-use Rattle.cfa_walk.specs.Views.{Setting, Home}
+use Rattle.cfa_states.specs.History.{History, Where, everywhere, within, Set, Raised, Reached, Listed, Told, scope_in, globally, locally, mark_in}
+use Rattle.cfa_states.specs.Numbered.{Numbered}
+use Rattle.cfa_states.specs.Passes.{Course, goes, too_large, then_on, told, classes_for, in_every_list, raised_to, raise_each, set_each, handed, raise_event, raise_all, bind}
+use Rattle.cfa_states.specs.Views.{Setting, Home}
 use Rattle.cfa_convergence.specs.Conflicts.{HasActs}
 use Rattle.cfa_convergence.specs.Contained.{kept_or_repaired, IsSettled}
 use Rattle.cfa_laws.specs.Keys.{IsKeyed}

@@ -25,13 +25,13 @@ use Rattle.cfa_tree.specs.Tree.{ExprTree, BlockTree, PolicyTree}
 use Rattle.cfa_vars.specs.declared.scoping.Datum.{Datum}
 use Rattle.cfa_vars.specs.Expansion.{Chosen}
 use Rattle.cfa_vars.specs.Scopes.{Table, InScope}
-use Rattle.cfa_walk.specs.History.{History, Where, Set, Reached, Listed, scope_in, mark_in, visits_in}
-use Rattle.cfa_walk.specs.Levels.{HasPlainNames}
-use Rattle.cfa_walk.specs.Numbered.{Numbered, numbered_in, name_of, agent_types, of_type}
-use Rattle.cfa_walk.specs.Passes.{Course, goes, too_large, told, Calls, tell, worked, visited, visit_status, visit, instances_from, set_each, raise_all, most_visits, within_limit, reached, vars_reached, classes_reached, sets_variable, acting_reached, kept_by, guarded, reach, promises_from, types_from, passes, activation, calls_of}
-use Rattle.cfa_walk.specs.Tellers.{Teller}
-use Rattle.cfa_walk.specs.Views.{Setting, Home, shared_names, shared_in, scopes_in, global_status, status_in, guard_status, reached_in_history}
-use Rattle.cfa_walk.specs.Walks.{unsettled_edits}
+use Rattle.cfa_states.specs.History.{History, Where, Set, Reached, Listed, scope_in, mark_in, visits_in}
+use Rattle.cfa_states.specs.Levels.{HasPlainNames}
+use Rattle.cfa_states.specs.Numbered.{Numbered, numbered_in, name_of, agent_types, of_type}
+use Rattle.cfa_states.specs.Passes.{Course, goes, too_large, told, Calls, tell, worked, visited, visit_status, visit, instances_from, set_each, raise_all, most_visits, within_limit, reached, vars_reached, classes_reached, sets_variable, acting_reached, kept_by, guarded, reach, promises_from, types_from, passes, activation, calls_of}
+use Rattle.cfa_states.specs.Tellers.{Teller}
+use Rattle.cfa_states.specs.Views.{Setting, Home, shared_names, shared_in, scopes_in, global_status, status_in, guard_status, reached_in_history}
+use Rattle.cfa_states.specs.Walks.{unsettled_edits}
 use Rattle.cfa_convergence.specs.Conflicts.{HasActs}
 use Rattle.cfa_convergence.specs.Contained.{unfailing, IsSettled, EditsAreSettled}
 use Rattle.cfa_laws.specs.Keys.{IsResolved, InstancesAreKeyed}

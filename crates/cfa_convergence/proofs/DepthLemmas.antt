@@ -3,7 +3,7 @@ use Rattle.std.proofs.Common.{◌≡◌, ℕ, ◌+◌, ◌<◌, Bool, true, fals
 use Rattle.std.specs.Str.{bytes_eq}
 use Rattle.cfa_base.specs.lemmas.EqualTexts.{texts_apart}
 use Rattle.cfa_resolve.specs.declared.instances.Instance.{Instance}
-use Rattle.cfa_walk.specs.Tellers.{inner_path}
+use Rattle.cfa_states.specs.Tellers.{inner_path}
 
 abbrev pub one_if : Bool → ℕ
 one_if true = 1

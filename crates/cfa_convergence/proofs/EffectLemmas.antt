@@ -9,8 +9,8 @@ use Rattle.cfa_statuses.specs.Status.{greater}
 use Rattle.cfa_outcomes.specs.declared.outcomes.Outcome.{Outcome}
 use Rattle.cfa_resolve.specs.declared.instances.Instance.{Instance}
 use Rattle.cfa_base.specs.Index.{is_listed}
-use Rattle.cfa_walk.specs.History.{History, everywhere, Raised, scope_in, globally, locally, mark_in}
-use Rattle.cfa_walk.specs.Passes.{raise_each, raised_to, in_every_list}
+use Rattle.cfa_states.specs.History.{History, everywhere, Raised, scope_in, globally, locally, mark_in}
+use Rattle.cfa_states.specs.Passes.{raise_each, raised_to, in_every_list}
 use Rattle.cfa_laws.specs.Statuses.{Within, no_maybe, yes_maybe, yes_yes}
 use Rattle.cfa_laws.specs.lemmas.Within.{within_greater}
 

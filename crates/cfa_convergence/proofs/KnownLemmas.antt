@@ -10,10 +10,10 @@ use Rattle.cfa_resolve.specs.declared.instances.Work.TheVariants.{Acts, Call, Re
 use Rattle.cfa_served.specs.Control.{sequence_of}
 use Rattle.cfa_served.specs.Served.{common_bundles_of}
 use Rattle.cfa_tree.specs.Tree.{BlockTree}
-use Rattle.cfa_walk.specs.History.{History, Begun, Set, Raised, Reached, Listed, Told}
-use Rattle.cfa_walk.specs.Numbered.{numbered_in, name_of, common_types, of_type}
-use Rattle.cfa_walk.specs.Passes.{goes, visit_status, run}
-use Rattle.cfa_walk.specs.Views.{Setting, reached_in_history}
+use Rattle.cfa_states.specs.History.{History, Begun, Set, Raised, Reached, Listed, Told}
+use Rattle.cfa_states.specs.Numbered.{numbered_in, name_of, common_types, of_type}
+use Rattle.cfa_states.specs.Passes.{goes, visit_status, run}
+use Rattle.cfa_states.specs.Views.{Setting, reached_in_history}
 use Rattle.cfa_convergence.specs.Conflicts.{HasActs, was_visited}
 use Rattle.cfa_convergence.specs.Contained.{with_acts, actuations}
 use Rattle.cfa_laws.specs.Keys.{IsKeyed, IsResolved, InstancesAreKeyed}

@@ -5,8 +5,8 @@ use Rattle.std.specs.List.{AllByRecursion as Each}
 use Rattle.cfa_outside.specs.declared.worlds.World.{World}
 use Rattle.cfa_outside.specs.Worlds.{HasParents}
 use Rattle.cfa_resolve.specs.declared.instances.Instance.{Instance}
-use Rattle.cfa_walk.specs.History.{History}
-use Rattle.cfa_walk.specs.Tellers.{actuated, acts_of}
+use Rattle.cfa_states.specs.History.{History}
+use Rattle.cfa_states.specs.Tellers.{actuated, acts_of}
 use Rattle.cfa_laws.specs.Keys.{IsKeyed}
 use Rattle.cfa_convergence.specs.Keys.{KeysTellWorks}
 use Rattle.cfa_convergence.specs.Conflicts.{IsLive, is_same, IsAfter, AreFree}

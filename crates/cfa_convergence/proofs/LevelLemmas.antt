@@ -25,11 +25,11 @@ use Rattle.cfa_served.specs.Served.{bundle_of, common_bundles_of}
 use Rattle.cfa_tree.specs.Tree.{NamedTree, BlockTree}
 use Rattle.cfa_vars.specs.declared.scoping.Datum.{Datum}
 use Rattle.cfa_vars.specs.Expansion.{Chosen}
-use Rattle.cfa_walk.specs.History.{History, Where, everywhere, within, Begun, Set, Raised, Reached, Listed, mark_in, visits_in}
-use Rattle.cfa_walk.specs.Numbered.{Numbered, numbered_in, params_of, name_of, agent_types, common_types, is_type, of_type}
-use Rattle.cfa_walk.specs.Passes.{Course, goes, too_large, then_on, each, told, Calls, tell, worked, visited, visit_status, visit, instances_from, set_each, handed, raise_all, most_visits, within_limit, reached, vars_reached, classes_reached, sets_variable, bind, acting_reached, kept_by, guarded, reach, promises_from, types_from, passes, through, activation, called_by, calls_of, all_calls, through_common, commons_from, common_passes, by_type, type_of_block, in_sequence, sequence_from, run}
-use Rattle.cfa_walk.specs.Tellers.{inner_path}
-use Rattle.cfa_walk.specs.Views.{Setting, Home, scopes_in, status_in, guard_status, reached_in_history}
+use Rattle.cfa_states.specs.History.{History, Where, everywhere, within, Begun, Set, Raised, Reached, Listed, mark_in, visits_in}
+use Rattle.cfa_states.specs.Numbered.{Numbered, numbered_in, params_of, name_of, agent_types, common_types, is_type, of_type}
+use Rattle.cfa_states.specs.Passes.{Course, goes, too_large, then_on, each, told, Calls, tell, worked, visited, visit_status, visit, instances_from, set_each, handed, raise_all, most_visits, within_limit, reached, vars_reached, classes_reached, sets_variable, bind, acting_reached, kept_by, guarded, reach, promises_from, types_from, passes, through, activation, called_by, calls_of, all_calls, through_common, commons_from, common_passes, by_type, type_of_block, in_sequence, sequence_from, run}
+use Rattle.cfa_states.specs.Tellers.{inner_path}
+use Rattle.cfa_states.specs.Views.{Setting, Home, scopes_in, status_in, guard_status, reached_in_history}
 use Rattle.cfa_convergence.specs.Conflicts.{HasActs}
 use Rattle.cfa_convergence.specs.Told.{Telling, teller_of}
 

@@ -8,7 +8,7 @@ use Rattle.cfa_base.specs.lemmas.EqualTexts.{same_text, is_text}
 use Rattle.cfa_resolve.specs.declared.instances.Instance.{Instance}
 use Rattle.cfa_resolve.specs.declared.instances.Work.{Work}
 use Rattle.cfa_resolve.specs.declared.instances.Work.TheVariants.{Acts, Call, Report}
-use Rattle.cfa_walk.specs.Tellers.{acts_of}
+use Rattle.cfa_states.specs.Tellers.{acts_of}
 use Rattle.cfa_laws.specs.Keys.{IsGiven, AreGiven, IsKeyed}
 use Rattle.cfa_convergence.specs.Keys.{AreAlike, KeysTellWorks}
 use Rattle.cfa_convergence.specs.Conflicts.{HasActs, is_same}

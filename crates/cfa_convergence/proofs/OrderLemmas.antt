@@ -7,8 +7,8 @@ use Rattle.cfa_outcomes.specs.declared.outcomes.Outcome.{Outcome}
 use Rattle.cfa_resolve.specs.declared.instances.Instance.{Instance}
 use Rattle.cfa_resolve.specs.declared.instances.Work.{Work}
 use Rattle.cfa_resolve.specs.declared.instances.Work.TheVariants.{Acts, Call, Report}
-use Rattle.cfa_walk.specs.History.{History, everywhere, Raised, Listed, Told, mark_in}
-use Rattle.cfa_walk.specs.Passes.{raise_each, raised_to, in_every_list}
+use Rattle.cfa_states.specs.History.{History, everywhere, Raised, Listed, Told, mark_in}
+use Rattle.cfa_states.specs.Passes.{raise_each, raised_to, in_every_list}
 use Rattle.cfa_laws.specs.Keys.{IsKeyed}
 use Rattle.cfa_convergence.specs.Keys.{KeysTellWorks}
 use Rattle.cfa_convergence.specs.Conflicts.{HasActs, was_visited, is_same, IsAfter}

@@ -3,8 +3,8 @@ use Rattle.std.proofs.Common.{Bool, true, false, List, [], ◌∷◌, cond}
 use Rattle.std.specs.List.{AllByRecursion as Each}
 use Rattle.cfa_kinds.specs.declared.kinds.PromiseType.{PromiseType}
 use Rattle.cfa_tree.specs.Tree.{BlockTree}
-use Rattle.cfa_walk.specs.Numbered.{Numbered, numbered_in, name_of, common_types, is_type, of_type}
-use Rattle.cfa_walk.specs.Views.{Home}
+use Rattle.cfa_states.specs.Numbered.{Numbered, numbered_in, name_of, common_types, is_type, of_type}
+use Rattle.cfa_states.specs.Views.{Home}
 use Rattle.cfa_convergence.specs.Policies.{IsOneLine, IsKnown, IsKnownCommon}
 
 -- a promise that is reached anywhere

@@ -34,8 +34,8 @@ use Rattle.cfa_schema.specs.lemmas.Found.{word_bytes, given}
 use Rattle.cfa_schema.specs.lemmas.Passing.{block_passes, never_other}
 use Rattle.cfa_schema.specs.Sourced.{IsSourced}
 use Rattle.cfa_schema.specs.Valid.{Valid, bundle_by}
-use Rattle.cfa_walk.specs.Numbered.{Numbered, numbered_as, numbered_from, numbered_in, name_of}
-use Rattle.cfa_walk.specs.lemmas.PlainNames.{plain_names}
+use Rattle.cfa_states.specs.Numbered.{Numbered, numbered_as, numbered_from, numbered_in, name_of}
+use Rattle.cfa_states.specs.lemmas.PlainNames.{plain_names}
 use Rattle.cfa_convergence.specs.Policies.{IsKnown, IsKnownCommon, HasKnown}
 
 -- ---- words

@@ -11,10 +11,10 @@ use Rattle.cfa_outcomes.specs.declared.outcomes.Outcome.TheVariants.{Kept, Repai
 use Rattle.cfa_resolve.specs.declared.instances.Instance.{Instance}
 use Rattle.cfa_vars.specs.declared.scoping.Datum.{Datum}
 use Rattle.cfa_vars.specs.Named.{put}
-use Rattle.cfa_walk.specs.History.{History, Where, everywhere, within, Begun, Set, Raised, Reached, Listed, Told, scope_in, globally, locally, mark_in}
-use Rattle.cfa_walk.specs.Numbered.{Numbered}
-use Rattle.cfa_walk.specs.Tellers.{inner_path}
-use Rattle.cfa_walk.specs.Views.{Setting, Home, reached_in_history}
+use Rattle.cfa_states.specs.History.{History, Where, everywhere, within, Begun, Set, Raised, Reached, Listed, Told, scope_in, globally, locally, mark_in}
+use Rattle.cfa_states.specs.Numbered.{Numbered}
+use Rattle.cfa_states.specs.Tellers.{inner_path}
+use Rattle.cfa_states.specs.Views.{Setting, Home, reached_in_history}
 use Rattle.cfa_laws.specs.Keys.{IsPlainId, IsResolved, InstancesAreKeyed}
 use Rattle.cfa_convergence.specs.Told.{Telling}
 use Rattle.cfa_convergence.proofs.AlwaysLemmas.{Kept_along, steps_along}

@@ -15,8 +15,8 @@ use Rattle.cfa_outcomes.specs.declared.outcomes.Outcome.TheVariants.{Kept, Repai
 use Rattle.cfa_resolve.specs.declared.instances.Instance.{Instance}
 use Rattle.cfa_resolve.specs.declared.instances.Work.{Work}
 use Rattle.cfa_resolve.specs.declared.instances.Work.TheVariants.{Acts, Call, Report}
-use Rattle.cfa_walk.specs.History.{History, Begun, Set, Raised, Reached, Listed, Told}
-use Rattle.cfa_walk.specs.Tellers.{Actuated, actuated, after_all, acts_of, outcome_by}
+use Rattle.cfa_states.specs.History.{History, Begun, Set, Raised, Reached, Listed, Told}
+use Rattle.cfa_states.specs.Tellers.{Actuated, actuated, after_all, acts_of, outcome_by}
 use Rattle.cfa_agent.specs.Actuations.{Mark, mark_of, done_by, done_on, outcome_done, appended, changed, run_record, closing_record, entries_of}
 use Rattle.cfa_agent.specs.Hosts.{SameHost}
 use Rattle.cfa_agent.specs.lemmas.Hosts.{after_both, same_trans, same_after, same_recorded, same_run}

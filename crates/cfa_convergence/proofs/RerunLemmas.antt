@@ -9,9 +9,9 @@ use Rattle.cfa_outcomes.specs.declared.outcomes.Outcome.TheVariants.{Kept}
 use Rattle.cfa_resolve.specs.declared.instances.Instance.{Instance}
 use Rattle.cfa_resolve.specs.declared.instances.Work.{Work}
 use Rattle.cfa_resolve.specs.declared.instances.Work.TheVariants.{Acts, Call, Report}
-use Rattle.cfa_walk.specs.History.{History, Begun, Set, Raised, Reached, Listed, Told}
-use Rattle.cfa_walk.specs.Passes.{goes, run}
-use Rattle.cfa_walk.specs.Tellers.{no_more, actuated, acts_of, worse, worst, worst_in, inner_path}
+use Rattle.cfa_states.specs.History.{History, Begun, Set, Raised, Reached, Listed, Told}
+use Rattle.cfa_states.specs.Passes.{goes, run}
+use Rattle.cfa_states.specs.Tellers.{no_more, actuated, acts_of, worse, worst, worst_in, inner_path}
 use Rattle.cfa_agent.specs.Actuations.{done_by, done_on, outcome_done, entries_of}
 use Rattle.cfa_agent.specs.Runs.{Start, actuations_in, has_record, work_entries, log_in, world_in, outcome_by_work, real, history_of, run_of, log_of, quiet_start}
 use Rattle.cfa_convergence.specs.Conflicts.{HasActs, was_visited, is_same}

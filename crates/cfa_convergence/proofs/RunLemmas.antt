@@ -17,11 +17,11 @@ use Rattle.cfa_served.specs.Served.{bundle_of, common_bundles_of}
 use Rattle.cfa_tree.specs.Tree.{BlockTree}
 use Rattle.cfa_vars.specs.declared.scoping.Datum.{Datum}
 use Rattle.cfa_vars.specs.Scopes.{Table}
-use Rattle.cfa_walk.specs.History.{History, everywhere, within, Begun, scope_in, locally}
-use Rattle.cfa_walk.specs.Numbered.{numbered_in, params_of, name_of, common_types, of_type}
-use Rattle.cfa_walk.specs.Passes.{goes, bind, passes, activation, called_by, calls_of, all_calls, through_common, commons_from, common_passes, by_type, type_of_block, in_sequence, sequence_from, run}
-use Rattle.cfa_walk.specs.Tellers.{Teller, inner_path}
-use Rattle.cfa_walk.specs.Views.{Setting, Home}
+use Rattle.cfa_states.specs.History.{History, everywhere, within, Begun, scope_in, locally}
+use Rattle.cfa_states.specs.Numbered.{numbered_in, params_of, name_of, common_types, of_type}
+use Rattle.cfa_states.specs.Passes.{goes, bind, passes, activation, called_by, calls_of, all_calls, through_common, commons_from, common_passes, by_type, type_of_block, in_sequence, sequence_from, run}
+use Rattle.cfa_states.specs.Tellers.{Teller, inner_path}
+use Rattle.cfa_states.specs.Views.{Setting, Home}
 use Rattle.cfa_convergence.specs.Contained.{unfailing, IsSettled, LiesWithin, UnfailingRunsAreContained}
 use Rattle.cfa_laws.specs.Keys.{IsResolved, InstancesAreKeyed}
 use Rattle.cfa_convergence.specs.Keys.{KeysTellWorks}

@@ -8,9 +8,9 @@ use Rattle.cfa_output.specs.declared.ends.Stop.{Stop}
 use Rattle.cfa_outside.specs.Sites.{Told, after, adds}
 use Rattle.cfa_outside.specs.Worlds.{HasParents}
 use Rattle.cfa_tree.specs.Tree.{PolicyTree}
-use Rattle.cfa_walk.specs.History.{History}
-use Rattle.cfa_walk.specs.Passes.{Course, goes, too_large}
-use Rattle.cfa_walk.specs.Views.{Setting}
+use Rattle.cfa_states.specs.History.{History}
+use Rattle.cfa_states.specs.Passes.{Course, goes, too_large}
+use Rattle.cfa_states.specs.Views.{Setting}
 use Rattle.cfa_agent.specs.declared.running.Tally.{Tally}
 use Rattle.cfa_agent.specs.Ran.{started, IsWhole, RunsAs, IfBothTold, counts_of}
 use Rattle.cfa_agent.specs.Runs.{Start, world_in, tally_in, log_in, history_of, run_of, log_of, tally_of}

@@ -6,10 +6,10 @@ use Rattle.cfa_statuses.specs.declared.levels.Status.{Status}
 use Rattle.cfa_statuses.specs.declared.levels.Status.TheVariants.{No, Maybe, Yes}
 use Rattle.cfa_statuses.specs.Status.{greater}
 use Rattle.cfa_resolve.specs.declared.instances.Instance.{Instance}
-use Rattle.cfa_walk.specs.History.{History, Begun, Set, Raised, Reached, Listed, Told, mark_in}
-use Rattle.cfa_walk.specs.Passes.{goes, run}
-use Rattle.cfa_walk.specs.Tellers.{acts_of}
-use Rattle.cfa_walk.specs.Views.{Setting}
+use Rattle.cfa_states.specs.History.{History, Begun, Set, Raised, Reached, Listed, Told, mark_in}
+use Rattle.cfa_states.specs.Passes.{goes, run}
+use Rattle.cfa_states.specs.Tellers.{acts_of}
+use Rattle.cfa_states.specs.Views.{Setting}
 use Rattle.cfa_agent.specs.Runs.{Start, real, world_in, run_of}
 use Rattle.cfa_convergence.specs.Conflicts.{was_visited, is_same, IsLive, IsAfter, first_status}
 use Rattle.cfa_convergence.specs.Contained.{unfailing, actuations, LiesWithin, UnfailingRunsAreContained}

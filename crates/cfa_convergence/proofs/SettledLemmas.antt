@@ -5,11 +5,11 @@ use Rattle.std.specs.List.{AllByRecursion as Each, filter_map, cons_option}
 use Rattle.cfa_base.specs.lemmas.Lists.{none_left, none_right}
 use Rattle.cfa_statuses.specs.declared.levels.Status.{Status}
 use Rattle.cfa_statuses.specs.declared.levels.Status.TheVariants.{No, Maybe, Yes}
-use Rattle.cfa_walk.specs.History.{History, Begun, Set, Raised, Reached, Listed, Told, global_source}
-use Rattle.cfa_walk.specs.Numbered.{Numbered}
-use Rattle.cfa_walk.specs.Views.{Setting, Home}
-use Rattle.cfa_walk.specs.Waits.{wait_of_guard}
-use Rattle.cfa_walk.specs.Walks.{blame_for, blame_edit, own_unsettled, unsettled_edits, edits_unsettled, unsettled_promises}
+use Rattle.cfa_states.specs.History.{History, Begun, Set, Raised, Reached, Listed, Told, global_source}
+use Rattle.cfa_states.specs.Numbered.{Numbered}
+use Rattle.cfa_states.specs.Views.{Setting, Home}
+use Rattle.cfa_states.specs.Waits.{wait_of_guard}
+use Rattle.cfa_states.specs.Walks.{blame_for, blame_edit, own_unsettled, unsettled_edits, edits_unsettled, unsettled_promises}
 use Rattle.cfa_convergence.specs.Contained.{GuardIsSettled, EditsAreSettled, IsSettled}
 use Rattle.cfa_convergence.specs.Keys.{KeysTellWorks}
 use Rattle.cfa_laws.specs.Keys.{InstancesAreKeyed, KeysAreLines}

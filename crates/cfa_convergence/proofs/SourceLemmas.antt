@@ -13,10 +13,10 @@ use Rattle.cfa_vars.specs.declared.scoping.Datum.{Datum}
 use Rattle.cfa_defines.specs.FirstMaybe.{first_maybe_of_guard}
 use Rattle.cfa_defines.specs.ClassPromises.{Raise}
 use Rattle.cfa_base.specs.Index.{is_listed}
-use Rattle.cfa_walk.specs.History.{History, Where, everywhere, within, Begun, Raised, globally, locally, global_source, local_source, source_in}
-use Rattle.cfa_walk.specs.Passes.{handed, raise_event, raise_all}
-use Rattle.cfa_walk.specs.Views.{Setting, from_start, global_status, status_in, guard_status, source_of}
-use Rattle.cfa_walk.specs.Waits.{wait_on, wait_of_guard}
+use Rattle.cfa_states.specs.History.{History, Where, everywhere, within, Begun, Raised, globally, locally, global_source, local_source, source_in}
+use Rattle.cfa_states.specs.Passes.{handed, raise_event, raise_all}
+use Rattle.cfa_states.specs.Views.{Setting, from_start, global_status, status_in, guard_status, source_of}
+use Rattle.cfa_states.specs.Waits.{wait_on, wait_of_guard}
 use Rattle.cfa_laws.specs.Sources.{IsFirst, RaiseHasFirst}
 use Rattle.cfa_laws.specs.lemmas.MaybeClasses.{lesser_maybe, greater_maybe, maybe_first}
 

@@ -12,10 +12,10 @@ use Rattle.cfa_resolve.specs.Resolution.{resolution}
 use Rattle.cfa_served.specs.Control.{sequence_of}
 use Rattle.cfa_served.specs.Served.{common_bundles_of}
 use Rattle.cfa_tree.specs.Tree.{BlockTree}
-use Rattle.cfa_walk.specs.History.{History, everywhere, Raised, Listed, Told}
-use Rattle.cfa_walk.specs.Numbered.{numbered_in, name_of, common_types, of_type}
-use Rattle.cfa_walk.specs.Passes.{Course, goes, too_large, then_on, told, raised_to, in_every_list, classes_for, raise_each, raise_lists, run}
-use Rattle.cfa_walk.specs.Views.{Setting, Home, reached_in_history}
+use Rattle.cfa_states.specs.History.{History, everywhere, Raised, Listed, Told}
+use Rattle.cfa_states.specs.Numbered.{numbered_in, name_of, common_types, of_type}
+use Rattle.cfa_states.specs.Passes.{Course, goes, too_large, then_on, told, raised_to, in_every_list, classes_for, raise_each, raise_lists, run}
+use Rattle.cfa_states.specs.Views.{Setting, Home, reached_in_history}
 use Rattle.cfa_convergence.specs.Conflicts.{HasActs}
 use Rattle.cfa_convergence.specs.Told.{Telling, teller_of, TellAlike, outcomes_by, IsToldBy, RunsAreDetermined, RunsAreTold}
 use Rattle.cfa_convergence.proofs.LevelLemmas.{IsCall, IsReport, Steps, run_level}

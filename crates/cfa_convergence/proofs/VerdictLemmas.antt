@@ -19,15 +19,15 @@ use Rattle.cfa_resolve.specs.declared.instances.Instance.{Instance}
 use Rattle.cfa_resolve.specs.declared.instances.Work.{Work}
 use Rattle.cfa_resolve.specs.declared.instances.Work.TheVariants.{Acts, Call, Report}
 use Rattle.cfa_tree.specs.Tree.{PolicyTree}
-use Rattle.cfa_walk.specs.declared.walks.Blame.{Blame}
-use Rattle.cfa_walk.specs.declared.walks.Visit.{Visit}
-use Rattle.cfa_walk.specs.declared.walks.Walk.{Walk}
-use Rattle.cfa_walk.specs.History.{History, Begun, Set, Raised, Reached, Listed, Told}
-use Rattle.cfa_walk.specs.Passes.{Course, goes, too_large, run}
-use Rattle.cfa_walk.specs.Tellers.{acts_of, all_kept, open_walk}
-use Rattle.cfa_walk.specs.Views.{Setting}
-use Rattle.cfa_walk.specs.Waits.{is_first}
-use Rattle.cfa_walk.specs.Walks.{with_first, listed_instances, unsettled_promises, walked}
+use Rattle.cfa_states.specs.declared.walks.Blame.{Blame}
+use Rattle.cfa_states.specs.declared.walks.Visit.{Visit}
+use Rattle.cfa_states.specs.declared.walks.Walk.{Walk}
+use Rattle.cfa_states.specs.History.{History, Begun, Set, Raised, Reached, Listed, Told}
+use Rattle.cfa_states.specs.Passes.{Course, goes, too_large, run}
+use Rattle.cfa_states.specs.Tellers.{acts_of, all_kept, open_walk}
+use Rattle.cfa_states.specs.Views.{Setting}
+use Rattle.cfa_states.specs.Waits.{is_first}
+use Rattle.cfa_states.specs.Walks.{with_first, listed_instances, unsettled_promises, walked}
 use Rattle.cfa_convergence.specs.Conflicts.{HasActs, was_visited, IsLive, is_same, AreQuiet, AreSpared, SpareThemselves, AreFree}
 use Rattle.cfa_convergence.specs.Contained.{LiesWithin, IsSettled}
 use Rattle.cfa_laws.specs.Keys.{IsKeyed, InstancesAreKeyed, KeysAreLines}

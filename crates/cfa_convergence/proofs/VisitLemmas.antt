@@ -12,11 +12,11 @@ use Rattle.cfa_statuses.specs.Status.{greater}
 use Rattle.cfa_conflict.specs.Conflicts.{first_visit, has_visit, is_visited_after}
 use Rattle.cfa_conflict.specs.lemmas.Anywhere.{in_left}
 use Rattle.cfa_resolve.specs.declared.instances.Instance.{Instance}
-use Rattle.cfa_walk.specs.declared.walks.Visit.{Visit}
-use Rattle.cfa_walk.specs.History.{History, Begun, Set, Raised, Reached, Listed, Told, is_named, mark_in}
-use Rattle.cfa_walk.specs.Views.{Setting}
-use Rattle.cfa_walk.specs.Waits.{is_unvisited, is_first, waits_in}
-use Rattle.cfa_walk.specs.Walks.{with_first, listed_instances, blame_for, blame_by, listing_by, listings, visit_of}
+use Rattle.cfa_states.specs.declared.walks.Visit.{Visit}
+use Rattle.cfa_states.specs.History.{History, Begun, Set, Raised, Reached, Listed, Told, is_named, mark_in}
+use Rattle.cfa_states.specs.Views.{Setting}
+use Rattle.cfa_states.specs.Waits.{is_unvisited, is_first, waits_in}
+use Rattle.cfa_states.specs.Walks.{with_first, listed_instances, blame_for, blame_by, listing_by, listings, visit_of}
 use Rattle.cfa_convergence.specs.Conflicts.{was_listed, was_visited, is_same, IsAfter, first_status}
 use Rattle.cfa_convergence.proofs.BlameLemmas.{greater_real, not_unvisited, AreBlamed}
 use Rattle.cfa_convergence.proofs.KnownLemmas.{AreKnown, just_visited}

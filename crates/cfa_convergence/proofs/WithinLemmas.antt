@@ -4,7 +4,7 @@ use Rattle.std.proofs.Common.{◌≡◌, refl, Bool, true, false, ◌⊎◌, inl
 use Rattle.cfa_statuses.specs.declared.levels.Status.{Status}
 use Rattle.cfa_statuses.specs.declared.levels.Status.TheVariants.{No, Maybe, Yes}
 use Rattle.cfa_statuses.specs.Status.{lesser, greater}
-use Rattle.cfa_walk.specs.Passes.{visit_status}
+use Rattle.cfa_states.specs.Passes.{visit_status}
 use Rattle.cfa_laws.specs.Statuses.{Within, no_no, no_maybe, yes_maybe, yes_yes}
 use Rattle.cfa_laws.specs.lemmas.Within.{within_swapped, within_lesser, within_greater}
 

@@ -10,8 +10,8 @@ use Rattle.cfa_statuses.specs.declared.levels.Status.{Status}
 use Rattle.cfa_statuses.specs.declared.levels.Status.TheVariants.{No, Yes}
 use Rattle.cfa_resolve.specs.declared.instances.Instance.{Instance}
 use Rattle.cfa_resolve.specs.declared.instances.Work.{Work}
-use Rattle.cfa_walk.specs.History.{History, Begun, Set, Raised, Reached, Listed, Told, is_named}
-use Rattle.cfa_walk.specs.Tellers.{acts_of}
+use Rattle.cfa_states.specs.History.{History, Begun, Set, Raised, Reached, Listed, Told, is_named}
+use Rattle.cfa_states.specs.Tellers.{acts_of}
 use Rattle.cfa_conflict.specs.Conflicts.{has_acts}
 use Rattle.cfa_laws.specs.Keys.{IsKeyed}
 

@@ -11,8 +11,8 @@ use Rattle.cfa_outside.specs.Worlds.{HasParents}
 use Rattle.cfa_acts.specs.declared.acts.Act.{Act}
 use Rattle.cfa_acts.specs.Acts.{post}
 use Rattle.cfa_resolve.specs.declared.instances.Instance.{Instance}
-use Rattle.cfa_walk.specs.History.{History}
-use Rattle.cfa_walk.specs.Tellers.{actuated, after_all, acts_of}
+use Rattle.cfa_states.specs.History.{History}
+use Rattle.cfa_states.specs.Tellers.{actuated, after_all, acts_of}
 use Rattle.cfa_agent.specs.Hosts.{SameHost}
 use Rattle.cfa_laws.specs.Keys.{IsKeyed}
 use Rattle.cfa_convergence.specs.Conflicts.{IsLive, is_same, IsAfter, AreFree}

@@ -5,8 +5,8 @@ use Rattle.std.specs.List.{AllByRecursion as Each, Contains}
 use Rattle.cfa_laws.specs.Keys.{IsPlainId, HasPlainCall}
 use Rattle.cfa_served.specs.Served.{bundle_of, common_bundles_of}
 use Rattle.cfa_tree.specs.Tree.{BlockTree, PolicyTree}
-use Rattle.cfa_walk.specs.Levels.{HasPlainNames}
-use Rattle.cfa_walk.specs.Numbered.{Numbered, numbered_in, name_of}
+use Rattle.cfa_states.specs.Levels.{HasPlainNames}
+use Rattle.cfa_states.specs.Numbered.{Numbered, numbered_in, name_of}
 
 -- a name without a newline
 abbrev pub IsOneLine : List ℕ → Type 0

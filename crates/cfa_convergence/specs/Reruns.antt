@@ -3,10 +3,10 @@
 use Rattle.std.specs.Prelude.{◌≡◌, ℕ, []}
 use Rattle.cfa_outside.specs.declared.worlds.World.{World}
 use Rattle.cfa_resolve.specs.declared.instances.Instance.{Instance}
-use Rattle.cfa_walk.specs.History.{History}
-use Rattle.cfa_walk.specs.Passes.{goes, run}
-use Rattle.cfa_walk.specs.Tellers.{all_kept, acts_of}
-use Rattle.cfa_walk.specs.Views.{Setting}
+use Rattle.cfa_states.specs.History.{History}
+use Rattle.cfa_states.specs.Passes.{goes, run}
+use Rattle.cfa_states.specs.Tellers.{all_kept, acts_of}
+use Rattle.cfa_states.specs.Views.{Setting}
 use Rattle.cfa_agent.specs.Runs.{run_of, log_of, quiet_start}
 use Rattle.cfa_laws.specs.Keys.{IsKeyed}
 use Rattle.cfa_convergence.specs.Conflicts.{IsLive}

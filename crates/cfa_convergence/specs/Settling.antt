@@ -4,10 +4,10 @@
 use Rattle.std.specs.Prelude.{◌≡◌, false}
 use Rattle.cfa_outside.specs.Worlds.{HasParents}
 use Rattle.cfa_resolve.specs.declared.instances.Instance.{Instance}
-use Rattle.cfa_walk.specs.History.{History}
-use Rattle.cfa_walk.specs.Passes.{goes, run}
-use Rattle.cfa_walk.specs.Tellers.{all_kept, open_walk, acts_of}
-use Rattle.cfa_walk.specs.Views.{Setting}
+use Rattle.cfa_states.specs.History.{History}
+use Rattle.cfa_states.specs.Passes.{goes, run}
+use Rattle.cfa_states.specs.Tellers.{all_kept, open_walk, acts_of}
+use Rattle.cfa_states.specs.Views.{Setting}
 use Rattle.cfa_agent.specs.Runs.{Start, world_in, tally_in, run_of}
 use Rattle.cfa_laws.specs.Keys.{IsKeyed}
 use Rattle.cfa_convergence.specs.Conflicts.{AreFree, IsLive}

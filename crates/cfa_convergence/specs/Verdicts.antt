@@ -5,9 +5,9 @@ use Rattle.cfa_conflict.specs.declared.verdicts.Verdict.TheVariants.{Accepted}
 use Rattle.cfa_conflict.specs.Analyses.{analysis_of}
 use Rattle.cfa_outside.specs.Worlds.{HasParents}
 use Rattle.cfa_tree.specs.Tree.{PolicyTree}
-use Rattle.cfa_walk.specs.History.{History}
-use Rattle.cfa_walk.specs.Passes.{goes}
-use Rattle.cfa_walk.specs.Views.{Setting}
+use Rattle.cfa_states.specs.History.{History}
+use Rattle.cfa_states.specs.Passes.{goes}
+use Rattle.cfa_states.specs.Views.{Setting}
 use Rattle.cfa_agent.specs.Runs.{Start, world_in, tally_in, run_of}
 use Rattle.cfa_convergence.specs.Settled.{Settles}
 use Rattle.cfa_convergence.specs.Settling.{IsFreeOfConflicts}

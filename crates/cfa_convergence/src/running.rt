@@ -1,6 +1,6 @@
 // A run of a policy, and what the verdict on it promises.
 ghost use Rattle.std.specs.Prelude.{◌≡◌, ◌≤◌, ℕ, IfErr, IfOk, IsErrOf, OnOk, Some, false};
-ghost use Rattle.cfa_walk.specs.Levels.{IsTooLarge};
+ghost use Rattle.cfa_states.specs.Levels.{IsTooLarge};
 ghost use Rattle.cfa_walk.specs.Settings.{setting_of};
 ghost use Rattle.cfa_agent.specs.Runs.{run_of};
 ghost use Rattle.cfa_agent.specs.Ran.{started, RunsAs, RunBuilds, IfBothTold, text_too_big, StopsRun, Refuses};

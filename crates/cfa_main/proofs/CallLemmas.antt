@@ -17,7 +17,7 @@ use Rattle.cfa_output.specs.declared.ends.Failure.{Failure}
 use Rattle.cfa_output.specs.declared.ends.Failure.TheVariants.{Refused, Stopped}
 use Rattle.cfa_output.specs.Lines.{words_line, moment_line, memory_line, visits_line, pattern_line, stop_line}
 use Rattle.cfa_sources.specs.Sources.{Texts}
-use Rattle.cfa_walk.specs.Views.{Setting}
+use Rattle.cfa_states.specs.Views.{Setting}
 use Rattle.cfa_conflict.specs.Analyses.{AnalysisBuilds, analysis_of}
 use Rattle.cfa_agent.specs.Actuations.{Mark}
 use Rattle.cfa_agent.specs.Marks.{marks_of}

@@ -10,7 +10,7 @@ use Rattle.cfa_printer.specs.Printing.{printed}
 use Rattle.cfa_journal.specs.Journals.{OneJournal, NeverBoth, OneBadRecord}
 use Rattle.cfa_sources.specs.Sources.{Texts}
 use Rattle.cfa_sources.specs.Laws.{FileTreeIsOne, FileLineIsOne, FileNeverBoth, PolicyTreeIsOne, PolicyLineIsOne, PolicyNeverBoth}
-use Rattle.cfa_walk.specs.Views.{Setting}
+use Rattle.cfa_states.specs.Views.{Setting}
 use Rattle.cfa_conflict.specs.declared.verdicts.Verdict.{Verdict}
 use Rattle.cfa_conflict.specs.declared.verdicts.Verdict.TheVariants.{Accepted, Conflict as InConflictBy}
 use Rattle.cfa_conflict.specs.Analyses.{analysis_of}

@@ -11,7 +11,7 @@ use Rattle.cfa_schema.specs.declared.checked.Checked.{Checked}
 use Rattle.cfa_classes.specs.Calendar.{hard_classes}
 use Rattle.cfa_sources.specs.Checks.{IsValidAs}
 use Rattle.cfa_sources.specs.Readings.{PolicyRead}
-use Rattle.cfa_walk.specs.Views.{Setting}
+use Rattle.cfa_states.specs.Views.{Setting}
 use Rattle.cfa_main.specs.declared.work.PolicyInContext.{PolicyInContext}
 use Rattle.cfa_main.specs.declared.work.PolicyRun.{PolicyRun}
 use Rattle.cfa_main.specs.Calls.{TakesPolicy, TakesRun}

@@ -11,7 +11,7 @@ use Rattle.cfa_output.specs.declared.ends.Failure.TheVariants.{Refused, Stopped}
 use Rattle.cfa_output.specs.declared.items.End.TheVariants.{Yes}
 use Rattle.cfa_output.specs.Lines.{settled_line}
 use Rattle.cfa_sources.specs.Sources.{Texts}
-use Rattle.cfa_walk.specs.Views.{Setting}
+use Rattle.cfa_states.specs.Views.{Setting}
 use Rattle.cfa_conflict.specs.declared.verdicts.Verdict.{Verdict}
 use Rattle.cfa_conflict.specs.declared.verdicts.Verdict.TheVariants.{Accepted, Conflict as InConflictBy}
 use Rattle.cfa_conflict.specs.Conflicts.{code_of}

@@ -9,8 +9,8 @@ use Rattle.cfa_output.specs.declared.ends.Object.TheVariants.{Inputs, Site, Sink
 use Rattle.cfa_output.specs.declared.ends.Stop.{Stop}
 use Rattle.cfa_output.specs.declared.ends.Stop.TheVariants.{Outside, Memory, Visits, Pattern}
 use Rattle.cfa_sources.specs.Readings.{text_too_big}
-use Rattle.cfa_walk.specs.Levels.{IsTooLarge}
-use Rattle.cfa_walk.specs.Views.{Setting}
+use Rattle.cfa_states.specs.Levels.{IsTooLarge}
+use Rattle.cfa_states.specs.Views.{Setting}
 use Rattle.cfa_conflict.specs.declared.verdicts.Verdict.{Verdict}
 use Rattle.cfa_conflict.specs.declared.verdicts.Verdict.TheVariants.{Accepted, Conflict as InConflictBy}
 use Rattle.cfa_conflict.specs.Analyses.{analysis_of}

@@ -21,13 +21,13 @@ use Rattle.cfa_output.specs.declared.items.End.TheVariants.{Yes, Locks, Failed, 
 use Rattle.cfa_output.specs.Lines.{words_line, moment_line, number_line, conflict_line, settled_line}
 use Rattle.cfa_sources.specs.Sources.{Texts, ReadsFile, RefusesFile}
 use Rattle.cfa_sources.specs.Checks.{Refuses, IsValidAs}
-use Rattle.cfa_walk.specs.Levels.{IsTooLarge}
-use Rattle.cfa_walk.specs.Views.{Setting}
+use Rattle.cfa_states.specs.Levels.{IsTooLarge}
+use Rattle.cfa_states.specs.Views.{Setting}
 use Rattle.cfa_conflict.specs.declared.verdicts.Verdict.{Verdict}
 use Rattle.cfa_conflict.specs.declared.verdicts.Verdict.TheVariants.{Accepted, Conflict as InConflictBy}
 use Rattle.cfa_conflict.specs.Conflicts.{code_of}
 use Rattle.cfa_conflict.specs.Analyses.{AnalysisBuilds, analysis_of}
-use Rattle.cfa_walk.specs.Builds.{BuiltOn}
+use Rattle.cfa_states.specs.Builds.{BuiltOn}
 use Rattle.cfa_agent.specs.Actuations.{Mark}
 use Rattle.cfa_agent.specs.Runs.{Start, run_of, log_of, tally_of}
 use Rattle.cfa_agent.specs.Ran.{start_of, IsWhole, text_of}

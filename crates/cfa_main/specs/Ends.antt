@@ -17,7 +17,7 @@ use Rattle.cfa_sources.specs.Checks.{RefusesSize}
 use Rattle.cfa_sources.specs.Readings.{FailsNext}
 use Rattle.cfa_agent.specs.Marks.{marks_of}
 use Rattle.cfa_agent.specs.Ran.{added, IfBothTold}
-use Rattle.cfa_walk.specs.Views.{Setting}
+use Rattle.cfa_states.specs.Views.{Setting}
 use Rattle.cfa_convergence.specs.Settled.{Settles}
 use Rattle.cfa_main.specs.Calls.{Task, RefusesRequest, AsksTask, AsksUnaccepted, NeedsTooMany, AnalysesTooMany, AnalysisBuildsText, RunBuildsText, RunsIn}
 

@@ -25,8 +25,8 @@ use Rattle.cfa_sources.specs.Sources.{Texts, IsNamed, IsNextFile}
 use Rattle.cfa_sources.specs.Checks.{Refuses as RefusesPolicy, RefusesSize}
 use Rattle.cfa_sources.specs.Readings.{ReadUpTo, stop_of, stopped_by, text_too_big}
 use Rattle.cfa_walk.specs.Settings.{setting_of}
-use Rattle.cfa_walk.specs.Levels.{IsTooLarge}
-use Rattle.cfa_walk.specs.Views.{Setting}
+use Rattle.cfa_states.specs.Levels.{IsTooLarge}
+use Rattle.cfa_states.specs.Views.{Setting}
 use Rattle.cfa_conflict.specs.declared.verdicts.Verdict.{Verdict}
 use Rattle.cfa_conflict.specs.declared.verdicts.Verdict.TheVariants.{Accepted, Conflict as InConflictBy}
 use Rattle.cfa_conflict.specs.Analyses.{AnalysisBuilds, analysis_of}

@@ -16,21 +16,22 @@ use Rattle.cfa_served.specs.Served.{bundle_of}
 use Rattle.cfa_tree.specs.Tree.{NamedTree, BlockTree, PolicyTree}
 use Rattle.cfa_vars.specs.declared.scoping.Datum.{Datum}
 use Rattle.cfa_base.specs.Index.{is_listed}
-use Rattle.cfa_walk.specs.declared.states.State.{State}
-use Rattle.cfa_walk.specs.declared.activations.Activation.{Activation}
-use Rattle.cfa_walk.specs.History.{History, Event, Begun}
-use Rattle.cfa_walk.specs.Kept.{Keeps, Stands, IsOf, IsSame, SpareShorter, home_of}
-use Rattle.cfa_walk.specs.Levels.{GoesTo, IsTooLarge, is_quiet, EndedAs, Faults, StandsAt, HasPlainNames, Ends}
-use Rattle.cfa_walk.specs.Numbered.{Numbered, name_of, numbered_in, params_of}
-use Rattle.cfa_walk.specs.Builds.{BuiltOn}
-use Rattle.cfa_walk.specs.Passes.{Course, goes, bind, activation, called_by, calls_of}
+use Rattle.cfa_states.specs.declared.states.State.{State}
+use Rattle.cfa_states.specs.declared.activations.Activation.{Activation}
+use Rattle.cfa_states.specs.History.{History, Event, Begun}
+use Rattle.cfa_states.specs.Kept.{Keeps, Stands, IsOf, IsSame, SpareShorter, home_of}
+use Rattle.cfa_states.specs.Levels.{GoesTo, IsTooLarge, is_quiet, EndedAs, Faults, StandsAt, HasPlainNames, Ends}
+use Rattle.cfa_states.specs.Numbered.{Numbered, name_of, numbered_in, params_of}
+use Rattle.cfa_states.specs.Builds.{BuiltOn}
+use Rattle.cfa_states.specs.Passes.{Course, goes, bind, activation, called_by, calls_of}
 use Rattle.cfa_walk.specs.Steps.{passes_level, call_course, CallEnds}
-use Rattle.cfa_walk.specs.Tellers.{Teller, worst_in, inner_path}
-use Rattle.cfa_walk.specs.Views.{Setting, Home, shared_names}
-use Rattle.cfa_walk.proofs.LevelLemmas.{goes_weaker, quietly_behind, later_same}
-use Rattle.cfa_walk.proofs.KeptLemmas.{keeps_begun}
-use Rattle.cfa_walk.proofs.SpareLemmas.{spare_none, spare_then, spare_begun, inner_has_newline}
-use Rattle.cfa_walk.proofs.DefiningLemmas.{home_same, passed_bind}
+use Rattle.cfa_states.specs.Tellers.{Teller, worst_in, inner_path}
+use Rattle.cfa_states.specs.Views.{Setting, Home, shared_names}
+use Rattle.cfa_states.specs.lemmas.Courses.{goes_weaker, passed_bind}
+use Rattle.cfa_walk.proofs.LevelLemmas.{quietly_behind, later_same}
+use Rattle.cfa_states.specs.lemmas.Keeping.{keeps_begun}
+use Rattle.cfa_states.specs.lemmas.Spared.{spare_none, spare_then, spare_begun, inner_has_newline}
+use Rattle.cfa_states.specs.lemmas.Later.{home_same}
 
 -- ---- the course of a call
 

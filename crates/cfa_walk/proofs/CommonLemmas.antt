@@ -1,29 +1,29 @@
 -- Promises of common bundles, and common bundles one after the other.
-use Rattle.std.proofs.Common.{◌≡◌, ◌∙◌, ℕ, ◌+◌, ◌<◌, length, take, drop, get_or, map, Bool, true, false, cond, List, [], ◌∷◌, ◌++◌, IsTrue, refl, ap, sym, subst, rules}
-use Rattle.std.specs.Prelude.{not, All, Result, Err}
+use Rattle.std.proofs.Common.{◌≡◌, ◌∙◌, ℕ, ◌+◌, ◌<◌, length, take, drop, get_or, map, true, false, cond, List, [], ◌∷◌, ◌++◌, IsTrue, refl, ap, sym, subst, rules}
+use Rattle.std.specs.Prelude.{All, Result, Err}
 use Rattle.std.proofs.lemmas.Bool.{false≢true}
 use Rattle.std.proofs.lemmas.List.{map-append, take-append-drop}
 use Rattle.std.proofs.lemmas.List.Elements.{All-get_or, filter-append}
 use denote.Enum.Bare.{sameb, same_true}
 use Rattle.cfa_kinds.specs.contracts.kinds.PromiseType.{the_type as the_types}
-use Rattle.cfa_statuses.specs.contracts.levels.Status.{the_type as the_statuses}
 use Rattle.cfa_statuses.specs.declared.levels.Status.{Status}
 use Rattle.cfa_statuses.specs.declared.levels.Status.TheVariants.{No, Maybe, Yes}
 use Rattle.cfa_kinds.specs.declared.kinds.PromiseType.{PromiseType}
 use Rattle.cfa_kinds.specs.declared.kinds.PromiseType.TheVariants.{Vars, Classes, Files, Methods, Services, Reports, DeleteLines, FieldEdits, InsertLines, ReplacePatterns}
 use Rattle.cfa_output.specs.declared.ends.Stop.{Stop}
 use Rattle.cfa_tree.specs.Tree.{PolicyTree}
-use Rattle.cfa_walk.specs.declared.states.State.{State}
-use Rattle.cfa_walk.specs.declared.activations.Activation.{Activation}
-use Rattle.cfa_walk.specs.Kept.{Stands}
-use Rattle.cfa_walk.specs.Levels.{StandsAt, HasQuietlyDone, QuietDone}
-use Rattle.cfa_walk.specs.Steps.{is_in_common, idle_level, vars_level, classes_level, common_type_level}
-use Rattle.cfa_walk.specs.History.{History, Where, everywhere}
-use Rattle.cfa_walk.specs.Numbered.{Numbered, is_type, of_type}
-use Rattle.cfa_walk.specs.Passes.{Course, goes, then_on, Calls, each, kept_by, guarded, reach, calls_of}
-use Rattle.cfa_walk.specs.Tellers.{Teller}
-use Rattle.cfa_walk.specs.Views.{Setting, Home, guard_status}
-use Rattle.cfa_walk.proofs.BuiltLemmas.{calls_kept, promises_kept}
+use Rattle.cfa_states.specs.declared.states.State.{State}
+use Rattle.cfa_states.specs.declared.activations.Activation.{Activation}
+use Rattle.cfa_states.specs.Kept.{Stands}
+use Rattle.cfa_states.specs.Levels.{StandsAt, HasQuietlyDone, QuietDone}
+use Rattle.cfa_walk.specs.Steps.{is_in_common, common_type_level}
+use Rattle.cfa_states.specs.Defining.{idle_level, vars_level, classes_level}
+use Rattle.cfa_states.specs.History.{History, Where, everywhere}
+use Rattle.cfa_states.specs.Numbered.{Numbered, is_type, of_type}
+use Rattle.cfa_states.specs.Passes.{Course, goes, then_on, Calls, each, kept_by, guarded, reach, calls_of}
+use Rattle.cfa_states.specs.Tellers.{Teller}
+use Rattle.cfa_states.specs.Views.{Setting, Home, guard_status}
+use Rattle.cfa_states.specs.lemmas.Built.{calls_kept, promises_kept}
 use Rattle.cfa_walk.proofs.LevelLemmas.{QuietKeeps, then_assoc, then_same, each_one, quiet_is, quiet_nothing, quiet_then, quiet_stops}
 
 -- ---- types
@@ -85,25 +85,6 @@ types_agree type other e = same_true the_types (search rules) _ _ (sym e)
 
 pub types_differ : (type other : PromiseType) → false ≡ sameb the_types type other → type ≡ other → ⊥
 types_differ type other e same = false≢true (e ∙ ap (λ x. sameb the_types type x) (sym same) ∙ type_agrees type)
-
-status_agrees : (status : Status) → sameb the_statuses status status ≡ true
-status_agrees No = refl
-status_agrees Maybe = refl
-status_agrees Yes = refl
-
-pub statuses_agree : (status other : Status) → true ≡ sameb the_statuses status other → status ≡ other
-statuses_agree status other e = same_true the_statuses (search rules) _ _ (sym e)
-
-pub statuses_differ : (status other : Status) → false ≡ sameb the_statuses status other → status ≡ other → ⊥
-statuses_differ status other e same = false≢true (e ∙ ap (λ x. sameb the_statuses status x) (sym same) ∙ status_agrees status)
-
-pub flipped : (b : Bool) → false ≡ not b → true ≡ b
-flipped true e = refl
-flipped false e = cc
-
-pub flipped_true : (b : Bool) → true ≡ not b → false ≡ b
-flipped_true true e = cc
-flipped_true false e = refl
 
 -- ---- a promise of a common bundle
 

@@ -1,13 +1,20 @@
 -- A promise that has instances: its visits are counted, and its instances visited.
-use Rattle.std.proofs.Common.{◌≡◌, ℕ, ◌+◌, ◌-◌, ◌≤◌, ◌<◌, Bool, false, List, ◌∷◌, ◌++◌, length, filter_map, Option, Some, All, IsTrue, inl, inr, refl, sym, ap, subst, ◌∙◌, arith}
-use Rattle.std.specs.Prelude.{nat_le, Result, Ok, Err}
+use Rattle.std.proofs.Common.{◌≡◌, ℕ, Bool, true, List, ◌∷◌, refl, ap, ◌∙◌, ◌+◌, ◌-◌, ◌≤◌, ◌<◌, false, ◌++◌, length, filter_map, Option, Some, All, IsTrue, inl, inr, sym, subst, arith}
+use Rattle.std.specs.Prelude.{◌&&◌, nat_le, Result, Ok, Err}
+use Rattle.std.specs.Str.{bytes_eq}
+use Rattle.cfa_statuses.specs.declared.levels.Status.{Status}
+use Rattle.cfa_statuses.specs.declared.levels.Status.TheVariants.{No, Maybe, Yes}
+use Rattle.cfa_resolve.specs.Resolution.{is_acting, IsBuiltFor, resolution, reached_at}
+use Rattle.cfa_states.specs.History.{History, Home, Reached, Event, within, visits_in, global_source}
+use Rattle.cfa_states.specs.Numbered.{Numbered}
+use Rattle.cfa_states.specs.Views.{Setting, Home, scopes_in, global_status, reached_in_history}
+use Rattle.cfa_states.specs.Waits.{waits_in, waits_by}
+use Rattle.cfa_base.specs.lemmas.EqualTexts.{same_text}
 use Rattle.std.proofs.Math.Path.{fun_ext}
 use Rattle.std.proofs.lemmas.Bool.{le-leb, lt-leb}
 use Rattle.std.proofs.lemmas.List.Elements.{All-weaker}
 use Rattle.cfa_base.specs.Shown.{Shown}
 use Rattle.cfa_base.specs.declared.places.PromiseId.{PromiseId}
-use Rattle.cfa_statuses.specs.declared.levels.Status.{Status}
-use Rattle.cfa_statuses.specs.declared.levels.Status.TheVariants.{No, Maybe, Yes}
 use Rattle.cfa_outcomes.specs.Environments.{source_of}
 use Rattle.cfa_statuses.specs.Raised.{Raised as Statuses, status_in}
 use Rattle.cfa_output.specs.declared.ends.Stop.{Stop}
@@ -16,37 +23,43 @@ use Rattle.cfa_resolve.specs.declared.instances.Instance.{Instance}
 use Rattle.cfa_resolve.specs.declared.instances.Resolved.{Resolved}
 use Rattle.cfa_resolve.specs.Laws.{IsInstanceOf}
 use Rattle.cfa_resolve.specs.Instances.{Reached as ReachedAt}
-use Rattle.cfa_resolve.specs.Resolution.{IsBuiltFor, resolution, reached_at, is_acting}
 use Rattle.cfa_schema.specs.Laws.{IsCounted}
 use Rattle.cfa_scripts.specs.declared.blaming.Unsettled.{Unsettled}
 use Rattle.cfa_tree.specs.Tree.{PolicyTree}
 use Rattle.cfa_vars.specs.Scopes.{InScope}
-use Rattle.cfa_walk.specs.declared.states.State.{State}
-use Rattle.cfa_walk.specs.declared.activations.Activation.{Activation}
-use Rattle.cfa_walk.specs.declared.waits.Wait.{Wait}
-use Rattle.cfa_walk.specs.declared.walks.Blame.{Blame}
-use Rattle.cfa_walk.specs.History.{History, Event, within, Reached, visits_in, global_source}
-use Rattle.cfa_walk.specs.Logs.{logged_blames}
-use Rattle.cfa_walk.specs.Waits.{waits_in, waits_by}
-use Rattle.cfa_walk.specs.Walks.{blame_edit, own_unsettled, edits_unsettled}
-use Rattle.cfa_walk.specs.Kept.{Stands, SpareShorter, home_of, scope_at, AreLater, reached_now, scopes_now}
-use Rattle.cfa_walk.specs.Levels.{GoesTo, IsTooLarge, is_quiet, Faults, StandsAt, LevelDone, PatternsAre, Ends}
-use Rattle.cfa_walk.specs.Numbered.{Numbered}
-use Rattle.cfa_walk.specs.Builds.{BuiltOn, BuiltWhere}
-use Rattle.cfa_walk.specs.Passes.{Course, within_limit, most_visits, calls_of, instances_from}
+use Rattle.cfa_states.specs.declared.states.State.{State}
+use Rattle.cfa_states.specs.declared.activations.Activation.{Activation}
+use Rattle.cfa_states.specs.declared.waits.Wait.{Wait}
+use Rattle.cfa_states.specs.declared.walks.Blame.{Blame}
+use Rattle.cfa_states.specs.Logs.{logged_blames}
+use Rattle.cfa_states.specs.Walks.{blame_edit, own_unsettled, edits_unsettled}
+use Rattle.cfa_states.specs.Kept.{Stands, SpareShorter, home_of, scope_at, AreLater, reached_now, scopes_now}
+use Rattle.cfa_states.specs.Levels.{GoesTo, IsTooLarge, is_quiet, Faults, StandsAt, LevelDone, PatternsAre, Ends}
+use Rattle.cfa_states.specs.Builds.{BuiltOn, BuiltWhere}
+use Rattle.cfa_states.specs.Passes.{Course, within_limit, most_visits, calls_of, instances_from}
 use Rattle.cfa_walk.specs.Steps.{acting_level, instances_level, resolution_at, reached_event, Counts, IsAt}
-use Rattle.cfa_walk.specs.Tellers.{Teller}
-use Rattle.cfa_walk.specs.Views.{Setting, Home, scopes_in, global_status, reached_in_history}
+use Rattle.cfa_states.specs.Tellers.{Teller}
 use Rattle.cfa_base.specs.Patterns.{SizeRefusal}
-use Rattle.cfa_walk.proofs.BuiltLemmas.{size_refused, built_where, calls_kept, instances_kept, limited_kept}
-use Rattle.cfa_walk.proofs.LevelLemmas.{goes_weaker, patterns_then}
-use Rattle.cfa_walk.proofs.SpareLemmas.{spare_then, spare_reached}
-use Rattle.cfa_walk.proofs.ActivationLemmas.{scopes_are}
-use Rattle.cfa_walk.proofs.KeptLemmas.{keeps_reached}
-use Rattle.cfa_walk.proofs.LaterLemmas.{here_by, later_by}
-use Rattle.cfa_walk.proofs.LocalLemmas.{local_waits}
-use Rattle.cfa_walk.proofs.WaitLemmas.{waits_here}
-use Rattle.cfa_walk.proofs.DefiningLemmas.{fits, exceeds}
+use Rattle.cfa_states.specs.lemmas.Built.{size_refused, built_where, calls_kept, instances_kept, limited_kept}
+use Rattle.cfa_states.specs.lemmas.Courses.{goes_weaker, fits, exceeds}
+use Rattle.cfa_walk.proofs.LevelLemmas.{patterns_then}
+use Rattle.cfa_states.specs.lemmas.Spared.{spare_then, spare_reached}
+use Rattle.cfa_states.specs.lemmas.Scopes.{scopes_are}
+use Rattle.cfa_states.specs.lemmas.Keeping.{keeps_reached}
+use Rattle.cfa_states.specs.lemmas.Later.{here_by, later_by}
+use Rattle.cfa_states.specs.lemmas.Locals.{local_waits}
+
+-- ---- promises that are reached
+
+here : {acting : Bool} (path : List ℕ) → acting ≡ true → (acting && bytes_eq path path) ≡ true
+here path is = ap (λ (b : Bool). b && bytes_eq path path) is ∙ same_text path
+
+-- its instances are visited next
+pub waits_here : (s : Setting) (home : Home) (p : Numbered) (sets : Bool) (visits : ℕ) (h : History) (guard : Status) → (guard ≡ No → ⊥) → is_acting p.type ≡ true →
+    waits_in s (Reached home p guard sets visits ∷ h) home.path ≡ waits_by s h home.path guard p.promise.guard
+waits_here s home p sets visits h No set acting = absurd (set refl)
+waits_here s home p sets visits h Maybe set acting = rw (here home.path acting, waits_in) refl
+waits_here s home p sets visits h Yes set acting = rw (here home.path acting, waits_in) refl
 
 -- ---- its level
 

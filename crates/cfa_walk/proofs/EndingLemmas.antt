@@ -1,25 +1,47 @@
--- The classes that are raised for an outcome, and the parameters that are bound, one after the other.
-use Rattle.std.proofs.Common.{◌≡◌, ℕ, zero, suc, ◌+◌, ◌<◌, ◌≤◌, Bool, true, false, List, [], ◌∷◌, ◌++◌, length, map, take, get_or, Some, refl, sym, ap, subst, ◌∙◌, add-one, arith}
+-- The classes that are raised for an outcome, one after the other, and those that are found in an index.
+use Rattle.std.proofs.Common.{◌≡◌, ℕ, List, [], ◌∷◌, ◌++◌, Some, refl, Bool, ◌||◌, Option, is_some, sym, ap, ◌∙◌, ◌+◌, ◌<◌, true, false, length, take, get_or, subst}
+use Rattle.cfa_statuses.specs.declared.levels.Status.{Status}
+use Rattle.cfa_outcomes.specs.declared.outcomes.Outcome.{Outcome}
+use Rattle.cfa_resolve.specs.declared.instances.Instance.{Instance}
+use Rattle.cfa_states.specs.History.{History, everywhere, Raised}
+use Rattle.cfa_states.specs.Passes.{raise_each, raised_to, in_every_list, classes_for}
+use Rattle.std.specs.List.{list_any}
 use Rattle.std.specs.Str.{bytes_eq}
+use Rattle.cfa_base.specs.Index.{place_of, is_listed}
+use Rattle.cfa_base.specs.lemmas.EqualTexts.{texts_turned}
+use Rattle.cfa_values.specs.Lookups.{has_position}
 use Rattle.std.proofs.lemmas.List.{take_more}
 use Rattle.std.proofs.lemmas.List.Folds.{list_any_at}
 use Rattle.std.proofs.lemmas.Slice.Eq.{bytes_eq-Decides}
 use Rattle.cfa_base.specs.declared.places.PromiseId.{PromiseId}
-use Rattle.cfa_statuses.specs.declared.levels.Status.{Status}
-use Rattle.cfa_outcomes.specs.declared.outcomes.Outcome.{Outcome}
 use Rattle.cfa_outcomes.specs.declared.outcomes.Outcome.TheVariants.{Kept, Repaired}
-use Rattle.cfa_resolve.specs.declared.instances.Instance.{Instance}
-use Rattle.cfa_tree.specs.declared.blocks.Named.{Named}
-use Rattle.cfa_tree.specs.Plain.{plain_named}
-use Rattle.cfa_vars.specs.declared.scoping.Datum.{Datum}
-use Rattle.cfa_base.specs.Index.{is_listed}
-use Rattle.cfa_walk.specs.declared.states.State.{State}
-use Rattle.cfa_walk.specs.declared.activations.Activation.{Activation}
-use Rattle.cfa_walk.specs.History.{History, everywhere, Set, Raised}
-use Rattle.cfa_walk.specs.Kept.{Keeps, Stands, IsSame}
-use Rattle.cfa_walk.specs.Passes.{classes_for, in_every_list, raised_to, raise_each, bind}
-use Rattle.cfa_walk.specs.Views.{Setting}
-use Rattle.cfa_walk.proofs.LastLemmas.{raise_each-last}
+use Rattle.cfa_states.specs.declared.states.State.{State}
+use Rattle.cfa_states.specs.Kept.{Keeps}
+use Rattle.cfa_states.specs.Views.{Setting}
+
+pub raise_each-last : (instance : Instance) (outcomes : List Outcome) (status : Status) (classes : List (List ℕ)) (class : List ℕ) (h : History) →
+    raise_each instance outcomes status (classes ++ class ∷ []) h
+    ≡ Raised everywhere class (raised_to status (in_every_list instance outcomes class)) (Some instance.source) ∷ raise_each instance outcomes status classes h
+raise_each-last instance outcomes status [] class h = refl
+raise_each-last instance outcomes status (c ∷ classes) class h =
+    raise_each-last instance outcomes status classes class (Raised everywhere c (raised_to status (in_every_list instance outcomes c)) (Some instance.source) ∷ h)
+
+turned : (classes : List (List ℕ)) (class : List ℕ) → list_any (λ other. bytes_eq class other) classes ≡ is_listed classes class
+turned [] class = refl
+turned (x ∷ xs) class =
+    ap (λ (b : Bool). b || list_any (λ other. bytes_eq class other) xs) (texts_turned class x)
+    ∙ ap (λ (b : Bool). bytes_eq x class || b) (turned xs class)
+
+pub class_among : (classes : List (List ℕ)) (class : List ℕ) → is_some (place_of classes class) ≡ is_listed classes class
+class_among classes class = has_position (λ other. bytes_eq class other) classes ∙ turned classes class
+
+module _ (classes list : List (List ℕ)) (class text : List ℕ) (found : Option ℕ) (are : list ≡ classes) (same : text ≡ class) (is : found ≡ place_of list text) where
+  -- whether a class is found is whether it is in the list
+  pub found_is : (b : Bool) → is_some found ≡ b → is_listed classes class ≡ b
+  found_is b tested =
+      sym (class_among classes class)
+      ∙ (sym (ap (λ (x : List (List ℕ)). is_some (place_of x class)) are)
+      ∙ (sym (ap (λ (x : List ℕ). is_some (place_of list x)) same) ∙ (sym (ap is_some is) ∙ tested)))
 
 -- ---- the classes of an outcome
 
@@ -71,36 +93,3 @@ module _ (i : Instance) (class : List ℕ) where
   pub by_repaired : (b : Bool) → is_listed i.kept class ≡ true → is_listed i.repaired class ≡ b → in_every_list i (Kept ∷ (Repaired ∷ [])) class ≡ b
   by_repaired true has is = rw (has, in_every_list) (rw (is, in_every_list) refl)
   by_repaired false has is = rw (has, in_every_list) (rw (is, in_every_list) refl)
-
--- ---- parameters
-
-bind_suc : (path : List ℕ) (params : List Named) (given : List Datum) (i : ℕ) (p : Named) (d : Datum) (h : History) → i < length params → i < length given →
-    bind path (map plain_named (take (suc i) params)) given h ≡ Set path (get_or params i p).name (get_or given i d) ∷ bind path (map plain_named (take i params)) given h
-bind_suc path [] given i p d h within few = absurd (omega arith)
-bind_suc path (q ∷ params) [] i p d h within few = absurd (omega arith)
-bind_suc path (q ∷ params) (e ∷ given) zero p d h within few = refl
-bind_suc path (q ∷ params) (e ∷ given) (suc i) p d h within few = bind_suc path params given i p d (Set path q.name e ∷ h) (omega arith) (omega arith)
-
--- one more parameter is bound
-pub bound_one_more : (s : Setting) (st' : State) (a a' b : Activation) (params : List Named) (given : List Datum) (i : ℕ) (param : Named) (name : List ℕ) (datum copy : Datum) (h : History) →
-    IsSame a a' → i < length params → i < length given → param ≡ get_or params i param → datum ≡ get_or given i datum → name ≡ param.name → copy ≡ datum →
-    Stands s st' b (Set a'.path name copy ∷ bind a.path (map plain_named (take i params)) given h) →
-    Stands s st' b (bind a.path (map plain_named (take (i + 1) params)) given h)
-bound_one_more s st' a a' b params given i param name datum copy h same within few here given_here names copies stands =
-    let before : History = bind a.path (map plain_named (take i params)) given h in
-    subst (λ (k : History). Stands s st' b k)
-    (ap (λ (x : List ℕ). Set x name copy ∷ before) same.path
-    ∙ (ap (λ (x : List ℕ). Set a.path x copy ∷ before) (names ∙ ap (λ (x : Named). x.name) here)
-    ∙ (ap (λ (x : Datum). Set a.path (get_or params i param).name x ∷ before) (copies ∙ given_here)
-    ∙ (sym (bind_suc a.path params given i param datum h within few)
-    ∙ ap (λ (x : ℕ). bind a.path (map plain_named (take x params)) given h) (sym (add-one i)))))) stands
-
--- where nothing more is given, the parameters that are left stay unbound
-pub bind_past : (path : List ℕ) (params : List Named) (given : List Datum) (i : ℕ) (h : History) → length given ≤ i →
-    bind path (map plain_named (take i params)) given h ≡ bind path (map plain_named params) given h
-bind_past path [] given zero h past = refl
-bind_past path [] given (suc i) h past = refl
-bind_past path (q ∷ params) [] zero h past = refl
-bind_past path (q ∷ params) [] (suc i) h past = refl
-bind_past path (q ∷ params) (e ∷ given) zero h past = absurd (omega arith)
-bind_past path (q ∷ params) (e ∷ given) (suc i) h past = bind_past path params given i (Set path q.name e ∷ h) (omega arith)

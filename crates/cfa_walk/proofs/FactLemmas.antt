@@ -14,9 +14,9 @@ use Rattle.cfa_schema.specs.Sourced.{IsSourced}
 use Rattle.cfa_tree.specs.Tree.{PromiseTree, BlockTree, bundle, body, PolicyTree}
 use Rattle.cfa_base.specs.Index.{is_listed}
 use Rattle.cfa_walk.specs.Steps.{HasCountedIds, AreCounted}
-use Rattle.cfa_walk.specs.Levels.{HasPlainNames}
-use Rattle.cfa_walk.specs.Numbered.{Numbered, numbered_as, numbered_from, numbered_in}
-use Rattle.cfa_walk.specs.Views.{shared_names}
+use Rattle.cfa_states.specs.Levels.{HasPlainNames}
+use Rattle.cfa_states.specs.Numbered.{Numbered, numbered_as, numbered_from, numbered_in}
+use Rattle.cfa_states.specs.Views.{shared_names}
 
 -- ---- names
 

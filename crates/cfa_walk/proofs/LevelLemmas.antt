@@ -9,17 +9,19 @@ use Rattle.cfa_output.specs.declared.ends.Object.TheVariants.{Inputs, Site, Sink
 use Rattle.cfa_output.specs.declared.ends.Stop.{Stop}
 use Rattle.cfa_output.specs.declared.ends.Stop.TheVariants.{Outside, Memory, Visits, Pattern}
 use Rattle.cfa_tree.specs.Tree.{PolicyTree}
-use Rattle.cfa_walk.specs.declared.states.State.{State}
-use Rattle.cfa_walk.specs.declared.activations.Activation.{Activation}
-use Rattle.cfa_walk.specs.History.{History, Event}
-use Rattle.cfa_walk.specs.Kept.{SpareShorter}
-use Rattle.cfa_walk.specs.Levels.{GoesTo, IsTooLarge, is_quiet, Faults, Later, Stops, Level, StandsAt, PatternsAre, HasDone, LevelDone, FaultsAre, Ends, QuietLevel, Quietly, nothing, one_more, SpareIf, HasQuietlyDone, QuietDone}
-use Rattle.cfa_walk.specs.Builds.{BuiltOn}
-use Rattle.cfa_walk.proofs.BuiltLemmas.{KeepsBuilt, then_kept}
-use Rattle.cfa_walk.proofs.SpareLemmas.{spare_none, spare_then, locals_none, spare_if, spare_if_then}
-use Rattle.cfa_walk.specs.Passes.{Course, goes, too_large, then_on, each}
-use Rattle.cfa_walk.specs.Tellers.{Teller}
-use Rattle.cfa_walk.specs.Views.{Setting, Home}
+use Rattle.cfa_states.specs.declared.states.State.{State}
+use Rattle.cfa_states.specs.declared.activations.Activation.{Activation}
+use Rattle.cfa_states.specs.History.{History, Event}
+use Rattle.cfa_states.specs.Kept.{SpareShorter}
+use Rattle.cfa_states.specs.Levels.{GoesTo, IsTooLarge, is_quiet, Faults, Later, Stops, Level, StandsAt, PatternsAre, HasDone, LevelDone, FaultsAre, Ends, QuietLevel, Quietly, nothing, one_more, SpareIf, HasQuietlyDone, QuietDone}
+use Rattle.cfa_states.specs.Builds.{BuiltOn}
+use Rattle.cfa_states.specs.lemmas.Built.{KeepsBuilt, then_kept}
+use Rattle.cfa_states.specs.lemmas.Spared.{spare_none, spare_then, locals_none, spare_if, spare_if_then}
+use Rattle.cfa_states.specs.Passes.{Course, goes, too_large, then_on, each}
+use Rattle.cfa_states.specs.Tellers.{Teller}
+use Rattle.cfa_states.specs.Views.{Setting, Home}
+use Rattle.cfa_states.specs.lemmas.Courses.{goes_weaker, quietly_then}
+use Rattle.cfa_states.specs.lemmas.Later.{at_most}
 
 -- ---- courses
 
@@ -45,10 +47,6 @@ LevelKeeps level = (text : List ℕ) (s : Setting) (home : Home) (status : Statu
 
 abbrev pub QuietKeeps : QuietLevel → Type 0
 QuietKeeps level = (text : List ℕ) (s : Setting) (home : Home) (t : Teller) → KeepsBuilt s text (level s home t)
-
-pub goes_weaker : (c : Course) (P Q : History → Type 0) → ((k : History) → P k → Q k) → GoesTo c P → GoesTo c Q
-goes_weaker (goes h) P Q pq p = pq h p
-goes_weaker (too_large h) P Q pq p = absurd p
 
 pub then_goes : (c : Course) → then_on c goes ≡ c
 then_goes (goes h) = refl
@@ -86,9 +84,6 @@ later_same f = (arith-refl f.0, refl)
   where
     arith-refl : (n : ℕ) → n ≤ n
     arith-refl n = omega arith
-
-pub at_most : (a b c : ℕ) → a ≤ b → b ≤ c → a ≤ c
-at_most a b c ab bc = omega arith
 
 pub later_then : (f g k : Faults) → Later f g → Later g k → Later f k
 later_then f g k fg gk = (at_most f.0 g.0 k.0 fg.0 gk.0, gk.1 ∙ fg.1)
@@ -237,10 +232,6 @@ module _ {W X : Type 0} (teller : X → Teller) (agrees : W → X → Type 0) (b
   quiet_level w steady level is_common st st' a a' (Err (Pattern text)) does = λ s home status x h agree. (agree, λ stands stays. does s home status (teller x) h stands)
 
 -- ---- quiet levels one after the other
-
-pub quietly_then : {h k m : History} → Quietly h k → Quietly k m → Quietly h m
-quietly_then first nothing = first
-quietly_then first (one_more event quiet more) = one_more event quiet (quietly_then first more)
 
 module _ (policy : PolicyTree) (is_common : Bool) where
   pub quiet_nothing : (level : QuietLevel) (st : State) (a : Activation)

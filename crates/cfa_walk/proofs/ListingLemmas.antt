@@ -1,42 +1,26 @@
 -- The walks of a policy, by what is kept of them.
-use Rattle.std.proofs.Common.{◌≡◌, List, [], map, Option, Some, false, refl, ap, subst, ◌∙◌, ℕ}
+use Rattle.std.proofs.Common.{◌≡◌, List, [], map, Option, Some, ap, subst, ◌∙◌, ℕ}
 use Rattle.std.specs.Prelude.{Ok, Err}
 use Rattle.cfa_output.specs.declared.ends.Stop.{Stop}
 use Rattle.cfa_output.specs.declared.ends.Stop.TheVariants.{Visits, Pattern}
 use Rattle.cfa_resolve.specs.declared.instances.Instance.{Instance}
-use Rattle.cfa_resolve.specs.declared.instances.Work.{Work}
-use Rattle.cfa_resolve.specs.declared.instances.Work.TheVariants.{Acts, Call, Report}
 use Rattle.cfa_walk.specs.declared.listing.Telling.{Telling}
-use Rattle.cfa_walk.specs.declared.listing.Telling.TheVariants.{AllKept, Open}
-use Rattle.cfa_walk.specs.declared.logs.Listing.{Listing}
-use Rattle.cfa_walk.specs.declared.states.State.{State}
-use Rattle.cfa_walk.specs.declared.walks.Blame.{Blame}
-use Rattle.cfa_walk.specs.declared.walks.Walk.{Walk}
-use Rattle.cfa_walk.specs.Builds.{BuiltOn}
-use Rattle.cfa_walk.specs.History.{History}
-use Rattle.cfa_walk.specs.Kept.{KeepsLog}
-use Rattle.cfa_walk.specs.Levels.{IsTooLarge, outcomes_of}
+use Rattle.cfa_states.specs.declared.logs.Listing.{Listing}
+use Rattle.cfa_states.specs.declared.states.State.{State}
+use Rattle.cfa_states.specs.declared.walks.Blame.{Blame}
+use Rattle.cfa_states.specs.declared.walks.Walk.{Walk}
+use Rattle.cfa_states.specs.Builds.{BuiltOn}
+use Rattle.cfa_states.specs.History.{History}
+use Rattle.cfa_states.specs.Kept.{KeepsLog}
+use Rattle.cfa_states.specs.Levels.{IsTooLarge}
 use Rattle.cfa_walk.specs.Listed.{HasWalked}
-use Rattle.cfa_walk.specs.Logs.{Rows, walk_of}
-use Rattle.cfa_walk.specs.Passes.{run}
-use Rattle.cfa_walk.specs.Tellers.{outcomes_in}
-use Rattle.cfa_walk.specs.Tellings.{told_by, ending_of}
-use Rattle.cfa_walk.specs.Views.{Setting}
+use Rattle.cfa_states.specs.Logs.{Rows, walk_of}
+use Rattle.cfa_states.specs.Passes.{run}
+use Rattle.cfa_walk.specs.Tellings.{told_by}
+use Rattle.cfa_states.specs.Views.{Setting}
 use Rattle.cfa_walk.specs.Walked.{HasRunTo}
-use Rattle.cfa_walk.specs.Walks.{listed_instances, listings, visit_of, walked}
-use Rattle.cfa_walk.proofs.LevelLemmas.{goes_weaker}
-
-pub never_skips : (telling : Telling) (h : History) (instance : Instance) → (told_by telling).skips h instance ≡ false
-never_skips AllKept h instance = refl
-never_skips Open h instance = refl
-
-pub outcomes_are : (telling : Telling) (h : History) (instance : Instance) (work : Work) → outcomes_of (told_by telling) h instance work ≡ outcomes_in (ending_of telling work)
-outcomes_are AllKept h instance (Acts acts) = refl
-outcomes_are AllKept h instance (Call name arguments) = refl
-outcomes_are AllKept h instance (Report content) = refl
-outcomes_are Open h instance (Acts acts) = refl
-outcomes_are Open h instance (Call name arguments) = refl
-outcomes_are Open h instance (Report content) = refl
+use Rattle.cfa_states.specs.Walks.{listed_instances, listings, visit_of, walked}
+use Rattle.cfa_states.specs.lemmas.Courses.{goes_weaker}
 
 -- ---- what a log comes to
 

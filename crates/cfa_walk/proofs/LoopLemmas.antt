@@ -4,13 +4,13 @@ use Rattle.std.specs.Prelude.{Result, Ok, Err}
 use Rattle.cfa_base.specs.Shown.{Shown}
 use Rattle.cfa_output.specs.declared.ends.Stop.{Stop}
 use Rattle.cfa_tree.specs.Tree.{PolicyTree}
-use Rattle.cfa_walk.specs.declared.states.State.{State}
-use Rattle.cfa_walk.specs.declared.activations.Activation.{Activation}
-use Rattle.cfa_walk.specs.History.{History}
-use Rattle.cfa_walk.specs.Levels.{Faults, Level, Ends}
-use Rattle.cfa_walk.specs.Passes.{then_on, each}
-use Rattle.cfa_walk.specs.Tellers.{Teller}
-use Rattle.cfa_walk.proofs.BuiltLemmas.{each_kept}
+use Rattle.cfa_states.specs.declared.states.State.{State}
+use Rattle.cfa_states.specs.declared.activations.Activation.{Activation}
+use Rattle.cfa_states.specs.History.{History}
+use Rattle.cfa_states.specs.Levels.{Faults, Level, Ends}
+use Rattle.cfa_states.specs.Passes.{then_on, each}
+use Rattle.cfa_states.specs.Tellers.{Teller}
+use Rattle.cfa_states.specs.lemmas.Built.{each_kept}
 use Rattle.cfa_walk.proofs.LevelLemmas.{LevelKeeps, each_more, ends_then, ends_stops, ends_is, ends_nothing}
 use Rattle.cfa_walk.proofs.CommonLemmas.{each_append}
 

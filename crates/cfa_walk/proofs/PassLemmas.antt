@@ -12,19 +12,20 @@ use Rattle.cfa_kinds.specs.declared.kinds.PromiseType.TheVariants as promises
 use Rattle.cfa_output.specs.declared.ends.Stop.{Stop}
 use Rattle.cfa_output.specs.declared.ends.Stop.TheVariants.{Outside, Memory, Visits, Pattern}
 use Rattle.cfa_tree.specs.Tree.{PolicyTree}
-use Rattle.cfa_walk.specs.declared.states.State.{State}
-use Rattle.cfa_walk.specs.declared.activations.Activation.{Activation}
-use Rattle.cfa_walk.specs.History.{History, Event, within}
+use Rattle.cfa_states.specs.declared.states.State.{State}
+use Rattle.cfa_states.specs.declared.activations.Activation.{Activation}
+use Rattle.cfa_states.specs.History.{History, Event, within}
 use Rattle.cfa_resolve.specs.declared.instances.Instance.{Instance}
 use Rattle.cfa_resolve.specs.Resolution.{is_acting}
-use Rattle.cfa_walk.specs.Kept.{Stands}
-use Rattle.cfa_walk.specs.Levels.{Faults, Level, StandsAt, Ends, FaultsAre, PatternsAre, QuietLevel, QuietDone, is_quiet}
-use Rattle.cfa_walk.specs.Numbered.{Numbered, is_type, of_type, agent_types}
-use Rattle.cfa_walk.specs.Passes.{Course, goes, too_large, then_on, each, guarded, kept_by, acting_reached, passes, calls_of, reach}
-use Rattle.cfa_walk.specs.Steps.{type_level, pass_level, passes_level, reach_level, acting_level, visit_level, idle_level, vars_level, classes_level}
-use Rattle.cfa_walk.specs.Tellers.{Teller}
-use Rattle.cfa_walk.specs.Views.{Setting, Home, guard_status}
-use Rattle.cfa_walk.proofs.BuiltLemmas.{calls_kept, visit_kept, promises_kept, types_kept}
+use Rattle.cfa_states.specs.Kept.{Stands}
+use Rattle.cfa_states.specs.Levels.{Faults, Level, StandsAt, Ends, FaultsAre, PatternsAre, QuietLevel, QuietDone, is_quiet}
+use Rattle.cfa_states.specs.Numbered.{Numbered, is_type, of_type, agent_types}
+use Rattle.cfa_states.specs.Passes.{Course, goes, too_large, then_on, each, guarded, kept_by, acting_reached, passes, calls_of, reach}
+use Rattle.cfa_walk.specs.Steps.{type_level, pass_level, passes_level, reach_level, acting_level, visit_level}
+use Rattle.cfa_states.specs.Defining.{idle_level, vars_level, classes_level}
+use Rattle.cfa_states.specs.Tellers.{Teller}
+use Rattle.cfa_states.specs.Views.{Setting, Home, guard_status}
+use Rattle.cfa_states.specs.lemmas.Built.{calls_kept, visit_kept, promises_kept, types_kept}
 use Rattle.cfa_walk.proofs.LevelLemmas.{LevelKeeps, then_goes, then_same, each_one, ends_then, ends_stops, ends_is, ends_nothing, later_same, quiet_level}
 use Rattle.cfa_walk.proofs.CommonLemmas.{each_append}
 

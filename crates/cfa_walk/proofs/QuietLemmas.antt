@@ -7,19 +7,20 @@ use Rattle.cfa_output.specs.declared.ends.Stop.TheVariants.{Outside, Memory, Vis
 use Rattle.cfa_kinds.specs.declared.kinds.PromiseType.TheVariants.{Vars, Classes}
 use Rattle.cfa_tree.specs.Tree.{BlockTree, PolicyTree}
 use Rattle.cfa_served.specs.Served.{common_bundles_of}
-use Rattle.cfa_walk.specs.declared.states.State.{State}
-use Rattle.cfa_walk.specs.declared.activations.Activation.{Activation}
+use Rattle.cfa_states.specs.declared.states.State.{State}
+use Rattle.cfa_states.specs.declared.activations.Activation.{Activation}
 use Rattle.cfa_walk.specs.Steps.{Walk, IsClear, KeepsClear, HasQuietlyGone, QuietWalkDone, common_walk, commons_walk, passes_walk, common_type_level, common_level}
-use Rattle.cfa_walk.specs.Builds.{BuiltOn}
-use Rattle.cfa_walk.specs.History.{History, everywhere}
-use Rattle.cfa_walk.specs.Kept.{Keeps, Stands, IsOf, IsUntouched, SpareLocals, home_of}
-use Rattle.cfa_walk.specs.Levels.{GoesTo, IsTooLarge, StandsAt, Quietly, nothing, HasQuietlyDone, QuietDone}
-use Rattle.cfa_walk.specs.Numbered.{Numbered, name_of, numbered_in, common_types}
-use Rattle.cfa_walk.specs.Passes.{Course, goes, too_large, then_on, all_calls, through_common, common_passes}
-use Rattle.cfa_walk.specs.Tellers.{Teller}
-use Rattle.cfa_walk.specs.Views.{Setting, Home}
-use Rattle.cfa_walk.proofs.BuiltLemmas.{KeepsBuilt, then_kept, each_kept, types_kept, calls_kept}
-use Rattle.cfa_walk.proofs.LevelLemmas.{built_then, goes_then, past_first, past_then, goes_weaker, then_last, each_more, quietly_then, quiet_is, quiet_then, quiet_stops}
+use Rattle.cfa_states.specs.Builds.{BuiltOn}
+use Rattle.cfa_states.specs.History.{History, everywhere}
+use Rattle.cfa_states.specs.Kept.{Keeps, Stands, IsOf, IsUntouched, SpareLocals, home_of}
+use Rattle.cfa_states.specs.Levels.{GoesTo, IsTooLarge, StandsAt, Quietly, nothing, HasQuietlyDone, QuietDone}
+use Rattle.cfa_states.specs.Numbered.{Numbered, name_of, numbered_in, common_types}
+use Rattle.cfa_states.specs.Passes.{Course, goes, too_large, then_on, all_calls, through_common, common_passes}
+use Rattle.cfa_states.specs.Tellers.{Teller}
+use Rattle.cfa_states.specs.Views.{Setting, Home}
+use Rattle.cfa_states.specs.lemmas.Built.{KeepsBuilt, then_kept, each_kept, types_kept, calls_kept}
+use Rattle.cfa_walk.proofs.LevelLemmas.{built_then, goes_then, past_first, past_then, then_last, each_more, quiet_is, quiet_then, quiet_stops}
+use Rattle.cfa_states.specs.lemmas.Courses.{goes_weaker, quietly_then}
 use Rattle.cfa_walk.proofs.CommonLemmas.{common_keeps, each_append}
 
 -- ---- what was built before stays so

@@ -1,28 +1,106 @@
--- What is remembered of the promises of a bundle while they are gone through.
-use Rattle.std.proofs.Common.{◌≡◌, ℕ, zero, suc, ◌+◌, ◌-◌, ◌<◌, List, [], ◌∷◌, ◌++◌, length, get_or, set, map, Option, Some, None, IfSome, IsTrue, OnOk, refl, sym, ap, subst, ⊎_elim, ◌∙◌, arith}
+-- What was found out of the promises of a bundle, and still holds while they are gone through.
+use Rattle.std.proofs.Common.{◌≡◌, ℕ, List, Option, Some, None, OnOk, sym, ap, ◌∙◌, ◌+◌, ◌-◌, ◌<◌, length, get_or, set, map, IfSome, IsTrue, refl, subst, ⊎_elim, arith}
 use Rattle.std.specs.Prelude.{Result, Ok, Err, option_map}
+use Rattle.cfa_statuses.specs.Raised.{Raised, status_in}
+use Rattle.cfa_resolve.specs.declared.instances.Resolved.{Resolved}
+use Rattle.cfa_resolve.specs.Resolution.{resolution, reached_at}
+use Rattle.cfa_tree.specs.Tree.{PolicyTree, ExprTree}
+use Rattle.cfa_vars.specs.Scopes.{Table}
+use Rattle.cfa_states.specs.declared.activations.Activation.{Activation}
+use Rattle.cfa_states.specs.declared.remembering.Found.{Found}
+use Rattle.cfa_states.specs.declared.remembering.Known.{Known}
+use Rattle.cfa_states.specs.declared.remembering.Moment.{Moment}
+use Rattle.cfa_states.specs.declared.states.State.{State}
+use Rattle.cfa_states.specs.Kept.{scope_at, AreLater, IsNow, IsPast, GuardHolds, ResolutionHolds, RowHolds, guard_now, guard_value, resolution_now, Stands, GuardsRepeat, RowsHold, seen_numbered}
+use Rattle.cfa_states.specs.Numbered.{Numbered}
+use Rattle.cfa_states.specs.lemmas.Later.{at_most, as_next, as_first, no_more, are_then}
 use Rattle.std.proofs.lemmas.Bool.{cases_eq}
-use Rattle.std.proofs.lemmas.List.{get_or-set_same, get_or-set_other, get_or_append_left, get_or_default, get_or_push, get_or-map, length-map, length-set, length_push}
+use Rattle.std.proofs.lemmas.List.{get_or-set_same, get_or-set_other, get_or_default, get_or-map, length-map, length-set}
 use Rattle.cfa_statuses.specs.declared.levels.Status.{Status}
 use Rattle.cfa_output.specs.declared.ends.Stop.{Stop}
-use Rattle.cfa_kinds.specs.declared.kinds.PromiseType.{PromiseType}
-use Rattle.cfa_tree.specs.declared.expressions.Expr.{Expr}
-use Rattle.cfa_tree.specs.declared.promises.Promise.{Promise}
-use Rattle.cfa_tree.specs.Repeats.{guard_at}
-use Rattle.cfa_tree.specs.lemmas.GuardPlaces.{guard_there}
 use Rattle.cfa_tree.specs.Plain.{plain_expr}
-use Rattle.cfa_tree.specs.Tree.{ExprTree, PolicyTree}
-use Rattle.cfa_walk.specs.declared.activations.Activation.{Activation}
-use Rattle.cfa_walk.specs.declared.numbered.Numbered.{Numbered as Held}
-use Rattle.cfa_walk.specs.declared.remembering.Found.{Found}
-use Rattle.cfa_walk.specs.declared.remembering.Known.{Known}
-use Rattle.cfa_walk.specs.declared.states.State.{State}
-use Rattle.cfa_walk.specs.History.{History}
-use Rattle.cfa_walk.specs.Kept.{Stands, AreLater, IsNow, GuardHolds, GuardsRepeat, StandsLast, RowHolds, RowsHold, guard_now, guard_value, seen_numbered}
-use Rattle.cfa_walk.specs.Numbered.{Numbered}
-use Rattle.cfa_walk.specs.Views.{Setting, guard_status}
-use Rattle.cfa_walk.proofs.ActivationLemmas.{guard_is}
-use Rattle.cfa_walk.proofs.LaterLemmas.{guard_found, guard_later, row_later}
+use Rattle.cfa_states.specs.declared.numbered.Numbered.{Numbered as Held}
+use Rattle.cfa_states.specs.History.{History}
+use Rattle.cfa_states.specs.Views.{Setting, guard_status}
+use Rattle.cfa_states.specs.lemmas.Scopes.{guard_is}
+
+-- ---- both
+
+pub then_are : {E : Type 0} (st st' st'' : State) (a a' a'' : Activation) (result : Result (Unit {0}) E) → AreLater st st' a a' → OnOk result (AreLater st' st'' a' a'') → OnOk result (AreLater st st'' a a'')
+then_are st st' st'' a a' a'' (Ok done) first next = are_then st st' st'' a a' a'' first next
+then_are st st' st'' a a' a'' (Err stop) first next = tt
+
+-- ---- what was found out
+
+module _ (st st' : State) (a a' : Activation) (later : AreLater st st' a a') (same : st'.changes ≡ st.changes) (same_here : a'.changes ≡ a.changes) where
+  guard_same : (p : Numbered) → guard_now p st' a' ≡ guard_now p st a
+  guard_same p =
+      ap (λ (x : Raised). guard_value p.promise.guard x a'.local.statuses) (later.state.statuses same)
+      ∙ ap (λ (x : Raised). guard_value p.promise.guard st.environment.statuses x) (later.here.statuses same_here)
+
+  module _ (policy : PolicyTree) (p : Numbered) where
+    abbrev resolved_by : (shared : List (List ℕ × Table)) → (place : Option ℕ) → (own : Table) → (bundle : List ℕ) → Raised → (path : List ℕ) → Resolved
+    resolved_by shared place own bundle statuses path =
+        resolution (reached_at policy p.id (record { own = scope_at shared place own; own_name = bundle; shared = shared }) (status_in statuses) path (p.type, p.promise))
+
+    resolution_same : resolution_now policy p st' a' ≡ resolution_now policy p st a
+    resolution_same =
+        ap (λ (x : List (List ℕ × Table)). resolved_by x a'.place a'.own a'.bundle st'.environment.statuses a'.path) (later.state.shared same)
+        ∙ (ap (λ (x : Option ℕ). resolved_by st.shared x a'.own a'.bundle st'.environment.statuses a'.path) later.here.place
+        ∙ (ap (λ (x : Table). resolved_by st.shared a.place x a'.bundle st'.environment.statuses a'.path) (later.here.own same_here)
+        ∙ (ap (λ (x : List ℕ). resolved_by st.shared a.place a.own x st'.environment.statuses a'.path) later.here.bundle
+        ∙ (ap (λ (x : Raised). resolved_by st.shared a.place a.own a.bundle x a'.path) (later.state.statuses same)
+        ∙ ap (λ (x : List ℕ). resolved_by st.shared a.place a.own a.bundle st.environment.statuses x) later.here.path))))
+
+module _ (st st' : State) (a a' : Activation) (later : AreLater st st' a a') (m : Moment) (past : IsPast m st a) where
+  still_past : IsPast m st' a'
+  still_past = (at_most m.state st.changes st'.changes past.0 later.state.count, at_most m.activation a.changes a'.changes past.1 later.here.count)
+
+  module _ (now : IsNow m st' a') where
+    was_now : IsNow m st a
+    was_now = (
+      sym (as_first m.state st.changes st'.changes past.0 later.state.count (sym now.0)),
+      sym (as_first m.activation a.changes a'.changes past.1 later.here.count (sym now.1)),
+    )
+
+    unchanged : st'.changes ≡ st.changes
+    unchanged = as_next m.state st.changes st'.changes past.0 later.state.count (sym now.0)
+
+    unchanged_here : a'.changes ≡ a.changes
+    unchanged_here = as_next m.activation a.changes a'.changes past.1 later.here.count (sym now.1)
+
+pub guard_later : (p : Numbered) (known : Known) (st st' : State) (a a' : Activation) → AreLater st st' a a' → GuardHolds p known st a → GuardHolds p known st' a'
+guard_later p known st st' a a' later held = record {
+  past = still_past st st' a a' later known.moment held.past;
+  holds = λ now.
+      held.holds (was_now st st' a a' later known.moment held.past now)
+      ∙ sym (guard_same st st' a a' later (unchanged st st' a a' later known.moment held.past now) (unchanged_here st st' a a' later known.moment held.past now) p);
+}
+
+resolution_later : (policy : PolicyTree) (p : Numbered) (found : Found) (st st' : State) (a a' : Activation) → AreLater st st' a a' → ResolutionHolds policy p found st a →
+    ResolutionHolds policy p found st' a'
+resolution_later policy p found st st' a a' later held = record {
+  past = still_past st st' a a' later found.moment held.past;
+  holds = λ now.
+      held.holds (was_now st st' a a' later found.moment held.past now)
+      ∙ sym (resolution_same st st' a a' later (unchanged st st' a a' later found.moment held.past now) (unchanged_here st st' a a' later found.moment held.past now) policy p);
+}
+
+pub row_later : (policy : PolicyTree) (p : Numbered) (row : Option Found) (st st' : State) (a a' : Activation) → AreLater st st' a a' → RowHolds policy p row st a → RowHolds policy p row st' a'
+row_later policy p None st st' a a' later held = tt
+row_later policy p (Some found) st st' a a' later held = resolution_later policy p found st st' a a' later held
+
+-- what was found out now
+pub now_past : (m : Moment) (st : State) (a : Activation) → IsNow m st a → IsPast m st a
+now_past m st a now = (no_more m.state st.changes now.0, no_more m.activation a.changes now.1)
+
+pub guard_found : (p : Numbered) (known : Known) (st : State) (a : Activation) → IsNow known.moment st a → known.status ≡ guard_now p st a → GuardHolds p known st a
+guard_found p known st a now is = record { past = now_past known.moment st a now; holds = λ _. is }
+
+pub resolution_found : (policy : PolicyTree) (p : Numbered) (found : Found) (st st' : State) (a a' : Activation) → AreLater st st' a a' → IsNow found.moment st a → found.resolved ≡ resolution_now policy p st a →
+    ResolutionHolds policy p found st' a'
+resolution_found policy p found st st' a a' later now is =
+    resolution_later policy p found st st' a a' later (record { past = now_past found.moment st a now; holds = λ _. is })
 
 -- ---- the status of a guard
 
@@ -76,19 +154,6 @@ before_next ps i p known st st' a a' within is later now status =
 
 -- ---- rows
 
--- rows in which nothing is
-pub none_pushed : (rows : List (Option Found)) → ((i : ℕ) → get_or rows i None ≡ None) → (i : ℕ) → get_or (rows ++ None ∷ []) i None ≡ None
-none_pushed [] none zero = refl
-none_pushed [] none (suc i) = refl
-none_pushed (row ∷ rows) none zero = none 0
-none_pushed (row ∷ rows) none (suc i) = none_pushed rows (λ j. none (suc j)) i
-
-pub rows_empty : (policy : PolicyTree) (ps : List Numbered) (rows : List (Option Found)) (st : State) (a : Activation) → length rows ≡ length ps → ((i : ℕ) → get_or rows i None ≡ None) → RowsHold policy ps rows st a
-rows_empty policy ps rows st a long none = record {
-  count = long;
-  each = λ i p within. subst (λ (x : Option Found). RowHolds policy (get_or ps i p) x st a) (sym (none i)) tt;
-}
-
 pub row_ok : (policy : PolicyTree) (p : Numbered) (row : Option Found) (st st' : State) (a a' : Activation) (result : Result (Unit {0}) Stop) →
     OnOk result (AreLater st st' a a') → RowHolds policy p row st a → OnOk result (RowHolds policy p row st' a')
 row_ok policy p row st st' a a' (Ok done) later held = row_later policy p row st st' a a' later held
@@ -123,61 +188,3 @@ rows_set policy ps rows place row st st' a a' later within held here = record {
       (row_later policy (get_or ps i p) (get_or rows i None) st st' a a' later (held.each i p lt)))
       (cases_eq i place);
 }
-
--- ---- promises that are numbered
-
-module _ (ps : List Held) (x : Held) where
-  there_before : (i : ℕ) (p : Held) → i < length ps → get_or (ps ++ x ∷ []) i p ≡ get_or ps i p
-  there_before i p within = get_or_append_left ps (x ∷ []) p i within
-
-  there_last : (i : ℕ) (p : Held) → i ≡ length ps → get_or (ps ++ x ∷ []) i p ≡ x
-  there_last i p is = get_or_push ps x p i (sym is)
-
-  pub last_pushed : StandsLast (ps ++ x ∷ []) x.promise.now.guard
-  last_pushed =
-      let longer : length (ps ++ x ∷ []) ≡ length ps + 1 = length_push ps x in record {
-        some = omega (arith, longer);
-        guard = λ p.
-            let at : length (ps ++ x ∷ []) - 1 ≡ length ps = omega (arith, longer) in
-            ap (λ (y : Held). y.promise.now.guard) (there_last (length (ps ++ x ∷ []) - 1) p at);
-      }
-
-  pub repeats_pushed : GuardsRepeat ps → (IsTrue x.repeats → StandsLast ps x.promise.now.guard) → GuardsRepeat (ps ++ x ∷ [])
-  repeats_pushed so_far is_last = λ i p within marked.
-      let longer : length (ps ++ x ∷ []) ≡ length ps + 1 = length_push ps x in
-      let below : i < length ps = omega (arith, longer) in
-      ⊎_elim
-      (λ (end : i + 1 ≡ length ps).
-      let here : get_or (ps ++ x ∷ []) (i + 1) p ≡ x = there_last (i + 1) p end in
-      let last : StandsLast ps x.promise.now.guard = is_last (subst (λ (y : Held). IsTrue y.repeats) here marked) in
-      let at : i ≡ length ps - 1 = omega arith in
-      ap (λ (y : Held). y.promise.now.guard) here
-      ∙ sym (last.guard p)
-      ∙ ap (λ (n : ℕ). (get_or ps n p).promise.now.guard) (sym at)
-      ∙ ap (λ (y : Held). y.promise.now.guard) (sym (there_before i p below)))
-      (λ (other : i + 1 ≡ length ps → ⊥).
-      let further : i + 1 < length ps = inside i other below in
-      let here = there_before (i + 1) p further in
-      ap (λ (y : Held). y.promise.now.guard) here
-      ∙ so_far i p further (subst (λ (y : Held). IsTrue y.repeats) here marked)
-      ∙ ap (λ (y : Held). y.promise.now.guard) (sym (there_before i p below)))
-      (cases_eq (i + 1) (length ps))
-    where
-      inside : (i : ℕ) → (i + 1 ≡ length ps → ⊥) → i < length ps → i + 1 < length ps
-      inside i other below = omega arith
-
--- the last promise is the one before an index of a section, if its type was found
-abbrev pub LastStands : List Promise → Option PromiseType → (index : ℕ) → List Held → Type 0
-LastStands promises found i ps = 0 < i → IfSome found (λ _. StandsLast ps (guard_at promises (i - 1)))
-
-pub last_before : (promises : List Promise) (found : Option PromiseType) (i : ℕ) (p : Promise) (ps : List Held) → i < length promises → p ≡ get_or promises i p →
-    LastStands promises found i ps → (0 < i) × (guard_at promises i ≡ guard_at promises (i - 1)) → IfSome found (λ _. StandsLast ps p.guard)
-last_before promises found i p ps within is last marked =
-    subst (λ (g : Option Expr). IfSome found (λ _. StandsLast ps g)) (sym marked.1 ∙ guard_there promises i p within is) (last marked.0)
-
-pub last_next : (promises : List Promise) (found : Option PromiseType) (i : ℕ) (p : Promise) (ps : List Held) → i < length promises → p ≡ get_or promises i p →
-    IfSome found (λ _. StandsLast ps p.guard) → LastStands promises found (i + 1) ps
-last_next promises found i p ps within is last = λ _.
-    let back : (i + 1) - 1 ≡ i = omega arith in
-    subst (λ (g : Option Expr). IfSome found (λ _. StandsLast ps g))
-    (sym (ap (guard_at promises) back ∙ guard_there promises i p within is)) last

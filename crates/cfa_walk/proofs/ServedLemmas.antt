@@ -1,18 +1,78 @@
 -- The names of the common bundles and of those of the sequence are those of shared scopes.
-use Rattle.std.proofs.Common.{◌≡◌, ◌∙◌, ℕ, ◌<◌, Bool, true, false, List, [], ◌∷◌, map, All, Bor, refl, ap, sym, subst}
-use Rattle.std.specs.Prelude.{cond, find, option_and_then, Some}
-use Rattle.std.specs.List.{Contains}
+use Rattle.std.proofs.Common.{◌≡◌, ℕ, Bool, true, false, List, [], ◌∷◌, ◌++◌, map, refl, sym, ap, ◌∙◌, ◌<◌, All, Bor, subst}
+use Rattle.std.specs.Prelude.{◌||◌, if◌then◌else◌, cond, find, option_and_then, Some}
+use Rattle.std.specs.List.{list_any, Contains}
+use Rattle.std.specs.Str.{bytes_eq}
+use Rattle.std.proofs.lemmas.Bool.{false≢true, or_left, or_right}
+use Rattle.std.proofs.lemmas.List.Folds.{list_any-append, list_any_at}
+use Rattle.cfa_base.specs.lemmas.EqualTexts.{same_text, is_text}
+use Rattle.cfa_tree.specs.Tree.{BlockTree, PolicyTree, bundle, body}
+use Rattle.cfa_served.specs.Control.{sequence_of}
+use Rattle.cfa_served.specs.Served.{common_bundles_of, bundle_of, if_bundle, is_bundle_of}
+use Rattle.cfa_base.specs.Index.{is_listed}
+use Rattle.cfa_states.specs.Numbered.{name_of}
+use Rattle.cfa_states.specs.Views.{joined_once, shared_names}
 use Rattle.std.proofs.Math.ListN.{get_or-map}
 use Rattle.std.proofs.lemmas.List.{length-map}
 use Rattle.std.proofs.lemmas.List.Elements.{All-contains_itself, All-weaker}
-use Rattle.cfa_base.specs.lemmas.EqualTexts.{is_text}
 use Rattle.cfa_tree.specs.declared.blocks.Bundle.{Bundle}
-use Rattle.cfa_tree.specs.Tree.{BlockTree, bundle, body, PolicyTree}
-use Rattle.cfa_served.specs.Control.{sequence_of}
-use Rattle.cfa_served.specs.Served.{bundle_of, common_bundles_of, if_bundle, is_bundle_of}
 use Rattle.cfa_walk.specs.Steps.{IsShared, HasSharedName, seen_bundle}
-use Rattle.cfa_walk.specs.Numbered.{name_of}
-use Rattle.cfa_walk.proofs.SharedLemmas.{sequence_is_shared, commons_are_shared}
+
+-- ---- names that are joined
+
+pub listed_map : {X : Type 0} (f : X → List ℕ) (xs : List X) (name : List ℕ) → is_listed (map f xs) name ≡ list_any (λ x. bytes_eq (f x) name) xs
+listed_map f [] name = refl
+listed_map f (x ∷ xs) name = ap (λ b. bytes_eq (f x) name || b) (listed_map f xs name)
+
+-- ---- which names are shared
+
+still_listed : (found : Bool) (names : List (List ℕ)) (other name : List ℕ) → is_listed names name ≡ true → is_listed (if found then names else names ++ other ∷ []) name ≡ true
+still_listed true names other name listed = listed
+still_listed false names other name listed =
+    list_any-append (λ n. bytes_eq n name) names (other ∷ []) ∙ or_left (is_listed names name) (bytes_eq other name || false) listed
+
+now_listed : (found : Bool) (names : List (List ℕ)) (name : List ℕ) → is_listed names name ≡ found → is_listed (if found then names else names ++ name ∷ []) name ≡ true
+now_listed true names name e = e
+now_listed false names name e =
+    list_any-append (λ n. bytes_eq n name) names (name ∷ []) ∙ ap (λ b. b || (bytes_eq name name || false)) e ∙ ap (λ b. b || false) (same_text name)
+
+kept_listed : (names more : List (List ℕ)) (name : List ℕ) → is_listed names name ≡ true → is_listed (joined_once names more) name ≡ true
+kept_listed names [] name listed = listed
+kept_listed names (other ∷ more) name listed =
+    kept_listed (if is_listed names other then names else names ++ other ∷ []) more name (still_listed (is_listed names other) names other name listed)
+
+joined_listed : (names more : List (List ℕ)) (name : List ℕ) → is_listed more name ≡ true → is_listed (joined_once names more) name ≡ true
+joined_listed names [] name listed = absurd (false≢true listed)
+joined_listed names (other ∷ more) name listed =
+    let found = is_listed names other in
+    let with_it = if found then names else names ++ other ∷ [] in
+    elim (bytes_eq other name) as (λ b. bytes_eq other name ≡ b → (b || is_listed more name) ≡ true → is_listed (joined_once with_it more) name ≡ true) [
+      | true ↦ λ same _. kept_listed with_it more name (ap (is_listed with_it) (sym (is_text other name same)) ∙ now_listed found names other refl)
+      | false ↦ λ _ behind. joined_listed with_it more name behind
+    ] refl listed
+
+in_front : (xs ys : List (List ℕ)) (name : List ℕ) → is_listed xs name ≡ true → is_listed (xs ++ ys) name ≡ true
+in_front xs ys name listed = list_any-append (λ n. bytes_eq n name) xs ys ∙ or_left (is_listed xs name) (is_listed ys name) listed
+
+behind_it : (xs ys : List (List ℕ)) (name : List ℕ) → is_listed ys name ≡ true → is_listed (xs ++ ys) name ≡ true
+behind_it [] ys name listed = listed
+behind_it (x ∷ xs) ys name listed = or_right (bytes_eq x name) (is_listed (xs ++ ys) name) (behind_it xs ys name listed)
+
+-- the bundles of the sequence are shared, and the common bundles
+pub sequence_is_shared : (policy : PolicyTree) (name : List ℕ) → Contains (sequence_of policy) name → is_listed (shared_names policy) name ≡ true
+unfolding shared_names
+sequence_is_shared policy name has =
+    joined_listed [] (map name_of (common_bundles_of policy) ++ sequence_of policy) name
+    (behind_it (map name_of (common_bundles_of policy)) (sequence_of policy) name
+    (list_any_at (λ n. bytes_eq n name) (sequence_of policy) has.0 name has.1 (ap (λ n. bytes_eq n name) has.2 ∙ same_text name)))
+
+pub commons_are_shared : (policy : PolicyTree) (block : BlockTree) → Contains (common_bundles_of policy) block → is_listed (shared_names policy) (name_of block) ≡ true
+unfolding shared_names
+commons_are_shared policy block has =
+    joined_listed [] (map name_of (common_bundles_of policy) ++ sequence_of policy) (name_of block)
+    (in_front (map name_of (common_bundles_of policy)) (sequence_of policy) (name_of block)
+    (listed_map name_of (common_bundles_of policy) (name_of block)
+    ∙ list_any_at (λ b. bytes_eq (name_of b) (name_of block)) (common_bundles_of policy) has.0 block has.1 (ap (λ b. bytes_eq (name_of b) (name_of block)) has.2 ∙ same_text (name_of block))))
 
 pub sequence_shared : (policy : PolicyTree) → All (IsShared policy) (sequence_of policy)
 sequence_shared policy =

@@ -1,5 +1,12 @@
 -- A visit of an instance: it is listed, and told unless it is skipped, and then its classes are raised.
-use Rattle.std.proofs.Common.{◌≡◌, ℕ, ◌≤◌, ◌<◌, Bool, true, false, List, [], ◌∷◌, length, IsTrue, Some, refl, sym, ap, subst, ◌∙◌, arith}
+use Rattle.std.proofs.Common.{List, ◌∷◌, refl, ◌≡◌, ℕ, ◌≤◌, ◌<◌, Bool, true, false, [], length, IsTrue, Some, sym, ap, subst, ◌∙◌, arith}
+use Rattle.cfa_outcomes.specs.declared.outcomes.Outcome.{Outcome}
+use Rattle.cfa_resolve.specs.declared.instances.Instance.{Instance}
+use Rattle.cfa_states.specs.declared.states.State.{State}
+use Rattle.cfa_states.specs.History.{History, Told, Event, Raised, Listed, everywhere}
+use Rattle.cfa_states.specs.Kept.{Keeps, KeepsLocally, IsSame, SpareShorter, home_of}
+use Rattle.cfa_states.specs.Views.{Setting, shared_in, Home}
+use Rattle.cfa_states.specs.lemmas.Keeping.{counts_same}
 use Rattle.std.specs.Prelude.{Ok, Err}
 use Rattle.std.specs.Str.{bytes_eq}
 use Rattle.cfa_base.specs.Shown.{Shown}
@@ -8,29 +15,29 @@ use Rattle.cfa_statuses.specs.declared.levels.Status.TheVariants.{No, Maybe, Yes
 use Rattle.cfa_output.specs.declared.ends.Stop.{Stop}
 use Rattle.cfa_output.specs.declared.ends.Stop.TheVariants.{Outside, Memory, Visits, Pattern}
 use Rattle.cfa_outcomes.specs.Environments.{mark_of}
-use Rattle.cfa_outcomes.specs.declared.outcomes.Outcome.{Outcome}
-use Rattle.cfa_resolve.specs.declared.instances.Instance.{Instance}
 use Rattle.cfa_resolve.specs.declared.instances.Work.{Work}
 use Rattle.cfa_resolve.specs.declared.instances.Work.TheVariants.{Acts, Call, Report}
 use Rattle.cfa_tree.specs.Tree.{PolicyTree}
-use Rattle.cfa_walk.specs.declared.states.State.{State}
-use Rattle.cfa_walk.specs.declared.activations.Activation.{Activation}
-use Rattle.cfa_walk.specs.History.{History, Event, Raised, Listed, Told, everywhere}
-use Rattle.cfa_walk.specs.Kept.{Keeps, KeepsLocally, IsSame, SpareShorter, home_of}
-use Rattle.cfa_walk.specs.Levels.{GoesTo, IsTooLarge, is_quiet, visited_by, outcomes_of, Faults, Later, Stops, IsTellersStop, HasVisited, HasTold, StandsAt, Ends}
-use Rattle.cfa_walk.specs.Builds.{BuiltOn}
-use Rattle.cfa_walk.proofs.BuiltLemmas.{then_kept, told_kept}
-use Rattle.cfa_walk.specs.Passes.{Course, goes, then_on, Calls, classes_for, in_every_list, raised_to, raise_each, raise_lists, told, worked, unless_skipped, visited, visit_status, calls_of, visit}
+use Rattle.cfa_states.specs.declared.activations.Activation.{Activation}
+use Rattle.cfa_states.specs.Levels.{GoesTo, IsTooLarge, is_quiet, visited_by, outcomes_of, Faults, Later, Stops, IsTellersStop, HasVisited, HasTold, StandsAt, Ends}
+use Rattle.cfa_states.specs.Builds.{BuiltOn}
+use Rattle.cfa_states.specs.lemmas.Built.{then_kept, told_kept}
+use Rattle.cfa_states.specs.Passes.{Course, goes, then_on, Calls, classes_for, in_every_list, raised_to, raise_each, raise_lists, told, worked, unless_skipped, visited, visit_status, calls_of, visit}
 use Rattle.cfa_walk.specs.Steps.{visit_level, call_course, CallEnds, raise_ending}
-use Rattle.cfa_walk.specs.declared.tellers.Ending.{Ending}
-use Rattle.cfa_walk.specs.Waits.{waits_in}
-use Rattle.cfa_walk.specs.Tellers.{Teller, outcomes_in, worst_in, inner_path}
-use Rattle.cfa_walk.specs.Views.{Setting, Home}
+use Rattle.cfa_states.specs.declared.endings.Ending.{Ending}
+use Rattle.cfa_states.specs.Waits.{waits_in}
+use Rattle.cfa_states.specs.Tellers.{Teller, outcomes_in, worst_in, inner_path}
 use Rattle.cfa_walk.proofs.LevelLemmas.{goes_then, past_first, later_then, stops_later, ends_nothing}
-use Rattle.cfa_walk.proofs.KeptLemmas.{keeps_told}
-use Rattle.cfa_walk.proofs.LocalLemmas.{local_same, local_listed, local_raised_everywhere}
-use Rattle.cfa_walk.proofs.SpareLemmas.{spare_none, spare_then, spare_fewer, spare_told, spare_listed, spare_raised_everywhere, local_spared, inner_is_longer}
-use Rattle.cfa_walk.proofs.DefiningLemmas.{home_same}
+use Rattle.cfa_states.specs.lemmas.Locals.{local_same, local_listed, local_raised_everywhere}
+use Rattle.cfa_states.specs.lemmas.Spared.{spare_none, spare_then, spare_fewer, spare_told, spare_listed, spare_raised_everywhere, local_spared, inner_is_longer}
+use Rattle.cfa_states.specs.lemmas.Later.{home_same}
+
+-- ---- events that touch nothing of it
+
+pub keeps_told : (s : Setting) (st : State) (h : History) (instance : Instance) (outcomes : List Outcome) → Keeps s st h → Keeps s st (Told instance outcomes ∷ h)
+unfolding shared_in
+keeps_told s st h instance outcomes keeps =
+    (keeps.0, (keeps.1.0, (keeps.1.1.0, (keeps.1.1.1.0, counts_same s st h (Told instance outcomes ∷ h) refl (λ _. refl) refl refl refl keeps.1.1.1.1))))
 
 -- ---- the course of a visit
 

@@ -10,21 +10,22 @@ use Rattle.cfa_kinds.specs.declared.kinds.BundleType.TheVariants.{Agent, Common,
 use Rattle.cfa_served.specs.Control.{sequence_of}
 use Rattle.cfa_served.specs.Served.{bundle_of}
 use Rattle.cfa_tree.specs.Tree.{NamedTree, BlockTree, PolicyTree}
-use Rattle.cfa_walk.specs.declared.states.State.{State}
-use Rattle.cfa_walk.specs.declared.activations.Activation.{Activation}
+use Rattle.cfa_states.specs.declared.states.State.{State}
+use Rattle.cfa_states.specs.declared.activations.Activation.{Activation}
 use Rattle.cfa_walk.specs.Steps.{Walk, IsClear, HasQuietlyGone, QuietWalkDone, passes_walk, HasGone, WalkDone, WalkEnds, agent_walk, sequence_walk, bundle_walk, passes_level}
-use Rattle.cfa_walk.specs.Builds.{BuiltOn}
-use Rattle.cfa_walk.specs.History.{History, Event, Begun, within}
-use Rattle.cfa_walk.specs.Kept.{Keeps, Stands, IsOf}
-use Rattle.cfa_walk.specs.Levels.{GoesTo, IsTooLarge, is_quiet, Faults, FaultsAre, StandsAt, LevelDone, done_of}
-use Rattle.cfa_walk.specs.Numbered.{Numbered, name_of, numbered_in, params_of}
-use Rattle.cfa_walk.specs.Passes.{goes, then_on, passes, calls_of, all_calls, bind, by_type, in_sequence, type_of_block, run}
-use Rattle.cfa_walk.specs.Tellers.{Teller}
-use Rattle.cfa_walk.specs.Views.{Setting}
+use Rattle.cfa_states.specs.Builds.{BuiltOn}
+use Rattle.cfa_states.specs.History.{History, Event, Begun, within}
+use Rattle.cfa_states.specs.Kept.{Keeps, Stands, IsOf}
+use Rattle.cfa_states.specs.Levels.{GoesTo, IsTooLarge, is_quiet, Faults, StandsAt, LevelDone, done_of}
+use Rattle.cfa_states.specs.Numbered.{Numbered, name_of, numbered_in, params_of}
+use Rattle.cfa_states.specs.Passes.{then_on, passes, calls_of, all_calls, bind, by_type, in_sequence, type_of_block, run}
+use Rattle.cfa_states.specs.Tellers.{Teller}
+use Rattle.cfa_states.specs.Views.{Setting}
 use Rattle.cfa_walk.specs.Walked.{HasRun, HasRunTo}
-use Rattle.cfa_walk.proofs.BuiltLemmas.{KeepsBuilt, then_kept, each_kept, calls_kept, activation_kept}
+use Rattle.cfa_states.specs.lemmas.Built.{KeepsBuilt, then_kept, each_kept, calls_kept, activation_kept}
 use Rattle.cfa_walk.proofs.QuietLemmas.{WalkKeeps, home_for, home_is}
-use Rattle.cfa_walk.proofs.LevelLemmas.{built_then, goes_then, past_first, past_then, goes_weaker, each_more, quietly_behind, later_same, faults_then, patterns_then}
+use Rattle.cfa_walk.proofs.LevelLemmas.{built_then, goes_then, past_first, past_then, each_more, quietly_behind, faults_then, patterns_then}
+use Rattle.cfa_states.specs.lemmas.Courses.{goes_weaker}
 use Rattle.cfa_walk.proofs.CommonLemmas.{each_append}
 
 -- what was built before the sequence stays so
@@ -40,11 +41,6 @@ sequence_keeps names text s t =
     (λ name. named_keeps text s t name (type_of_block s t (bundle_of s.policy name)) (bundle_of s.policy name)) names
 
 module _ {W X : Type 0} (teller : X → Teller) (agrees : W → X → Type 0) (behind : W → X → History → Type 0) (policy : PolicyTree) where
-  pub gone_nothing : (walk : Walk) (w : W) (st : State) → ((s : Setting) (t : Teller) (h : History) → s.policy ≡ policy → walk s t h ≡ goes h) →
-      HasGone teller agrees behind policy walk w w st st
-  gone_nothing walk w st is = λ s x h agree.
-      (agree, λ same keeps stays. subst (λ c. GoesTo c (λ k. Keeps s st k × behind w x k)) (sym (is s (teller x) h same)) (keeps, stays))
-
   pub gone_is : (walk other : Walk) (w w' : W) (st st' : State) (result : Result (Unit {0}) Stop) →
       ((s : Setting) (t : Teller) (h : History) → s.policy ≡ policy → other s t h ≡ walk s t h) →
       WalkDone teller agrees behind policy walk w w' st st' result → WalkDone teller agrees behind policy other w w' st st' result
@@ -154,9 +150,6 @@ module _ {W X : Type 0} (teller : X → Teller) (agrees : W → X → Type 0) (b
 -- ---- bundles of the sequence
 
 module _ {W X : Type 0} (teller : X → Teller) (agrees : W → X → Type 0) (behind : W → X → History → Type 0) (faults : W → Faults) (policy : PolicyTree) where
-  pub names_nothing : (w : W) (st : State) (p : Shown (List (List ℕ))) → WalkEnds teller agrees behind faults policy (sequence_walk []) w w st st p p (Ok tt)
-  names_nothing w st p = (gone_nothing teller agrees behind policy (sequence_walk []) w st (λ s t h same. refl), (later_same (faults w), refl))
-
   pub names_then : (all xs : List (List ℕ)) (y : List ℕ) (w w' w'' : W) (st st' st'' : State) (p p' p'' : Shown (List (List ℕ))) (result : Result (Unit {0}) Stop) → all ≡ xs ++ y ∷ [] →
       WalkEnds teller agrees behind faults policy (sequence_walk xs) w w' st st' p p' (Ok tt) →
       WalkEnds teller agrees behind faults policy (bundle_walk y) w' w'' st' st'' p' p'' result →
@@ -258,10 +251,3 @@ module _ {W X : Type 0} (teller : X → Teller) (agrees : W → X → Type 0) (b
   run_alone w' (Err Memory) ran = tt
   run_alone w' (Err Visits) ran = ran
   run_alone w' (Err (Pattern text)) ran = ran
-
--- nothing was told yet
-pub quiet_stop : (policy : PolicyTree) (walk : Walk) (st st' : State) (stop : Stop) (faults : Faults) → QuietWalkDone policy walk st st' (Err stop) → FaultsAre faults faults (Err stop)
-quiet_stop policy walk st st' (Outside object) faults first = absurd first
-quiet_stop policy walk st st' Memory faults first = refl
-quiet_stop policy walk st st' Visits faults first = refl
-quiet_stop policy walk st st' (Pattern text) faults first = refl

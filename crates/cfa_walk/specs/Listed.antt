@@ -3,15 +3,15 @@ use Rattle.std.specs.Prelude.{◌≡◌, ℕ, List, ⊤, Result, Ok, Err}
 use Rattle.cfa_base.specs.Patterns.{refuses}
 use Rattle.cfa_base.specs.Shown.{Shown, HasFailed}
 use Rattle.cfa_walk.specs.declared.listing.Telling.{Telling}
-use Rattle.cfa_walk.specs.declared.walks.Walk.{Walk}
-use Rattle.cfa_walk.specs.declared.walks.WalkErr.{WalkErr}
-use Rattle.cfa_walk.specs.declared.walks.WalkErr.TheVariants.{TooLarge, PatternTooBig, NoMemory}
-use Rattle.cfa_walk.specs.Builds.{BuiltOn}
-use Rattle.cfa_walk.specs.Levels.{GoesTo, IsTooLarge}
-use Rattle.cfa_walk.specs.Passes.{run}
+use Rattle.cfa_states.specs.declared.walks.Walk.{Walk}
+use Rattle.cfa_walk.specs.declared.listing.WalkErr.{WalkErr}
+use Rattle.cfa_walk.specs.declared.listing.WalkErr.TheVariants.{TooLarge, PatternTooBig, NoMemory}
+use Rattle.cfa_states.specs.Builds.{BuiltOn}
+use Rattle.cfa_states.specs.Levels.{GoesTo, IsTooLarge}
+use Rattle.cfa_states.specs.Passes.{run}
 use Rattle.cfa_walk.specs.Tellings.{told_by}
-use Rattle.cfa_walk.specs.Views.{Setting}
-use Rattle.cfa_walk.specs.Walks.{walked}
+use Rattle.cfa_states.specs.Views.{Setting}
+use Rattle.cfa_states.specs.Walks.{walked}
 
 module _ (s : Setting) (telling : Telling) where
   abbrev pub HasWalked : Walk → Type 0

@@ -1,11 +1,11 @@
 -- Of the code alone: the levels of the passes, by what each is about.
-use Rattle.std.specs.Prelude.{◌≡◌, ℕ, ◌+◌, nat_le, Bool, true, false, All, IsTrue, List, ◌∷◌, length, ⊤, Result, Ok, Err, [], Some, None, map, Option}
+use Rattle.std.specs.Prelude.{◌≡◌, ℕ, ◌+◌, nat_le, Bool, true, false, All, IsTrue, List, ◌∷◌, length, ⊤, Result, Ok, Err, [], Some, None}
 use Rattle.cfa_base.specs.Shown.{Shown}
 use Rattle.cfa_schema.specs.Laws.{IsCounted}
 use Rattle.cfa_resolve.specs.declared.instances.Resolved.{Resolved}
 use Rattle.cfa_resolve.specs.Resolution.{resolution}
-use Rattle.cfa_walk.specs.declared.activations.Activation.{Activation}
-use Rattle.cfa_walk.specs.declared.remembering.Found.{Found}
+use Rattle.cfa_states.specs.declared.activations.Activation.{Activation}
+use Rattle.cfa_states.specs.declared.remembering.Found.{Found}
 use Rattle.cfa_output.specs.declared.ends.Stop.{Stop}
 use Rattle.cfa_output.specs.declared.ends.Stop.TheVariants.{Outside, Memory, Visits, Pattern}
 use Rattle.cfa_statuses.specs.declared.levels.Status.{Status}
@@ -15,57 +15,25 @@ use Rattle.cfa_outcomes.specs.declared.outcomes.Outcome.{Outcome}
 use Rattle.cfa_resolve.specs.declared.instances.Instance.{Instance}
 use Rattle.cfa_resolve.specs.declared.instances.Work.{Work}
 use Rattle.cfa_resolve.specs.declared.instances.Work.TheVariants.{Acts, Call, Report}
-use Rattle.cfa_tree.specs.Tree.{PolicyTree, BlockTree, PromiseTree}
-use Rattle.cfa_walk.specs.declared.states.State.{State}
-use Rattle.cfa_walk.specs.History.{History, Where, everywhere, within, Reached, visits_in, locally, local_source, Raised}
-use Rattle.cfa_walk.specs.Kept.{Keeps, SpareShorter}
-use Rattle.cfa_walk.specs.Levels.{Level, QuietLevel, GoesTo, IsTooLarge, EndedAs, StandsAt, Faults, FaultsAre, PatternsAre, done_of, Quietly}
-use Rattle.cfa_walk.specs.Numbered.{Numbered, of_type, agent_types, common_types, name_of, numbered_in}
-use Rattle.cfa_walk.specs.Builds.{BuiltOn, BuiltWhere}
-use Rattle.cfa_walk.specs.Passes.{Course, goes, most_visits, reached, visit, instances_from, acting_reached, reach, promises_from, types_from, passes, calls_of, vars_reached, classes_reached, sets_variable, through_common, commons_from, common_passes, activation, all_calls, in_sequence, sequence_from, handed, raise_lists}
-use Rattle.cfa_walk.specs.Tellers.{Teller, inner_path, worst_in, outcomes_in}
-use Rattle.cfa_walk.specs.Views.{Setting, Home, scopes_in, reached_in_history, shared_names, status_in}
-use Rattle.cfa_defines.specs.VarsPromises.{setting_choices}
+use Rattle.cfa_tree.specs.Tree.{PolicyTree, BlockTree}
+use Rattle.cfa_states.specs.declared.states.State.{State}
+use Rattle.cfa_states.specs.History.{History, everywhere, within, Reached, visits_in, locally, local_source}
+use Rattle.cfa_states.specs.Kept.{Keeps, SpareShorter}
+use Rattle.cfa_states.specs.Levels.{Level, QuietLevel, GoesTo, IsTooLarge, EndedAs, StandsAt, Faults, FaultsAre, PatternsAre, done_of, Quietly}
+use Rattle.cfa_states.specs.Numbered.{Numbered, of_type, agent_types, common_types, name_of, numbered_in}
+use Rattle.cfa_states.specs.Builds.{BuiltOn, BuiltWhere}
+use Rattle.cfa_states.specs.Passes.{Course, goes, most_visits, visit, instances_from, acting_reached, reach, promises_from, types_from, passes, calls_of, through_common, commons_from, common_passes, activation, all_calls, in_sequence, sequence_from, raise_lists}
+use Rattle.cfa_states.specs.Tellers.{Teller, inner_path, worst_in, outcomes_in}
+use Rattle.cfa_states.specs.Views.{Setting, Home, reached_in_history, shared_names}
 use Rattle.cfa_kinds.specs.declared.kinds.PromiseType.TheVariants.{Vars, Classes}
-use Rattle.cfa_kinds.specs.declared.kinds.PromiseType.TheVariants as promises
 use Rattle.cfa_outcomes.specs.declared.outcomes.Outcome.TheVariants.{Kept}
 use Rattle.cfa_tree.specs.declared.blocks.Block.TheVariants.{Bundle as block_of}
 use Rattle.cfa_tree.specs.declared.blocks.Bundle.{Bundle}
 use Rattle.cfa_tree.specs.Plain.{plain_block}
 use Rattle.cfa_served.specs.Served.{bundle_of}
 use Rattle.cfa_base.specs.Index.{is_listed}
-use Rattle.cfa_walk.specs.Waits.{waits_in}
-use Rattle.cfa_statuses.specs.Status.{lesser}
-use Rattle.cfa_vars.specs.Scopes.{InScope}
-use Rattle.cfa_vars.specs.Expansion.{Chosen}
-use Rattle.cfa_defines.specs.FirstMaybe.{first_maybe_of_guard}
-use Rattle.cfa_defines.specs.ClassPromises.{Raise, raises_of}
-use Rattle.cfa_walk.specs.declared.defining.Handed.{Handed}
-use Rattle.cfa_walk.specs.declared.tellers.Ending.{Ending}
-
--- The levels of the passes, by what each is about.
-
--- ---- promises
-
--- a promise that counts its visits and does nothing
-abbrev pub idle : Numbered → (guard : Status) → (sets_variable : Bool) → QuietLevel
-idle p guard sets s home t h = reached home p guard sets 1 goes h
-
--- a promise whose guard isn't set
-abbrev pub idle_level : Numbered → QuietLevel
-idle_level p = idle p No (sets_variable p.type)
-
-abbrev pub vars_level : Numbered → (guard : Status) → QuietLevel
-vars_level p guard s home t h = vars_reached s home p guard (setting_choices (scopes_in s h home) promises.Vars p.promise) h
-
--- classes are raised everywhere or within the activation
-abbrev pub place_of : (is_common : Bool) → Home → Where
-place_of true home = everywhere
-place_of false home = within home.path
-
-abbrev pub classes_level : (is_common : Bool) → Numbered → (guard : Status) → QuietLevel
-classes_level is_common p guard s home t h =
-    classes_reached s (place_of is_common home) home p guard (setting_choices (scopes_in s h home) promises.Classes p.promise) h
+use Rattle.cfa_states.specs.Waits.{waits_in}
+use Rattle.cfa_states.specs.declared.endings.Ending.{Ending}
 
 -- ---- levels of a common bundle, where nothing is told
 
@@ -295,26 +263,6 @@ bundle_walk name s t = in_sequence s t name (bundle_of s.policy name)
 
 abbrev pub sequence_walk : List (List ℕ) → Walk
 sequence_walk names s t = sequence_from s t names
-
--- The classes that a classes promise is to raise, with the sources that they are handed by the state before the
--- promise.
-
-abbrev pub hand : (before : History) → (path : List ℕ) → (guard : Status) → Option (List ℕ) → Raise → Handed
-hand before path guard in_guard (class, (status, first)) = record {
-  class = class;
-  to = lesser guard status;
-  source = handed before path in_guard first (lesser guard status);
-}
-
--- what the promise is to raise in these combinations
-abbrev pub handed_by : Setting → (before : History) → (path : List ℕ) → (guard : Status) → InScope → PromiseTree → Option (List Chosen) → List Handed
-handed_by s before path guard scopes promise choices =
-    map (hand before path guard (first_maybe_of_guard promise.guard (status_in s before path)))
-    (raises_of (status_in s before path) scopes promise choices)
-
-abbrev pub raise_handed : Where → List Handed → History → History
-raise_handed place [] h = h
-raise_handed place (one ∷ more) h = raise_handed place more (Raised place one.class one.to one.source ∷ h)
 
 -- The classes that are raised for how an instance ended, or may end.
 

@@ -4,9 +4,9 @@ use Rattle.cfa_resolve.specs.declared.instances.Work.{Work}
 use Rattle.cfa_resolve.specs.declared.instances.Work.TheVariants.{Acts, Call, Report}
 use Rattle.cfa_walk.specs.declared.listing.Telling.{Telling}
 use Rattle.cfa_walk.specs.declared.listing.Telling.TheVariants.{AllKept, Open}
-use Rattle.cfa_walk.specs.declared.tellers.Ending.{Ending}
-use Rattle.cfa_walk.specs.declared.tellers.Ending.TheVariants.{One, KeptOrRepaired}
-use Rattle.cfa_walk.specs.Tellers.{Teller, all_kept, open_walk}
+use Rattle.cfa_states.specs.declared.endings.Ending.{Ending}
+use Rattle.cfa_states.specs.declared.endings.Ending.TheVariants.{One, KeptOrRepaired}
+use Rattle.cfa_states.specs.Tellers.{Teller, all_kept, open_walk}
 
 abbrev pub told_by : Telling → Teller
 told_by AllKept = all_kept

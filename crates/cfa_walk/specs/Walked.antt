@@ -3,14 +3,14 @@
 use Rattle.std.specs.Prelude.{[], ⊤, Result, Ok, Err}
 use Rattle.cfa_output.specs.declared.ends.Stop.{Stop}
 use Rattle.cfa_output.specs.declared.ends.Stop.TheVariants.{Outside, Memory, Visits, Pattern}
-use Rattle.cfa_walk.specs.declared.states.State.{State}
-use Rattle.cfa_walk.specs.History.{History}
-use Rattle.cfa_walk.specs.Kept.{Keeps}
-use Rattle.cfa_walk.specs.Builds.{BuiltOn}
-use Rattle.cfa_walk.specs.Levels.{GoesTo, IsTooLarge}
-use Rattle.cfa_walk.specs.Passes.{run}
-use Rattle.cfa_walk.specs.Tellers.{Teller}
-use Rattle.cfa_walk.specs.Views.{Setting}
+use Rattle.cfa_states.specs.declared.states.State.{State}
+use Rattle.cfa_states.specs.History.{History}
+use Rattle.cfa_states.specs.Kept.{Keeps}
+use Rattle.cfa_states.specs.Builds.{BuiltOn}
+use Rattle.cfa_states.specs.Levels.{GoesTo, IsTooLarge}
+use Rattle.cfa_states.specs.Passes.{run}
+use Rattle.cfa_states.specs.Tellers.{Teller}
+use Rattle.cfa_states.specs.Views.{Setting}
 
 module _ {W X : Type 0} (teller : X → Teller) (agrees : W → X → Type 0) (behind : W → X → History → Type 0) (s : Setting) where
   abbrev pub HasRun : (w w' : W) → Result (Unit {0}) Stop → Type 0

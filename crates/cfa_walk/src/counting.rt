@@ -5,19 +5,15 @@ ghost use Rattle.cfa_resolve.specs.Resolution.{is_acting, IsBuiltFor};
 ghost use Rattle.cfa_resolve.specs.Viewed.{too_big_in};
 ghost use Rattle.cfa_schema.specs.Laws.{IsCounted};
 ghost use Rattle.cfa_schema.specs.Seen.{tree_of};
-ghost use Rattle.cfa_walk.specs.Kept.{AreLater, ResolutionHolds, RowHolds, reached_now, resolution_now, seen_numbered};
-ghost use Rattle.cfa_walk.specs.Levels.{PatternsAre, done_of};
+ghost use Rattle.cfa_states.specs.Kept.{AreLater, ResolutionHolds, RowHolds, reached_now, resolution_now, seen_numbered};
+ghost use Rattle.cfa_states.specs.Levels.{PatternsAre, done_of};
 ghost use Rattle.cfa_walk.specs.Steps.{IsAt, Counts, instances_of};
 
-use crate::activations::{Activation, scopes_of};
-use crate::numbered::Numbered;
-use crate::remembering::{Found, moment_of, still_found};
-use crate::states::State;
-use crate::waits::waits_of;
 use cfa_base::Patterns;
 use cfa_output::Stop;
 use cfa_resolve::{FoundPromise, ResolveErr, Resolved, View, instances_are_named, resolve_promise};
 use cfa_schema::Checked;
+use cfa_states::{Activation, Found, Numbered, State, moment_of, scopes_of, still_found, waits_of};
 use cfa_statuses::Status;
 use std::alloc::Global;
 

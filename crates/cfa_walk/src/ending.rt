@@ -1,17 +1,16 @@
 // What follows when an instance has ended.
 ghost use Rattle.std.specs.Prelude.{◌≡◌, [], ◌∷◌, IfOk, OnOk};
-ghost use Rattle.cfa_walk.specs.History.{History};
-ghost use Rattle.cfa_walk.specs.Kept.{Keeps, IsLater};
+ghost use Rattle.cfa_states.specs.History.{History};
+ghost use Rattle.cfa_states.specs.Kept.{Keeps, IsLater};
 ghost use Rattle.cfa_resolve.specs.declared.instances.Instance.{Instance as AnyInstance};
 ghost use Rattle.cfa_walk.specs.Steps.{raise_ending};
-ghost use Rattle.cfa_walk.specs.Passes.{classes_for, in_every_list, raise_each, raised_to, visit_status};
-ghost use Rattle.cfa_walk.specs.Views.{Setting};
+ghost use Rattle.cfa_states.specs.Passes.{classes_for, in_every_list, raise_each, raised_to, visit_status};
+ghost use Rattle.cfa_states.specs.Views.{Setting};
 
-use crate::states::State;
-use crate::tellers::Ending;
 use cfa_base::{Name, NameIndex, Names, NoMemory};
 use cfa_outcomes::Outcome;
 use cfa_resolve::{Instance, copy_id};
+use cfa_states::{Ending, State};
 use cfa_statuses::Status;
 use std::alloc::Global;
 

@@ -1,7 +1,7 @@
 // What holds of the names and ids of a checked policy.
 ghost use Rattle.cfa_schema.specs.Seen.{tree_of};
 ghost use Rattle.cfa_walk.specs.Steps.{HasCountedIds};
-ghost use Rattle.cfa_walk.specs.Levels.{HasPlainNames};
+ghost use Rattle.cfa_states.specs.Levels.{HasPlainNames};
 
 use cfa_schema::{
     Checked, lines_are_counts, names_are_words, served_bundles_stand, served_names_are_words,

@@ -1,33 +1,19 @@
 //! The history of a run: what happens in the passes of a policy, by who tells how its instances end.
 #![tactic(auto)]
 
-mod activations;
-mod binding;
-mod changing;
 mod contexts;
 mod counting;
-mod defining;
 mod ending;
 mod facts;
 mod listing;
-mod logs;
-mod numbered;
 mod passing;
-mod register;
-mod remembering;
 mod scenes;
-mod shared_scopes;
-mod states;
 mod tellers;
 mod visiting;
-mod waits;
 mod walking;
-mod walks;
 
+pub use cfa_states::{Blame, Ending, MOST_VISITS, Visit, Walk, names_of};
 pub use contexts::Context;
-pub use listing::{Telling, walk};
-pub use logs::names_of;
-pub use states::MOST_VISITS;
-pub use tellers::{Ending, Teller};
+pub use listing::{Telling, WalkErr, walk};
+pub use tellers::Teller;
 pub use walking::run;
-pub use walks::{Blame, Visit, Walk, WalkErr};

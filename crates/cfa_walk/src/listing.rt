@@ -4,16 +4,17 @@ ghost use Rattle.cfa_walk.specs.Listed.{HasWalked, IsRefused, WalkPatterns};
 ghost use Rattle.cfa_walk.specs.Settings.{setting_of};
 ghost use Rattle.cfa_walk.specs.Tellings.{ending_of};
 
-use crate::logs::walk_of;
 use crate::walking::make_run;
-use crate::{Context, Ending, Teller, Walk, WalkErr};
-use cfa_base::Patterns;
+use crate::{Context, Teller};
+use cfa_base::{Name, NoMemory, Patterns};
 use cfa_outcomes::Outcome;
 use cfa_output::Stop;
 use cfa_resolve::{Instance, Work};
 use cfa_schema::Checked;
+use cfa_states::{Ending, Walk, walk_of};
 use cfa_statuses::Status;
 use std::alloc::Global;
+use thiserror::Error;
 
 /// How the instances of a walk end. A report is kept.
 #[derive(Clone, Copy, Debug, PartialEq, Eq)]
@@ -22,6 +23,30 @@ pub enum Telling {
     AllKept,
     /// Each may be kept or repaired.
     Open,
+}
+
+/// Why a policy was not walked.
+#[derive(Debug, Drop, Error)]
+pub enum WalkErr {
+    /// More visits are needed than a walk may make.
+    #[error("too many visits")]
+    TooLarge,
+    /// The pattern of this text was refused for its size.
+    #[error("a pattern is too big")]
+    PatternTooBig(Name),
+    /// No memory was left.
+    #[error("out of memory")]
+    NoMemory,
+}
+
+impl From<NoMemory> for WalkErr {
+    ghost use Rattle.cfa_walk.specs.declared.listing.WalkErr.TheVariants as errors;
+
+    ghost from_gives = { λ _ e. e ≡ errors.NoMemory };
+
+    fn from(_: NoMemory) -> Self {
+        WalkErr::NoMemory
+    }
 }
 
 // How an instance ends, or may end.

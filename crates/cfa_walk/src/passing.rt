@@ -3,22 +3,21 @@ ghost use Rattle.std.specs.Prelude.{◌≡◌, ◌≢◌, IsTrue, OnOk, map};
 ghost use Rattle.cfa_resolve.specs.Resolution.{is_acting};
 ghost use Rattle.cfa_schema.specs.Laws.{IsCounted};
 ghost use Rattle.cfa_schema.specs.Seen.{tree_of};
-ghost use Rattle.cfa_walk.specs.Kept.{AreLater, GuardsRepeat, RowHolds, RowsHold, guard_now, seen_numbered};
-ghost use Rattle.cfa_walk.specs.Levels.{Ends, HasPlainNames};
+ghost use Rattle.cfa_states.specs.Kept.{AreLater, GuardsRepeat, RowHolds, RowsHold, guard_now, seen_numbered};
+ghost use Rattle.cfa_states.specs.Levels.{Ends, HasPlainNames};
 ghost use Rattle.cfa_walk.specs.Steps.{AreCounted, acting_level, reach_level, type_level, pass_level, passes_level};
 
-use crate::activations::Activation;
 use crate::counting::count_instances;
-use crate::defining::{pass_over, reach_classes, reach_vars};
-use crate::numbered::Numbered;
-use crate::remembering::{Found, empty_rows, guard_known};
 use crate::scenes::Scene;
-use crate::states::State;
 use crate::tellers::Teller;
 use crate::visiting::visit_each;
 use cfa_base::Patterns;
 use cfa_kinds::PromiseType;
 use cfa_output::Stop;
+use cfa_states::{
+    Activation, Found, Numbered, State, empty_rows, guard_known, pass_over, reach_classes,
+    reach_vars,
+};
 use cfa_statuses::Status;
 
 // Reaches a promise that has instances, whose guard may hold.

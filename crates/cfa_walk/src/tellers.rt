@@ -1,24 +1,16 @@
 // Who tells how instances end.
 ghost use Rattle.std.specs.Prelude.{◌∷◌, IfErr, IfOk, IsTrue};
 ghost use Rattle.cfa_schema.specs.Laws.{IsCounted};
-ghost use Rattle.cfa_walk.specs.History.{History, Event};
-ghost use Rattle.cfa_walk.specs.Levels.{HasVisited, HasTold, Faults, Later, Stops, IsTellersStop, is_quiet};
-ghost use Rattle.cfa_walk.specs.Tellers as tellers;
+ghost use Rattle.cfa_states.specs.History.{History, Event};
+ghost use Rattle.cfa_states.specs.Levels.{HasVisited, HasTold, Faults, Later, Stops, IsTellersStop, is_quiet};
+ghost use Rattle.cfa_states.specs.Tellers as tellers;
 
 use cfa_outcomes::Outcome;
 use cfa_output::Stop;
 use cfa_resolve::Instance;
+use cfa_states::Ending;
 use cfa_statuses::Status;
 use std::alloc::Global;
-
-/// How an instance ends, or may end.
-#[derive(Clone, Copy, Debug, PartialEq, Eq)]
-pub enum Ending {
-    /// As it did in a run, or as it does wherever all is kept.
-    One(Outcome),
-    /// As kept or as repaired.
-    KeptOrRepaired,
-}
 
 /// Who tells which visits are skipped and how instances end. It stands on a site and a sink, or on whatever else it was made
 /// for.

@@ -2,23 +2,20 @@
 ghost use Rattle.std.specs.Prelude.{◌≡◌, All, OnOk};
 ghost use Rattle.cfa_schema.specs.Laws.{IsCounted};
 ghost use Rattle.cfa_schema.specs.Seen.{tree_of};
-ghost use Rattle.cfa_walk.specs.Kept.{AreLater, IsLater};
-ghost use Rattle.cfa_walk.specs.Levels.{Ends, HasPlainNames};
+ghost use Rattle.cfa_states.specs.Kept.{AreLater, IsLater};
+ghost use Rattle.cfa_states.specs.Levels.{Ends, HasPlainNames};
 ghost use Rattle.cfa_walk.specs.Steps.{IsAt, CallEnds, visit_level, instances_level};
 
-use crate::activations::{Activation, inner_path};
-use crate::binding::bind;
 use crate::ending::{raise_ending, visit_status};
 use crate::facts::ids_are_counted;
-use crate::numbered::numbered_in;
 use crate::passing::go_through;
 use crate::scenes::Scene;
-use crate::states::State;
 use crate::tellers::Teller;
 use cfa_base::{Name, Parts, Patterns};
 use cfa_outcomes::Outcome;
 use cfa_output::Stop;
 use cfa_resolve::{Instance, Work};
+use cfa_states::{Activation, State, bind, inner_path, numbered_in};
 use cfa_statuses::Status;
 use cfa_vars::Datum;
 

@@ -4,23 +4,22 @@ ghost use Rattle.cfa_schema.specs.Seen.{tree_of};
 ghost use Rattle.cfa_served.specs.Served.{bundle_of};
 ghost use Rattle.cfa_tree.specs.Tree.{PolicyTree};
 ghost use Rattle.cfa_walk.specs.Steps.{is_in_common, seen_bundle, IsShared, QuietWalkDone, WalkEnds, common_walk, commons_walk, passes_walk, agent_walk, bundle_walk, sequence_walk, common_type_level};
-ghost use Rattle.cfa_walk.specs.Levels.{FaultsAre, PatternsAre, QuietDone, done_of};
-ghost use Rattle.cfa_walk.specs.Kept.{seen_numbered};
+ghost use Rattle.cfa_states.specs.Levels.{FaultsAre, PatternsAre, QuietDone, done_of};
+ghost use Rattle.cfa_states.specs.Kept.{seen_numbered};
 ghost use Rattle.cfa_walk.specs.Settings.{setting_of};
 ghost use Rattle.cfa_walk.specs.Walked.{HasRun, HasRunTo};
 
-use crate::activations::{Activation, guard_status};
-use crate::defining::{pass_over, reach_classes, reach_vars};
 use crate::facts::{ids_are_counted, names_are_plain};
-use crate::numbered::{Numbered, numbered_in};
 use crate::passing::go_through;
 use crate::scenes::Scene;
-use crate::states::State;
 use crate::{Context, Teller};
 use cfa_base::{Name, Patterns};
 use cfa_kinds::{BundleType, PromiseType, bundle_type};
 use cfa_output::Stop;
 use cfa_schema::Checked;
+use cfa_states::{
+    Activation, Numbered, State, guard_status, numbered_in, pass_over, reach_classes, reach_vars,
+};
 use cfa_statuses::Status;
 use cfa_tree::Bundle;
 use std::alloc::Global;

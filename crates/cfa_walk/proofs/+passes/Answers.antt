@@ -10,25 +10,26 @@ use Rattle.cfa_served.specs.Served.{bundle_of}
 use Rattle.cfa_tree.specs.Plain.{plain_named}
 use Rattle.cfa_vars.specs.declared.scoping.Datum.{Datum}
 use Rattle.cfa_walk.specs.Steps.{seen_bundle, IsAt, AreCounted, CallEnds, visit_level, instances_level, acting_level, type_level, types_level, pass_level, passes_level}
-use Rattle.cfa_walk.specs.History.{History}
-use Rattle.cfa_walk.specs.Kept.{Stands, IsOf, GuardsRepeat, RowHolds, seen_numbered}
-use Rattle.cfa_walk.specs.Passes.{bind}
-use Rattle.cfa_walk.specs.Tellers.{inner_path}
-use Rattle.cfa_walk.specs.Views.{Setting}
+use Rattle.cfa_states.specs.History.{History}
+use Rattle.cfa_states.specs.Kept.{Stands, IsOf, GuardsRepeat, RowHolds, seen_numbered}
+use Rattle.cfa_states.specs.Passes.{bind}
+use Rattle.cfa_states.specs.Tellers.{inner_path}
+use Rattle.cfa_states.specs.Views.{Setting}
 use Rattle.cfa_walk.proofs.ServedLemmas.{all_held, found_name}
 use Rattle.cfa_walk.proofs.+passes.Goals.{passing::reach_type-then-eq+in_ok-reach, passing::reach_type-else-eq, visiting::activate-in-Some+in_ok-bind+in_ok-promises+in_ok-go_through, visiting::activate-in_default}
 use Rattle.cfa_resolve.specs.declared.instances.Instance.{Instance}
 use Rattle.cfa_resolve.specs.Resolution.{is_acting}
 use Rattle.cfa_schema.specs.Seen.{tree_of}
-use Rattle.cfa_walk.specs.declared.numbered.Numbered.{Numbered as Held}
-use Rattle.cfa_walk.specs.declared.remembering.Found.{Found}
+use Rattle.cfa_states.specs.declared.numbered.Numbered.{Numbered as Held}
+use Rattle.cfa_states.specs.declared.remembering.Found.{Found}
 use Rattle.cfa_output.specs.declared.ends.Stop.TheVariants.{Memory}
-use Rattle.cfa_walk.specs.Levels.{Ends, HasVisited}
-use Rattle.cfa_walk.specs.Numbered.{Numbered, agent_types, numbered_in, params_of}
+use Rattle.cfa_states.specs.Levels.{Ends, HasVisited}
+use Rattle.cfa_states.specs.Numbered.{Numbered, agent_types, numbered_in, params_of}
 use Rattle.cfa_base.specs.lemmas.Firsts.{one_taken}
-use Rattle.cfa_walk.proofs.CommonLemmas.{in_parts, of_item, is_same_type, is_other_type, types_agree, types_differ, statuses_agree, statuses_differ}
-use Rattle.cfa_walk.proofs.LaterLemmas.{are_same, are_then, later_same, later_then, row_later, state_ok, then_are, with_state}
-use Rattle.cfa_walk.proofs.RememberedLemmas.{before_next, guard_read, repeated_before, inside_map, row_at, row_ok, rows_set, seen_at}
+use Rattle.cfa_walk.proofs.CommonLemmas.{in_parts, of_item, is_same_type, is_other_type, types_agree, types_differ}
+use Rattle.cfa_states.specs.lemmas.Statuses.{statuses_agree, statuses_differ}
+use Rattle.cfa_states.specs.lemmas.Later.{are_same, are_then, later_same, later_then, state_ok, with_state}
+use Rattle.cfa_walk.proofs.RememberedLemmas.{row_later, then_are, before_next, guard_read, repeated_before, inside_map, row_at, row_ok, rows_set, seen_at}
 use Rattle.cfa_walk.proofs.LoopLemmas.{loop_begins, loop_goes_on, loop_stops}
 use Rattle.cfa_walk.proofs.PassLemmas.{type_keeps, visit_keeps, first_stops, second_stops, passes_end, type_begins, type_goes_on, type_leaves, type_stops, reached_unset, reached_vars, reached_classes, reached_acting, reached_left, left_type, acting_type, no_answer}
 use Rattle.cfa_walk.proofs.CountLemmas.{acting_ends, count_stops}

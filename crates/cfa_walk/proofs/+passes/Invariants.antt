@@ -1,9 +1,9 @@
 use Rattle.std.proofs.Common.{◌≡◌, ◌+◌, ◌*◌, take, map}
 use Rattle.std.specs.Prelude.{Ok}
 use Rattle.cfa_schema.specs.Seen.{tree_of}
-use Rattle.cfa_walk.specs.Kept.{AreLater, RowsHold, seen_numbered}
-use Rattle.cfa_walk.specs.Levels.{Ends}
-use Rattle.cfa_walk.specs.Numbered.{agent_types}
+use Rattle.cfa_states.specs.Kept.{AreLater, RowsHold, seen_numbered}
+use Rattle.cfa_states.specs.Levels.{Ends}
+use Rattle.cfa_states.specs.Numbered.{agent_types}
 use Rattle.cfa_walk.specs.Steps.{instances_level, type_level, types_level}
 use Rattle.cfa_walk.proofs.RememberedLemmas.{BeforeHolds}
 use Rattle.cfa_walk.proofs.+passes.Given as goal

@@ -1,8 +1,8 @@
 use Rattle.std.proofs.Common.{◌≡◌, drop}
 use Rattle.cfa_conflict.specs.Conflicts.{conflicts_from}
 use Rattle.cfa_conflict.specs.Targets.{first_of}
-use Rattle.cfa_walk.specs.Names.{names_of}
-use Rattle.cfa_walk.specs.declared.walks.Walk.{Walk}
+use Rattle.cfa_states.specs.Names.{names_of}
+use Rattle.cfa_states.specs.declared.walks.Walk.{Walk}
 use Rattle.cfa_conflict.proofs.judging.first_live.Given as goal
 
 abbrev pub invariant-loop-place : goal.invariant-loop-place

@@ -5,7 +5,7 @@ use Rattle.std.specs.List.Sorted.{IsNonDecreasing}
 use Rattle.std.specs.Prelude.{nat_eq, slice_get}
 use Rattle.cfa_acts.specs.declared.acts.Act.{Act}
 use Rattle.cfa_resolve.specs.declared.instances.Instance.{Instance}
-use Rattle.cfa_walk.specs.Tellers.{acts_of}
+use Rattle.cfa_states.specs.Tellers.{acts_of}
 use Rattle.cfa_conflict.specs.Conflicts.{undone_in}
 use Rattle.cfa_conflict.specs.Targets.{first_of, sought}
 use Rattle.cfa_conflict.proofs.NumberLemmas.{got_is}

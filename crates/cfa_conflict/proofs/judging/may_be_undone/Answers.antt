@@ -2,7 +2,7 @@ use Rattle.std.proofs.Common.{◌≡◌, ℕ, List, ap, ◌∙◌, arith}
 use Rattle.std.specs.List.{flat_map, list_any}
 use Rattle.std.specs.Prelude.{nat_eq}
 use Rattle.cfa_acts.specs.declared.acts.Act.{Act}
-use Rattle.cfa_walk.specs.Tellers.{acts_of}
+use Rattle.cfa_states.specs.Tellers.{acts_of}
 use Rattle.cfa_conflict.specs.Targets.{sought}
 use Rattle.cfa_conflict.proofs.CalmLemmas.{never_undone}
 use Rattle.cfa_conflict.proofs.judging.may_be_undone.Goals as goal

@@ -5,10 +5,10 @@ use Rattle.std.specs.Prelude.{Err}
 use Rattle.cfa_resolve.specs.declared.instances.ResolveErr.{ResolveErr}
 use Rattle.cfa_resolve.specs.Viewed.{too_big_in}
 use Rattle.cfa_schema.specs.Seen.{tree_of}
-use Rattle.cfa_walk.specs.declared.states.State.{State}
-use Rattle.cfa_walk.specs.Kept.{scopes_now, seen_numbered}
+use Rattle.cfa_states.specs.declared.states.State.{State}
+use Rattle.cfa_states.specs.Kept.{scopes_now, seen_numbered}
 use Rattle.cfa_walk.proofs.CountLemmas.{all_at, counted, counted_later, noted, scopes_stand, too_big, uncounted}
-use Rattle.cfa_walk.proofs.LaterLemmas.{resolution_found}
+use Rattle.cfa_walk.proofs.RememberedLemmas.{resolution_found}
 use Rattle.cfa_walk.proofs.counting.count_instances.Goals as goal
 
 pub returns-in-Ok-clause-counted : goal.returns-in-Ok-clause-counted

@@ -8,7 +8,7 @@ use Rattle.cfa_resolve.specs.declared.instances.ResolveErr.TheVariants.{TooLarge
 use Rattle.cfa_resolve.specs.declared.instances.Resolved.{Resolved}
 use Rattle.cfa_schema.specs.Seen.{tree_of}
 use Rattle.cfa_vars.specs.Scopes.{in_scope}
-use Rattle.cfa_walk.specs.Kept.{seen_numbered}
+use Rattle.cfa_states.specs.Kept.{seen_numbered}
 use Rattle.cfa_walk.proofs.CountLemmas.{viewed}
 use Rattle.cfa_walk.proofs.counting.resolve_now.Goals as goal
 

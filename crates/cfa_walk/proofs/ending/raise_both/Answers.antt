@@ -1,7 +1,7 @@
 use Rattle.std.proofs.Common.{[], ◌∷◌}
 use Rattle.std.proofs.lemmas.Result.{on_ok_weaker}
 use Rattle.cfa_outcomes.specs.declared.outcomes.Outcome.TheVariants.{Kept, Repaired}
-use Rattle.cfa_walk.specs.Passes.{raise_each}
+use Rattle.cfa_states.specs.Passes.{raise_each}
 use Rattle.cfa_walk.proofs.ending.raise_both.Goals as goal
 
 pub returns-clause-keeps : goal.returns-clause-keeps

@@ -1,9 +1,9 @@
 use Rattle.std.proofs.Common.{◌≡◌, ◌∙◌, [], ◌∷◌, List, ℕ, take, subst}
 use Rattle.std.proofs.lemmas.List.{take_all}
 use Rattle.cfa_outcomes.specs.declared.outcomes.Outcome.TheVariants.{Kept, Repaired}
-use Rattle.cfa_walk.specs.Kept.{Keeps}
-use Rattle.cfa_walk.specs.Passes.{raise_each}
-use Rattle.cfa_walk.proofs.LaterLemmas.{later_same, later_then}
+use Rattle.cfa_states.specs.Kept.{Keeps}
+use Rattle.cfa_states.specs.Passes.{raise_each}
+use Rattle.cfa_states.specs.lemmas.Later.{later_same, later_then}
 use Rattle.cfa_walk.proofs.EndingLemmas.{both_one_more}
 use Rattle.cfa_walk.proofs.ending.raise_classes.Goals as goal
 

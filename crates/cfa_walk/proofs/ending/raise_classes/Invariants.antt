@@ -1,9 +1,9 @@
 use Rattle.std.proofs.Common.{[], ◌∷◌, take}
 use Rattle.cfa_outcomes.specs.declared.outcomes.Outcome.TheVariants.{Kept, Repaired}
-use Rattle.cfa_walk.specs.History.{History}
-use Rattle.cfa_walk.specs.Kept.{Keeps, IsLater}
-use Rattle.cfa_walk.specs.Passes.{raise_each}
-use Rattle.cfa_walk.specs.Views.{Setting}
+use Rattle.cfa_states.specs.History.{History}
+use Rattle.cfa_states.specs.Kept.{Keeps, IsLater}
+use Rattle.cfa_states.specs.Passes.{raise_each}
+use Rattle.cfa_states.specs.Views.{Setting}
 use Rattle.cfa_walk.proofs.ending.raise_classes.Given as goal
 
 -- the classes so far were raised

@@ -1,8 +1,8 @@
 use Rattle.std.proofs.Common.{◌≡◌, ◌∙◌, [], ◌∷◌, List, ℕ, take, subst}
 use Rattle.std.proofs.lemmas.List.{take_all}
-use Rattle.cfa_walk.specs.Kept.{Keeps}
-use Rattle.cfa_walk.specs.Passes.{classes_for, raise_each}
-use Rattle.cfa_walk.proofs.LaterLemmas.{later_same, later_then}
+use Rattle.cfa_states.specs.Kept.{Keeps}
+use Rattle.cfa_states.specs.Passes.{classes_for, raise_each}
+use Rattle.cfa_states.specs.lemmas.Later.{later_same, later_then}
 use Rattle.cfa_walk.proofs.EndingLemmas.{outcome_one_more}
 use Rattle.cfa_walk.proofs.ending.raise_outcome.Goals as goal
 

@@ -1,8 +1,7 @@
 use Rattle.std.proofs.Common.{false, true, sym, ap, ◌∙◌}
 use Rattle.std.specs.Prelude.{not}
-use Rattle.cfa_walk.specs.Passes.{raised_to}
-use Rattle.cfa_walk.proofs.IndexLemmas.{found_is}
-use Rattle.cfa_walk.proofs.EndingLemmas.{not_in_kept, by_repaired}
+use Rattle.cfa_states.specs.Passes.{raised_to}
+use Rattle.cfa_walk.proofs.EndingLemmas.{found_is, not_in_kept, by_repaired}
 use Rattle.cfa_walk.proofs.ending.raised_to.Goals as goal
 
 pub returns-then-is_none : goal.returns-then-is_none

@@ -1,6 +1,6 @@
 use Rattle.std.proofs.Math.Logic.{∥∥₁_elim}
 use Rattle.cfa_schema.specs.Seen.{tree_of}
-use Rattle.cfa_walk.specs.lemmas.PlainNames.{plain_names}
+use Rattle.cfa_states.specs.lemmas.PlainNames.{plain_names}
 use Rattle.cfa_walk.proofs.FactLemmas.{plain_names_prop}
 use Rattle.cfa_walk.proofs.facts.names_are_plain.Goals as goal
 

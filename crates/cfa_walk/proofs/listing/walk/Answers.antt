@@ -1,6 +1,6 @@
 use Rattle.std.proofs.Common.{ℕ, List, refl, sym, subst}
-use Rattle.cfa_walk.specs.Builds.{BuiltOn}
-use Rattle.cfa_walk.specs.Passes.{run}
+use Rattle.cfa_states.specs.Builds.{BuiltOn}
+use Rattle.cfa_states.specs.Passes.{run}
 use Rattle.cfa_walk.specs.Tellings.{told_by}
 use Rattle.cfa_walk.specs.Settings.{setting_of}
 use Rattle.cfa_walk.proofs.ListingLemmas.{agrees, behind, built_walked, has_walked, past_walked}

@@ -2,10 +2,11 @@ use Rattle.cfa_statuses.specs.declared.levels.Status.TheVariants.{No}
 use Rattle.cfa_kinds.specs.declared.kinds.PromiseType.TheVariants.{Vars}
 use Rattle.std.proofs.Common.{◌∙◌, true, [], ◌∷◌, ap}
 use Rattle.cfa_resolve.specs.Resolution.{is_acting}
-use Rattle.cfa_walk.specs.Kept.{seen_numbered}
+use Rattle.cfa_states.specs.Kept.{seen_numbered}
 use Rattle.cfa_walk.specs.Steps.{common_type_level}
 use Rattle.cfa_walk.proofs.LevelLemmas.{quiet_nothing}
-use Rattle.cfa_walk.proofs.CommonLemmas.{is_same_type, is_other_type, other_is_classes, types_agree, types_differ, statuses_agree, statuses_differ, flipped, flipped_true, other_left, common_unset, common_vars, common_classes}
+use Rattle.cfa_walk.proofs.CommonLemmas.{is_same_type, is_other_type, other_is_classes, types_agree, types_differ, other_left, common_unset, common_vars, common_classes}
+use Rattle.cfa_states.specs.lemmas.Statuses.{statuses_agree, statuses_differ, flipped, flipped_true}
 use Rattle.cfa_walk.proofs.walking.reach_common.Goals as goal
 
 pub returns-then-ne-clause-done : goal.returns-then-ne-clause-done

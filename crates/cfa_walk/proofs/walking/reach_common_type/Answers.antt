@@ -1,8 +1,8 @@
 use Rattle.std.proofs.Common.{◌∙◌, refl, [], ◌∷◌, map, take, drop, true, ◌+◌}
 use Rattle.std.specs.Prelude.{Ok, Err}
 use Rattle.cfa_base.specs.lemmas.Results.{on_err}
-use Rattle.cfa_walk.specs.Levels.{QuietDone}
-use Rattle.cfa_walk.specs.Kept.{seen_numbered}
+use Rattle.cfa_states.specs.Levels.{QuietDone}
+use Rattle.cfa_states.specs.Kept.{seen_numbered}
 use Rattle.cfa_walk.specs.Steps.{common_type_level}
 use Rattle.cfa_base.specs.lemmas.Firsts.{one_taken}
 use Rattle.cfa_walk.proofs.CommonLemmas.{type_nothing, type_then, type_stops, in_parts}

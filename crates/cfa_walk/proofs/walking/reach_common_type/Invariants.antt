@@ -1,7 +1,7 @@
 use Rattle.std.proofs.Common.{◌≡◌, ℕ, take, map, true}
 use Rattle.cfa_tree.specs.Tree.{PolicyTree}
-use Rattle.cfa_walk.specs.Levels.{HasQuietlyDone}
-use Rattle.cfa_walk.specs.Kept.{seen_numbered}
+use Rattle.cfa_states.specs.Levels.{HasQuietlyDone}
+use Rattle.cfa_states.specs.Kept.{seen_numbered}
 use Rattle.cfa_walk.specs.Steps.{common_type_level}
 use Rattle.cfa_walk.proofs.walking.reach_common_type.Given as goal
 

@@ -4,9 +4,9 @@ use Rattle.cfa_base.specs.lemmas.Options.{some_at}
 use Rattle.cfa_base.specs.lemmas.Results.{on_err}
 use Rattle.cfa_walk.specs.Steps.{QuietWalkDone, common_walk, seen_bundle}
 use Rattle.cfa_statuses.specs.declared.levels.Status.TheVariants.{Yes}
-use Rattle.cfa_walk.specs.History.{History}
-use Rattle.cfa_walk.specs.Kept.{Keeps, Stands, IsOf, IsUntouched, seen_numbered}
-use Rattle.cfa_walk.specs.Views.{Setting}
+use Rattle.cfa_states.specs.History.{History}
+use Rattle.cfa_states.specs.Kept.{Keeps, Stands, IsOf, IsUntouched, seen_numbered}
+use Rattle.cfa_states.specs.Views.{Setting}
 use Rattle.cfa_walk.proofs.QuietLemmas.{common_gone, types_then, types_stop}
 use Rattle.cfa_walk.proofs.walking.through_common.Goals as goal
 

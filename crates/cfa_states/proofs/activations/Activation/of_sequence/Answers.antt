@@ -1,0 +1,15 @@
+use Rattle.std.proofs.Common.{◌∙◌, refl}
+use Rattle.cfa_states.proofs.ActivationLemmas.{shared_missing, stands_begun}
+use Rattle.cfa_states.proofs.activations.Activation.of_sequence.Goals as goal
+
+pub returns-in-None-clause-missing : goal.returns-in-None-clause-missing
+returns-in-None-clause-missing c =
+    λ none s h keeps. shared_missing s c.args.state.now h keeps c.args.bundle.now (c.in-None.ensures.missing refl)
+
+pub returns-in_ok-made-in-Some-clause-stands : goal.returns-in_ok-made-in-Some-clause-stands
+returns-in_ok-made-in-Some-clause-stands c =
+    let made = c.in_ok-made-in-Some.ensures in
+    let cleared = c.clear_scope.ensures in
+    λ s h keeps.
+    stands_begun s c.args.state.now c.clear_scope.new.self c.in_ok-made-in-Some.made h c.args.bundle.now c.in-Some.place
+    (made.is_of.path ∙ c.in_ok-path-in-Some.ensures) made.place made.fresh c.in-Some.ensures.found cleared.environment cleared.left cleared.calls cleared.log cleared.shared keeps

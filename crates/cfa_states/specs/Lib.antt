@@ -1,0 +1,14 @@
+pub mod History
+pub mod Numbered
+pub mod Passes
+pub mod Builds
+pub mod Tellers
+pub mod Views
+pub mod Kept
+pub mod Levels
+pub mod Defining
+pub mod Waits
+pub mod Names
+pub mod Logs
+pub mod Walks
+pub mod lemmas

@@ -1,6 +1,0 @@
-use Rattle.std.proofs.Common.{◌≡◌, map}
-use Rattle.cfa_walk.specs.Logs.{visit_at}
-use Rattle.cfa_walk.proofs.logs.visits_at.Given as goal
-
-abbrev pub invariant-loop-row : goal.invariant-loop-row
-invariant-loop-row l = l.visits.items ≡ map (visit_at l.instances) l.yielded

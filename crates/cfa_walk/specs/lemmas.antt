@@ -1,3 +1,0 @@
--- Lemmas on these definitions that the proofs of the crates above cite. No contract names one.
-pub mod PlainNames
-pub mod Names
