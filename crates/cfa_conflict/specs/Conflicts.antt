@@ -14,6 +14,7 @@
 use Rattle.std.specs.Prelude.{ℕ, ◌+◌, Bool, true, false, ◌&&◌, ◌==◌, if◌then◌else◌, List, [], ◌∷◌, ◌++◌, length, map, codes, Option, Some, None}
 use Rattle.std.specs.List.{flat_map, filter, find, list_any}
 use Rattle.cfa_base.specs.Escapes.{escaped}
+use Rattle.cfa_base.specs.declared.places.PromiseId.{PromiseId}
 use Rattle.cfa_acts.specs.declared.acts.Act.{Act}
 use Rattle.cfa_acts.specs.declared.acts.Act.TheVariants.{Create, MakeDir, Delete, Content, Copy, Edit, Perms, Start, Stop, Enable, Disable, Restart, Bust}
 use Rattle.cfa_acts.specs.Disturbs.{disturbs}
@@ -92,17 +93,16 @@ is_visited_after (visit ∷ visits) place other =
 
 -- ---- the conflicts of each cause
 
+-- a conflict of two promises in a resource
+abbrev pub meeting : Cause → (first second : PromiseId) → (resource : List ℕ) → Conflict
+meeting cause first second resource = record { cause = cause; first = first; second = second; resource = resource }
+
 abbrev pub unsettled_conflict : Blame → Conflict
-unsettled_conflict blame = record {
-  cause = Unsettled;
-  first = blame.source;
-  second = blame.promise;
-  resource = class_resource blame.class;
-}
+unsettled_conflict blame = meeting Unsettled blame.source blame.promise (class_resource blame.class)
 
 abbrev pub restart_of : Instance → Act → List Conflict
 restart_of instance (Restart name) =
-    record { cause = Restarts; first = instance.source; second = instance.source; resource = resource_of (Restart name) } ∷ []
+    meeting Restarts instance.source instance.source (resource_of (Restart name)) ∷ []
 restart_of instance _ = []
 
 abbrev pub restarts_of : Instance → List Conflict
@@ -111,7 +111,7 @@ restarts_of instance = flat_map (restart_of instance) (acts_of instance.work)
 abbrev pub waits_for : Instance → Option Blame → List Conflict
 waits_for instance None = []
 waits_for instance (Some blame) =
-    record { cause = ComesAndGoes; first = blame.source; second = instance.source; resource = class_resource blame.class } ∷ []
+    meeting ComesAndGoes blame.source instance.source (class_resource blame.class) ∷ []
 
 -- where the first visit may come or not
 abbrev pub unsure_by : Instance → Status → Option Blame → List Conflict
@@ -124,8 +124,7 @@ unsure_at instance None = []
 unsure_at instance (Some visit) = unsure_by instance visit.status visit.blame
 
 abbrev pub undone : (instance other : Instance) → Act → Conflict
-undone instance other act =
-    record { cause = Undoes; first = instance.source; second = other.source; resource = resource_of act }
+undone instance other act = meeting Undoes instance.source other.source (resource_of act)
 
 -- those of these acts that the later act disturbs
 abbrev pub undone_by : (instance other : Instance) → (acts : List Act) → (later : Act) → List Conflict

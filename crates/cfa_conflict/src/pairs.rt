@@ -2,13 +2,13 @@
 ghost use Rattle.std.specs.Prelude.{◌≡◌, [], All, IfOk, option_copied};
 ghost use Rattle.cfa_acts.specs.Acts.{IsAct};
 ghost use Rattle.cfa_states.specs.Tellers.{acts_of};
-ghost use Rattle.cfa_conflict.specs.Conflicts.{has_acts, unsettled_conflict, restart_of, restarts_of, waits_for, unsure_at, undone, undone_by, undone_by_other, undone_by_later};
+ghost use Rattle.cfa_conflict.specs.Conflicts.{has_acts, meeting, unsettled_conflict, restart_of, restarts_of, waits_for, unsure_at, undone, undone_by, undone_by_other, undone_by_later};
 ghost use Rattle.cfa_conflict.specs.Targets.{first_of};
 
 use crate::resources::{class_resource, resource_of};
 use crate::{Cause, Conflict};
 use cfa_acts::{Act, disturbs};
-use cfa_base::NoMemory;
+use cfa_base::{Name, NoMemory, PromiseId};
 use cfa_resolve::{Instance, Work, copy_id};
 use cfa_statuses::Status;
 use cfa_walk::{Blame, Visit};
@@ -32,16 +32,38 @@ pub(crate) fn acts_of(work: &Work) -> &[Act]
     }
 }
 
+// A conflict of two promises in a resource.
+fn meeting(
+    alloc: Global,
+    cause: Cause,
+    first: &PromiseId,
+    second: &PromiseId,
+    resource: Name,
+) -> Result<Conflict, NoMemory>
+    ensures { IfOk result (λ conflict. conflict ≡ meeting cause first.now second.now resource) }
+{
+    let first = copy_id(alloc, first)?;
+    let second = copy_id(alloc, second)?;
+    Ok(Conflict {
+        cause,
+        first,
+        second,
+        resource,
+    })
+}
+
 /// That of a promise that is unsettled.
 pub(crate) fn unsettled_conflict(alloc: Global, blame: &Blame) -> Result<Conflict, NoMemory>
     ensures { IfOk result (λ conflict. conflict ≡ unsettled_conflict blame.now) }
 {
-    Ok(Conflict {
-        cause: Cause::Unsettled,
-        first: copy_id(alloc, &blame.source)?,
-        second: copy_id(alloc, &blame.promise)?,
-        resource: class_resource(alloc, &blame.class)?,
-    })
+    let resource = class_resource(alloc, &blame.class)?;
+    meeting(
+        alloc,
+        Cause::Unsettled,
+        &blame.source,
+        &blame.promise,
+        resource,
+    )
 }
 
 fn restart_of(alloc: Global, instance: &Instance, act: &Act) -> Result<Option<Conflict>, NoMemory>
@@ -50,12 +72,9 @@ fn restart_of(alloc: Global, instance: &Instance, act: &Act) -> Result<Option<Co
     let Act::Restart(_) = act else {
         return Ok(None);
     };
-    Ok(Some(Conflict {
-        cause: Cause::Restarts,
-        first: copy_id(alloc, &instance.source)?,
-        second: copy_id(alloc, &instance.source)?,
-        resource: resource_of(alloc, act)?,
-    }))
+    let (source, resource) = (&instance.source, resource_of(alloc, act)?);
+    let conflict = meeting(alloc, Cause::Restarts, source, source, resource)?;
+    Ok(Some(conflict))
 }
 
 /// The restart of an instance.
@@ -84,12 +103,9 @@ fn waits_for(
     let Some(blame) = blame else {
         return Ok(None);
     };
-    Ok(Some(Conflict {
-        cause: Cause::ComesAndGoes,
-        first: copy_id(alloc, &blame.source)?,
-        second: copy_id(alloc, &instance.source)?,
-        resource: class_resource(alloc, &blame.class)?,
-    }))
+    let (source, resource) = (&instance.source, class_resource(alloc, &blame.class)?);
+    let conflict = meeting(alloc, Cause::ComesAndGoes, &blame.source, source, resource)?;
+    Ok(Some(conflict))
 }
 
 /// What the first visit of an instance waits for, where it may come or not.
@@ -118,12 +134,14 @@ fn undone(
 ) -> Result<Conflict, NoMemory>
     ensures { IfOk result (λ conflict. conflict ≡ undone instance.now other.now act.now) }
 {
-    Ok(Conflict {
-        cause: Cause::Undoes,
-        first: copy_id(alloc, &instance.source)?,
-        second: copy_id(alloc, &other.source)?,
-        resource: resource_of(alloc, act)?,
-    })
+    let resource = resource_of(alloc, act)?;
+    meeting(
+        alloc,
+        Cause::Undoes,
+        &instance.source,
+        &other.source,
+        resource,
+    )
 }
 
 // The first of these acts that the later act disturbs.
