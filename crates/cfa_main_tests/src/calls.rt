@@ -2,8 +2,7 @@
 // ones, ` @` and the moment, ` ?` and the build of a pattern that is refused for its size, ` <` and the reading of the inputs that
 // fails, ` >` and the put that fails, and ` #` and the room of the sink.
 use super::reports::Report;
-use super::worlds::parts;
-use anyhow::Result;
+use super::texts::parts;
 use cfa_base::{Bytes, Name};
 use cfa_main::agent_main;
 use cfa_outside::{MemoryInputs, MemorySink, RegexPatterns, Site};
@@ -13,23 +12,11 @@ use std::str;
 // Monday, 1 January 2024, 10:00 UTC.
 const MOMENT: u64 = 1_704_103_200;
 
+// The room of the sink.
+const ROOM: u64 = 1_048_576;
+
 // The lines of a check that is about validity alone, whatever the verdict.
 const VALID: &str = "valid\n";
-
-// What a call is made with, but for its site.
-#[derive(Drop)]
-pub struct Call {
-    words: Vec<Name>,
-    moment: u64,
-    outside: Outside,
-}
-
-#[derive(Drop)]
-struct Outside {
-    inputs: MemoryInputs,
-    out: MemorySink,
-    pats: RegexPatterns,
-}
 
 // What stands behind a mark in the line of a call.
 fn told<'a>(line: &'a str, mark: &str) -> &'a str {
@@ -45,76 +32,94 @@ fn is_word(text: &str) -> bool {
     )
 }
 
-fn push_words(alloc: Global, words: &mut Vec<Name>, line: &str) -> Result<()> {
-    for word in line.split(' ').skip(1) {
-        if is_word(word) {
-            words.push(Name::from_text(alloc, word)?)?;
-        }
-    }
-    Ok(())
+fn push_word(alloc: Global, words: &mut Vec<Name>, word: &str) -> Option<()> {
+    let word = Name::from_text(alloc, word).ok()?;
+    words.push(word).ok()
 }
 
-fn words_of(alloc: Global, line: &str) -> Result<Vec<Name>> {
-    let mut words = Vec::new(alloc);
-    push_words(alloc, &mut words, line)?;
-    Ok(words)
+fn words_of(line: &str, report: &mut Report) -> Vec<Name> {
+    let mut words = Vec::new(report.alloc);
+    for word in line.split(" ").skip(1) {
+        let is_done = !is_word(word) || push_word(report.alloc, &mut words, word).is_some();
+        report.require(is_done, word);
+    }
+    words
 }
 
 // The number behind a mark, or the usual one where the mark isn't there.
-fn number_behind(line: &str, mark: &str, usual: u64) -> Result<u64> {
+fn number_behind(line: &str, mark: &str, usual: u64, report: &mut Report) -> u64 {
     match told(line, mark) {
-        "" => Ok(usual),
-        number => Ok(number.parse::<u64>()?),
+        "" => usual,
+        number => report.number(number),
     }
 }
 
-// The number behind a mark, as the list of the calls that fail. No call has the number 0.
-fn failing(alloc: Global, line: &str, mark: &str) -> Result<Vec<u32>> {
-    let number = u32::try_from(number_behind(line, mark, 0)?)?;
-    Ok(vec![in alloc; number]?)
-}
-
-fn sink_of(alloc: Global, line: &str) -> Result<MemorySink> {
-    let room = usize::try_from(number_behind(line, " #", 1_048_576)?)?;
-    let failing = failing(alloc, line, " >")?;
-    Ok(MemorySink::new(alloc, room, failing)?)
-}
-
-fn outside_of(alloc: Global, texts: Vec<(Name, Bytes)>, line: &str) -> Result<Outside> {
-    let pats = RegexPatterns::new(alloc, failing(alloc, line, " ?")?);
-    let out = sink_of(alloc, line)?;
-    let reading = failing(alloc, line, " <")?;
-    Ok(Outside {
-        inputs: MemoryInputs::new(alloc, texts, reading)?,
-        out,
-        pats,
-    })
-}
-
-// The call of a line on these texts, the first of each name.
-pub fn call_of(alloc: Global, texts: Vec<(Name, Bytes)>, line: &str) -> Result<Call> {
-    let moment = number_behind(line, " @", MOMENT)?;
-    let outside = outside_of(alloc, texts, line)?;
-    let words = words_of(alloc, line)?;
-    Ok(Call {
-        words,
-        moment,
-        outside,
-    })
+// The number behind a mark, as the list of the calls that fail.
+fn failing(line: &str, mark: &str, report: &mut Report) -> Vec<u32> {
+    match told(line, mark) {
+        "" => report.failing("0"),
+        call => report.failing(call),
+    }
 }
 
 // Makes a call, and answers its status.
-pub fn make<S: Site>(alloc: Global, call: &mut Call, site: &mut S, report: &mut Report) -> u8 {
+fn call<S: Site>(
+    line: &str,
+    inputs: &mut MemoryInputs,
+    site: &mut S,
+    out: &mut MemorySink,
+    report: &mut Report,
+) -> u8 {
     report.count_call();
+    let moment = number_behind(line, " @", MOMENT, report);
+    let mut pats = RegexPatterns::new(report.alloc, failing(line, " ?", report));
+    let words = words_of(line, report);
     agent_main(
-        alloc,
-        call.words.as_slice(),
-        call.moment,
-        &mut call.outside.inputs,
+        report.alloc,
+        words.as_slice(),
+        moment,
+        inputs,
         site,
-        &mut call.outside.out,
-        &mut call.outside.pats,
+        out,
+        &mut pats,
     )
+}
+
+// Makes a call that puts into the sink of its line, tells what it put, and answers its status.
+fn call_into<S: Site>(
+    line: &str,
+    inputs: &mut MemoryInputs,
+    site: &mut S,
+    put: &mut String,
+    report: &mut Report,
+) -> u8 {
+    let room = number_behind(line, " #", ROOM, report) as usize;
+    let failing = failing(line, " >", report);
+    let Ok(mut out) = MemorySink::new(report.alloc, room, failing) else {
+        report.require(false, "memory");
+        return u8::MAX;
+    };
+    let status = call(line, inputs, site, &mut out, report);
+    report.add(put, &[str::from_utf8(out.bytes()).unwrap_or("no text")]);
+    status
+}
+
+// Makes the call of a line on these files, the first of each name, tells what it put, and answers its status.
+pub fn make<S: Site>(
+    line: &str,
+    files: Vec<(Name, Bytes)>,
+    site: &mut S,
+    put: &mut String,
+    report: &mut Report,
+) -> u8 {
+    let failing = failing(line, " <", report);
+    match MemoryInputs::new(report.alloc, files, failing) {
+        Ok(mut inputs) => call_into(line, &mut inputs, site, put, report),
+        Err(_) => {
+            report.require(false, "memory");
+            u8::MAX
+        }
+    }
 }
 
 // These are the lines and the status of a verdict.
@@ -127,40 +132,22 @@ fn is_verdict(put: &str, status: u8) -> bool {
 }
 
 // These lines were put, or as many first bytes of them as the sink has room for, where its room is told.
-fn is_put(line: &str, lines: &str, put: &str) -> bool {
-    match told(line, " #").parse::<usize>() {
-        Ok(room) => put.len() == room && lines.starts_with(put),
-        Err(_) => put == lines,
+fn is_put(line: &str, lines: &str, put: &str, report: &mut Report) -> bool {
+    match told(line, " #") {
+        "" => put == lines,
+        room => report.number(room) == put.len() as u64 && lines.starts_with(put),
     }
 }
 
-// The lines and the status are those of a line, or of a verdict where it is about validity alone.
-fn is_answer(line: &str, lines: &str, put: &str, status: u8) -> bool {
-    if lines == VALID {
-        return is_verdict(put, status);
-    }
+// Compares what a call put and answered with its line and the lines behind it, or with a verdict where it is about validity alone.
+pub fn compare_answer(line: &str, lines: &str, put: &str, status: u8, report: &mut Report) {
     let (wanted, _) = parts(line, " ");
-    wanted.parse::<u8>().ok() == Some(status) && is_put(line, lines, put)
-}
-
-// What a call put.
-pub fn put_by(call: &Call) -> &str {
-    str::from_utf8(call.outside.out.bytes()).unwrap_or("no text")
-}
-
-// Compares what a call put and answered with its line and the lines behind it.
-pub fn compare_answer(
-    alloc: Global,
-    call: &Call,
-    line: &str,
-    lines: &str,
-    status: u8,
-    report: &mut Report,
-) -> Result<()> {
-    let put = put_by(call);
-    if is_answer(line, lines, put, status) {
-        return Ok(());
+    let is_met = if lines == VALID {
+        is_verdict(put, status)
+    } else {
+        report.number(wanted) == u64::from(status) && is_put(line, lines, put, report)
+    };
+    if !is_met {
+        report.note(line, put, lines);
     }
-    let put = format!(in alloc; "{status} {put}")?;
-    report.note(alloc, line, put.as_str(), lines)
 }

@@ -1,73 +1,69 @@
 // The real host in a folder that is made where the program runs.
-use super::worlds::parts;
-use anyhow::{Result, bail};
-use cfa_base::{Name, unescape};
+use super::reports::Report;
+use super::texts::parts;
+use cfa_base::{Name, unescape_bytes};
 use cfa_hostdir::HostSite;
-use std::alloc::Global;
 use std::fs;
 
+// Where the real host is kept, its tree and the table of its services.
+const FOLDER: &str = "host";
+
+const TREE: &str = "host/tree";
+
+const SERVICES: &str = "host/services.tab";
+
 // Makes a new folder with an empty tree.
-fn make_folder(rt: &HostRuntime, folder: &str) -> Result<()> {
-    let _ = fs::remove_dir_all(rt, folder);
-    fs::create_dir(rt, folder)?;
-    let tree = format!(in rt.alloc(); "{folder}/tree")?;
-    fs::create_dir(rt, tree.as_str())?;
-    Ok(())
+fn make_folder(report: &mut Report) {
+    let _ = fs::remove_dir_all(&report.rt, FOLDER);
+    let is_made = fs::create_dir(&report.rt, FOLDER).is_ok()
+        && fs::create_dir(&report.rt, TREE).is_ok();
+    report.require(is_made, TREE);
 }
 
 // Writes a file, whose bytes are told as an escaped field.
-fn put_file(rt: &HostRuntime, file: &str, field: &str) -> Result<()> {
-    let content = unescape(rt.alloc(), &Name::from_text(rt.alloc(), field)?)?;
-    fs::write(rt, file, content.as_str())?;
-    Ok(())
-}
-
-// Makes a directory or a file: `dir PATH` or `file PATH BYTES`.
-fn put_node(rt: &HostRuntime, folder: &str, given: &str) -> Result<()> {
-    let (kind, rest) = parts(given, " ");
-    let (path, field) = parts(rest, " ");
-    let node = format!(in rt.alloc(); "{folder}/tree{path}")?;
-    match kind {
-        "dir" => Ok(fs::create_dir(rt, node.as_str())?),
-        "file" => put_file(rt, node.as_str(), field),
-        "service" | "new" => Ok(()),
-        _ => bail!("no line of a host in a folder: {given}"),
+fn put_file(rt: &HostRuntime, file: &str, field: &str) -> bool {
+    match unescape_bytes(rt.alloc(), field.as_bytes()) {
+        Ok(content) => fs::write(rt, file, content.as_str()).is_ok(),
+        Err(_) => false,
     }
 }
 
-// The rows of the services of a host.
-fn services_of(alloc: Global, host: &str) -> Result<String> {
-    let mut services = String::new(alloc);
-    for line in host.lines() {
-        if let Some(row) = line.strip_prefix("+ service ") {
-            services.push_str(row)?;
-            services.push_str("\n")?;
+// Makes a directory or a file, `dir PATH` or `file PATH BYTES`, or adds the row of a service.
+fn put_given(given: &str, services: &mut String, report: &mut Report) {
+    let (kind, row) = parts(given, " ");
+    let (path, field) = parts(row, " ");
+    let mut node = String::new(report.alloc);
+    report.add(&mut node, &[TREE, path]);
+    let is_put = match kind {
+        "dir" => fs::create_dir(&report.rt, node.as_str()).is_ok(),
+        "file" => put_file(&report.rt, node.as_str(), field),
+        "service" => {
+            report.add(services, &[row, "\n"]);
+            true
         }
-    }
-    Ok(services)
+        "new" => true,
+        _ => false,
+    };
+    report.require(is_put, given);
 }
 
 // Puts what the lines of a host tell into its folder.
-fn put_nodes(rt: &HostRuntime, folder: &str, host: &str) -> Result<()> {
+fn put_host(host: &str, report: &mut Report) {
+    let mut services = String::new(report.alloc);
     for line in host.lines() {
         if let Some(given) = line.strip_prefix("+ ") {
-            put_node(rt, folder, given)?;
+            put_given(given, &mut services, report);
         }
     }
-    Ok(())
+    let is_put = fs::write(&report.rt, SERVICES, services.as_str()).is_ok();
+    report.require(is_put, SERVICES);
 }
 
-fn put_services(rt: &HostRuntime, folder: &str, host: &str) -> Result<()> {
-    let table = format!(in rt.alloc(); "{folder}/services.tab")?;
-    let services = services_of(rt.alloc(), host)?;
-    Ok(fs::write(rt, table.as_str(), services.as_str())?)
-}
-
-// The host in a new folder, by its lines (`worlds`), which are of directories, files of text and services.
-pub fn host_in(rt: &HostRuntime, folder: &str, host: &str) -> Result<HostSite<HostRuntime>> {
-    make_folder(rt, folder)?;
-    put_nodes(rt, folder, host)?;
-    put_services(rt, folder, host)?;
-    let name = Name::from_text(rt.alloc(), folder)?;
-    Ok(HostSite::new(rt.clone()?, name))
+// The host in a new folder, by its lines (`worlds`), which are of directories, files of text and services. None comes for want of
+// memory alone.
+pub fn host_in(host: &str, report: &mut Report) -> Option<HostSite<HostRuntime>> {
+    make_folder(report);
+    put_host(host, report);
+    let folder = Name::from_text(report.alloc, FOLDER).ok()?;
+    Some(HostSite::new(report.rt.clone().ok()?, folder))
 }

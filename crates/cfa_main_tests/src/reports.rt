@@ -1,22 +1,32 @@
 // What is found of the rows of a table.
-use super::worlds::parts;
-use anyhow::{Error, Result};
-use std::alloc::Global;
+use super::texts::parts;
+use std::alloc::{AllocError, Global};
+use std::fs;
 
-// The numbers of the rows that were read and of the calls that they made, and what isn't met in the row at hand.
+// The numbers of the rows that were read and of the calls that they made, and what isn't met in the row at hand. No reader of a row
+// stops at what can't be read or made: it is noted here, something empty stands in its place, and so the row is told.
 #[derive(Drop)]
 pub struct Report {
-    pub rows: u32,
-    pub calls: u32,
+    pub rt: HostRuntime,
+    pub alloc: Global,
+    rows: u32,
+    calls: u32,
+    is_met: bool,
     unmet: String,
+    is_printed: bool,
 }
 
 impl Report {
-    pub fn new(alloc: Global) -> Report {
+    pub fn new(rt: HostRuntime) -> Report {
+        let alloc = rt.alloc();
         Report {
+            rt,
+            alloc,
             rows: 0,
             calls: 0,
+            is_met: true,
             unmet: String::new(alloc),
+            is_printed: true,
         }
     }
 
@@ -28,28 +38,128 @@ impl Report {
         self.calls = self.calls.saturating_add(1);
     }
 
-    // Notes what isn't as it is to be.
-    pub fn note(&mut self, alloc: Global, what: &str, put: &str, wanted: &str) -> Result<()> {
-        let noted = format!(in alloc; "{what}\nput: {put}\nwanted: {wanted}\n")?;
-        self.unmet.push_str(noted.as_str())?;
-        Ok(())
+    // Says something of the row, as far as there is memory. The row isn't met.
+    fn say(&mut self, pieces: &[&str]) {
+        self.is_met = false;
+        for piece in pieces {
+            let _ = self.unmet.push_str(piece);
+        }
     }
 
-    // Notes why a row can't be read.
-    pub fn note_error(&mut self, alloc: Global, error: &Error) -> Result<()> {
-        let noted = format!(in alloc; "{error}\n")?;
-        self.unmet.push_str(noted.as_str())?;
-        Ok(())
+    // Notes what isn't as it is to be.
+    pub fn note(&mut self, what: &str, put: &str, wanted: &str) {
+        self.say(&[what, "\nput: ", put, "\nwanted: ", wanted, "\n"]);
+    }
+
+    // Notes what can't be read or made, where it can't.
+    pub fn require(&mut self, is_had: bool, what: &str) {
+        if !is_had {
+            self.say(&["can't be had: ", what, "\n"]);
+        }
+    }
+
+    // Adds pieces to a text.
+    pub fn add(&mut self, text: &mut String, pieces: &[&str]) {
+        for piece in pieces {
+            let is_added = text.push_str(piece).is_ok();
+            self.require(is_added, "memory");
+        }
+    }
+
+    // The text that was made.
+    pub fn made(&mut self, made: Result<String, AllocError>) -> String {
+        match made {
+            Ok(text) => text,
+            Err(_) => {
+                self.require(false, "memory");
+                String::new(self.alloc)
+            }
+        }
+    }
+
+    // The digits of a number.
+    pub fn digits(&mut self, number: u64) -> String {
+        self.made(format!(in self.alloc; "{number}"))
+    }
+
+    // The number that a text tells.
+    pub fn number(&mut self, text: &str) -> u64 {
+        match text.parse::<u64>() {
+            Ok(number) => number,
+            Err(_) => {
+                self.require(false, text);
+                0
+            }
+        }
+    }
+
+    // The number below 2 ^ 32 that a text tells.
+    pub fn count(&mut self, text: &str) -> u32 {
+        match u32::try_from(self.number(text)) {
+            Ok(count) => count,
+            Err(_) => {
+                self.require(false, text);
+                0
+            }
+        }
+    }
+
+    // So many times the letter a.
+    pub fn letters(&mut self, size: &str) -> Vec<u8> {
+        let size = self.count(size) as usize;
+        match vec![in self.alloc; b'a'; size] {
+            Ok(letters) => letters,
+            Err(_) => {
+                self.require(false, "memory");
+                Vec::new(self.alloc)
+            }
+        }
+    }
+
+    // The list of the calls that fail, of which there is one. No call has the number 0.
+    pub fn failing(&mut self, call: &str) -> Vec<u32> {
+        let mut list = Vec::new(self.alloc);
+        let is_added = list.push(self.count(call)).is_ok();
+        self.require(is_added, "memory");
+        list
+    }
+
+    // The text of a file beside the program.
+    pub fn read(&mut self, name: &str, ending: &str) -> String {
+        let mut file = String::new(self.alloc);
+        self.add(&mut file, &[name, ending]);
+        match fs::read_to_string(&self.rt, file.as_str()) {
+            Ok(text) => text,
+            Err(_) => {
+                self.require(false, file.as_str());
+                String::new(self.alloc)
+            }
+        }
     }
 
     // Prints what isn't met in a row, behind the name of its table and its title.
-    pub fn tell(&mut self, rt: &HostRuntime, name: &str, row: &str) -> Result<()> {
-        let (title, _) = parts(row, "\n");
-        let unmet = self.unmet.as_str();
-        if !unmet.is_empty() {
-            println!(rt; "{name}: {title}: {unmet}")?;
+    pub fn tell(&mut self, name: &str, row: &str) {
+        if !self.is_met {
+            let (title, _) = parts(row, "\n");
+            let unmet = self.unmet.as_str();
+            let is_printed = println!(self.rt; "{name}: {title}: {unmet}").is_ok();
+            self.is_printed = self.is_printed && is_printed;
         }
         self.unmet.clear();
-        Ok(())
+        self.is_met = true;
+    }
+
+    // Prints the numbers of a table, and counts anew.
+    pub fn tell_numbers(&mut self, table: &str) {
+        let (rows, calls) = (self.rows, self.calls);
+        let is_printed = println!(self.rt; "{table}: {rows} rows, {calls} calls").is_ok();
+        self.is_printed = self.is_printed && is_printed;
+        self.rows = 0;
+        self.calls = 0;
+    }
+
+    // All could be printed so far.
+    pub fn is_printed(&self) -> bool {
+        self.is_printed
     }
 }

@@ -1,10 +1,8 @@
 // What the promises of a policy resolve to, by their ids. Behind the policy of a row stands what is told of each, and at last of an id
 // of another line, with `$ ` before the first.
 use super::reports::Report;
-use super::texts::add_text;
-use super::worlds::parts;
-use anyhow::{Result, bail};
-use cfa_base::{Bytes, Name, Names, NoMemory, PromiseId};
+use super::texts::{add_file, parts};
+use cfa_base::{Name, Names, NoMemory, PromiseId};
 use cfa_outside::{MemoryInputs, RegexPatterns};
 use cfa_resolve::{ResolveErr, Resolved, View, is_acting, resolve};
 use cfa_schema::Checked;
@@ -21,44 +19,43 @@ const LISTS: [(&str, &[&str]); 4] = [
     ("e", &[]),
 ];
 
-fn scope_of(alloc: Global) -> Result<Scope, NoMemory> {
-    let mut own = Scope::new(alloc);
+fn set_list(alloc: Global, own: &mut Scope, name: &str, items: &[&str]) -> Result<(), NoMemory> {
+    let name = Name::from_text(alloc, name)?;
+    own.set(name, Datum::List(Names::from_texts(alloc, items)?))
+}
+
+fn scope_of(report: &mut Report) -> Scope {
+    let mut own = Scope::new(report.alloc);
     for (name, items) in LISTS {
-        let items = Names::from_texts(alloc, items)?;
-        own.set(Name::from_text(alloc, name)?, Datum::List(items))?;
+        let is_set = set_list(report.alloc, &mut own, name, items).is_ok();
+        report.require(is_set, name);
     }
-    Ok(own)
+    own
 }
 
-fn inputs_of(alloc: Global, policy: &str) -> Result<MemoryInputs> {
-    let mut texts = Vec::new(alloc);
-    add_text(alloc, &mut texts, "a.cf", policy.as_bytes())?;
-    Ok(MemoryInputs::new(alloc, texts, Vec::new(alloc))?)
+fn inputs_of(policy: &str, report: &mut Report) -> Option<MemoryInputs> {
+    let mut files = Vec::new(report.alloc);
+    add_file(&mut files, "a.cf", policy.as_bytes(), report);
+    MemoryInputs::new(report.alloc, files, Vec::new(report.alloc)).ok()
 }
 
-fn checked_of(alloc: Global, policy: &str) -> Result<Checked> {
-    let mut inputs = inputs_of(alloc, policy)?;
-    let mut pats = RegexPatterns::new(alloc, Vec::new(alloc));
-    let name = Name::from_text(alloc, "a.cf")?;
-    match read_policy(alloc, &name, &mut inputs, &mut pats) {
-        Ok(checked) => Ok(checked),
-        Err(_) => bail!("no policy"),
-    }
+fn checked_of(policy: &str, report: &mut Report) -> Option<Checked> {
+    let mut inputs = inputs_of(policy, report)?;
+    let mut pats = RegexPatterns::new(report.alloc, Vec::new(report.alloc));
+    let name = Name::from_text(report.alloc, "a.cf").ok()?;
+    read_policy(report.alloc, &name, &mut inputs, &mut pats).ok()
 }
 
-// The visits, the key texts and the first name that is lacking.
-fn told_of(alloc: Global, resolved: &Resolved) -> Result<String> {
-    let mut told = format!(in alloc; " {}", resolved.visits)?;
+// Tells the visits, the key texts and the first name that is lacking.
+fn tell_resolved(text: &mut String, resolved: &Resolved, report: &mut Report) {
+    let visits = report.digits(resolved.visits);
+    report.add(text, &[" ", visits.as_str()]);
     for instance in resolved.instances.as_slice() {
-        told.push_str(" [")?;
-        told.push_str(instance.text.as_str())?;
-        told.push_str("]")?;
+        report.add(text, &[" [", instance.text.as_str(), "]"]);
     }
     if let Some(name) = resolved.unresolved.as_slice().first() {
-        told.push_str(" lacks ")?;
-        told.push_str(name.as_str())?;
+        report.add(text, &[" lacks ", name.as_str()]);
     }
-    Ok(told)
 }
 
 // What is told of an id that has no instances.
@@ -70,81 +67,91 @@ fn unresolved(checked: &Checked, id: &PromiseId) -> &'static str {
     }
 }
 
-// What a promise resolves to in the scope, with three visits left.
-fn told_in(alloc: Global, checked: &Checked, id: &PromiseId, own: &Scope) -> Result<String> {
+fn tell_error(text: &mut String, error: ResolveErr, report: &mut Report) {
+    let is_large = matches!(error, ResolveErr::TooLarge);
+    drop(error);
+    report.require(is_large, "a resolution");
+    report.add(text, &[" too large"]);
+}
+
+// Tells what a promise resolves to, with three visits left.
+fn tell_promise(text: &mut String, checked: &Checked, id: &PromiseId, report: &mut Report) {
     if checked.promise(id).is_none() || !is_acting(checked, id) {
-        return Ok(String::from_str(alloc, unresolved(checked, id))?);
+        return report.add(text, &[unresolved(checked, id)]);
     }
-    let statuses = Statuses::new(alloc);
-    let shared = SharedScopes::new(alloc);
+    let own = scope_of(report);
+    let shared = SharedScopes::new(report.alloc);
+    let statuses = Statuses::new(report.alloc);
+    let scopes = Scopes {
+        own: &own,
+        own_name: &id.bundle,
+        shared: &shared,
+    };
     let view = View {
-        scopes: Scopes {
-            own,
-            own_name: &id.bundle,
-            shared: &shared,
-        },
+        scopes,
         statuses: &statuses,
         path: &id.bundle,
     };
-    let mut pats = RegexPatterns::new(alloc, Vec::new(alloc));
-    match resolve(alloc, checked, id, &view, 3, &mut pats) {
+    let mut pats = RegexPatterns::new(report.alloc, Vec::new(report.alloc));
+    match resolve(report.alloc, checked, id, &view, 3, &mut pats) {
         Ok(resolved) => {
-            let told = told_of(alloc, &resolved);
+            tell_resolved(text, &resolved, report);
             drop(resolved);
-            told
         }
-        Err(ResolveErr::TooLarge) => Ok(String::from_str(alloc, " too large")?),
-        Err(_) => bail!("not resolved"),
+        Err(error) => tell_error(text, error, report),
     }
 }
 
-fn tell_id(
-    alloc: Global,
-    checked: &Checked,
-    id: &PromiseId,
-    text: &mut String,
-    report: &mut Report,
-) -> Result<()> {
+// Tells a promise, and what it resolves to.
+fn tell_id(text: &mut String, checked: &Checked, id: &PromiseId, report: &mut Report) {
     report.count_row();
-    let own = scope_of(alloc)?;
-    let told = told_in(alloc, checked, id, &own)?;
-    let (number, line, told) = (id.number, id.line, told.as_str());
-    text.push_str(format!(in alloc; "{number}@{line}{told}\n")?.as_str())?;
-    Ok(())
+    let number = report.digits(u64::from(id.number));
+    let line = report.digits(u64::from(id.line));
+    report.add(text, &[number.as_str(), "@", line.as_str()]);
+    tell_promise(text, checked, id, report);
+    report.add(text, &["\n"]);
 }
 
-// What is told of each promise.
-fn told_of_each(alloc: Global, checked: &Checked, report: &mut Report) -> Result<String> {
-    let mut text = String::new(alloc);
-    for id in checked.promise_ids(alloc)?.iter() {
-        tell_id(alloc, checked, id, &mut text, report)?;
+// Tells each promise.
+fn tell_each(text: &mut String, checked: &Checked, report: &mut Report) {
+    match checked.promise_ids(report.alloc) {
+        Ok(ids) => {
+            for id in ids.iter() {
+                tell_id(text, checked, id, report);
+            }
+        }
+        Err(_) => report.require(false, "memory"),
     }
-    Ok(text)
 }
 
-// What is told of each promise, and of an id of another line.
-fn told_of_all(alloc: Global, checked: &Checked, report: &mut Report) -> Result<String> {
-    let mut text = told_of_each(alloc, checked, report)?;
-    let id = PromiseId {
-        bundle: Name::from_text(alloc, "main")?,
-        number: 2,
-        line: 7,
-    };
-    tell_id(alloc, checked, &id, &mut text, report)?;
-    Ok(text)
+// Tells an id of another line.
+fn tell_other(text: &mut String, checked: &Checked, report: &mut Report) {
+    match Name::from_text(report.alloc, "main") {
+        Ok(bundle) => {
+            let (number, line) = (2, 7);
+            let id = PromiseId {
+                bundle,
+                number,
+                line,
+            };
+            tell_id(text, checked, &id, report);
+        }
+        Err(_) => report.require(false, "memory"),
+    }
 }
 
 // Compares what is told of the promises of a row.
-pub fn compare_promises(alloc: Global, row: &str, report: &mut Report) -> Result<()> {
+pub fn compare_promises(row: &str, report: &mut Report) {
     let (_, behind) = parts(row, "\n");
     let (policy, wanted) = parts(behind, "$ ");
-    let checked = checked_of(alloc, policy)?;
-    let told = told_of_all(alloc, &checked, report);
+    let Some(checked) = checked_of(policy, report) else {
+        return report.require(false, policy);
+    };
+    let mut text = String::new(report.alloc);
+    tell_each(&mut text, &checked, report);
+    tell_other(&mut text, &checked, report);
     drop(checked);
-    let told = told?;
-    if told.as_str() == wanted {
-        Ok(())
-    } else {
-        report.note(alloc, "the promises", told.as_str(), wanted)
+    if text.as_str() != wanted {
+        report.note("the promises", text.as_str(), wanted);
     }
 }

@@ -1,69 +1,87 @@
 // The files of a row: its policy, and the files beside it.
-use super::worlds::{letters, parts};
-use anyhow::Result;
-use cfa_base::{Bytes, Name};
+use super::reports::Report;
+use cfa_base::{Bytes, Name, NoMemory};
 use std::alloc::Global;
 
+// The two parts of a text round what stands first between them, or the text and nothing.
+pub fn parts<'a>(text: &'a str, between: &str) -> (&'a str, &'a str) {
+    match text.split_once(between) {
+        Some(sides) => sides,
+        None => (text, ""),
+    }
+}
+
+// Adds a line with a number in the place of `#`.
+fn add_numbered(text: &mut String, line: &str, number: u32, report: &mut Report) {
+    let number = report.digits(u64::from(number));
+    let line = report.made(line.replace(report.alloc, "#", number.as_str()));
+    report.add(text, &[line.as_str(), "\n"]);
+}
+
 // Adds the line behind `* FROM TO ` for each number from the first on that is below the second, with the number in the place of `#`.
-fn push_repeated(alloc: Global, text: &mut String, repeated: &str) -> Result<()> {
+fn add_repeated(text: &mut String, repeated: &str, report: &mut Report) {
     let (from, rest) = parts(repeated, " ");
     let (to, line) = parts(rest, " ");
-    for number in from.parse::<u32>()?..to.parse::<u32>()? {
-        let number = format!(in alloc; "{number}")?;
-        text.push_str(line.replace(alloc, "#", number.as_str())?.as_str())?;
-        text.push_str("\n")?;
+    for number in report.count(from)..report.count(to) {
+        add_numbered(text, line, number, report);
     }
-    Ok(())
 }
 
 // Adds a line of a text, which may stand for many lines.
-pub fn push_line(alloc: Global, text: &mut String, line: &str) -> Result<()> {
-    if let Some(repeated) = line.strip_prefix("* ") {
-        return push_repeated(alloc, text, repeated);
+pub fn add_line(text: &mut String, line: &str, report: &mut Report) {
+    match line.strip_prefix("* ") {
+        Some(repeated) => add_repeated(text, repeated, report),
+        None => report.add(text, &[line, "\n"]),
     }
-    text.push_str(line)?;
-    text.push_str("\n")?;
+}
+
+fn push_file(
+    alloc: Global,
+    files: &mut Vec<(Name, Bytes)>,
+    name: &str,
+    bytes: &[u8],
+) -> Result<(), NoMemory> {
+    let bytes = Bytes::from_slice(alloc, bytes)?;
+    files.push((Name::from_text(alloc, name)?, bytes))?;
     Ok(())
 }
 
-pub fn add_text(
-    alloc: Global,
-    texts: &mut Vec<(Name, Bytes)>,
-    name: &str,
-    text: &[u8],
-) -> Result<()> {
-    let bytes = Bytes::from_slice(alloc, text)?;
-    texts.push((Name::from_text(alloc, name)?, bytes))?;
-    Ok(())
+// Adds a file of these bytes.
+pub fn add_file(files: &mut Vec<(Name, Bytes)>, name: &str, bytes: &[u8], report: &mut Report) {
+    let is_added = push_file(report.alloc, files, name, bytes).is_ok();
+    report.require(is_added, name);
 }
 
 // Adds a file of lines, the last of them without a newline.
-fn add_lines(alloc: Global, texts: &mut Vec<(Name, Bytes)>, name: &str, lines: &str) -> Result<()> {
-    let mut text = String::new(alloc);
-    for line in lines.split('\n') {
-        push_line(alloc, &mut text, line)?;
+fn add_lines(files: &mut Vec<(Name, Bytes)>, name: &str, lines: &str, report: &mut Report) {
+    let mut text = String::new(report.alloc);
+    for line in lines.split("\n") {
+        add_line(&mut text, line, report);
     }
     let text = text.as_str().strip_suffix("\n").unwrap_or("");
-    add_text(alloc, texts, name, text.as_bytes())
+    add_file(files, name, text.as_bytes(), report);
 }
 
 // Adds a file: `NAME` and its lines, `raw NAME` of one byte that begins no text, or `long NAME SIZE` of so many letters.
-fn add_file(alloc: Global, texts: &mut Vec<(Name, Bytes)>, file: &str) -> Result<()> {
+fn add_told(files: &mut Vec<(Name, Bytes)>, file: &str, report: &mut Report) {
     let (first, lines) = parts(file, "\n");
     let (kind, rest) = parts(first, " ");
     let (name, size) = parts(rest, " ");
     match kind {
-        "raw" => add_text(alloc, texts, name, &[255]),
-        "long" => add_text(alloc, texts, name, letters(alloc, size)?.as_slice()),
-        _ => add_lines(alloc, texts, first, lines),
+        "raw" => add_file(files, name, &[255], report),
+        "long" => {
+            let letters = report.letters(size);
+            add_file(files, name, letters.as_slice(), report);
+        }
+        _ => add_lines(files, first, lines, report),
     }
 }
 
 // The files that stand in a heading behind its policy, each behind `& `.
-pub fn files_of(alloc: Global, heading: &str) -> Result<Vec<(Name, Bytes)>> {
-    let mut texts = Vec::new(alloc);
+pub fn files_of(heading: &str, report: &mut Report) -> Vec<(Name, Bytes)> {
+    let mut files = Vec::new(report.alloc);
     for file in heading.split("\n& ").skip(1) {
-        add_file(alloc, &mut texts, file)?;
+        add_told(&mut files, file, report);
     }
-    Ok(texts)
+    files
 }

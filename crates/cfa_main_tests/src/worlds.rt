@@ -1,132 +1,138 @@
-// Hosts by the lines of a table, each of which begins with a plus sign.
+// Hosts in memory by the lines of a table, each of which begins with a plus sign.
+use super::reports::Report;
 use super::run_logs::with_keys;
-use anyhow::{Result, bail, ensure};
-use cfa_base::{Bytes, Name, unescape};
+use super::texts::parts;
+use cfa_base::{Bytes, Name, unescape_bytes};
 use cfa_outside::{MemorySite, Node, Path, ServiceRow, World, root_perms};
 use std::alloc::Global;
 
-// The two parts of a text round what stands first between them, or the text and nothing.
-pub fn parts<'a>(text: &'a str, between: &str) -> (&'a str, &'a str) {
-    match text.split_once(between) {
-        Some(sides) => sides,
-        None => (text, ""),
+fn path_of(alloc: Global, text: &str) -> Option<Path> {
+    let text = Name::from_text(alloc, text).ok()?;
+    Path::read(alloc, &text).ok()
+}
+
+fn add_node(alloc: Global, world: &mut World, path: &str, node: Node) -> Option<()> {
+    match path_of(alloc, path) {
+        Some(path) => world.nodes.add(alloc, &path, node).ok(),
+        None => {
+            drop(node);
+            None
+        }
     }
 }
 
-fn path_of(alloc: Global, text: &str) -> Result<Path> {
-    Ok(Path::read(alloc, &Name::from_text(alloc, text)?)?)
+fn add_file(alloc: Global, world: &mut World, path: &str, bytes: &[u8]) -> Option<()> {
+    let perms = root_perms(alloc, 0o600).ok()?;
+    let file = Node::File(Bytes::from_slice(alloc, bytes).ok()?, perms);
+    add_node(alloc, world, path, file)
 }
 
-fn add_node(alloc: Global, world: &mut World, path: &str, node: Node) -> Result<()> {
-    let path = path_of(alloc, path)?;
-    Ok(world.nodes.add(alloc, &path, node)?)
-}
-
-fn add_file(alloc: Global, world: &mut World, path: &str, bytes: &[u8]) -> Result<()> {
-    let bytes = Bytes::from_slice(alloc, bytes)?;
-    let perms = root_perms(alloc, 0o600)?;
-    add_node(alloc, world, path, Node::File(bytes, perms))
-}
-
-fn add_dir(alloc: Global, world: &mut World, path: &str) -> Result<()> {
-    let perms = root_perms(alloc, 0o700)?;
+fn add_dir(alloc: Global, world: &mut World, path: &str) -> Option<()> {
+    let perms = root_perms(alloc, 0o700).ok()?;
     add_node(alloc, world, path, Node::Dir(perms))
 }
 
-// The word is the first of the two, and not the second.
-fn is_first(word: &str, first: &str, second: &str) -> Result<bool> {
-    ensure!(
-        word == first || word == second,
-        "no word of a service: {word}"
-    );
-    Ok(word == first)
+// Adds a file whose bytes are told as an escaped field.
+fn add_told(alloc: Global, world: &mut World, path: &str, field: &str) -> Option<()> {
+    let content = unescape_bytes(alloc, field.as_bytes()).ok()?;
+    add_file(alloc, world, path, content.as_str().as_bytes())
 }
 
-fn add_service(alloc: Global, world: &mut World, text: &str) -> Result<()> {
+// The word is the first of the two, or else the second.
+fn is_first(word: &str, first: &str, second: &str, report: &mut Report) -> bool {
+    report.require(word == first || word == second, word);
+    word == first
+}
+
+fn add_service(world: &mut World, text: &str, report: &mut Report) -> Option<()> {
     let (name, rest) = parts(text, " ");
     let (running, rest) = parts(rest, " ");
     let (enabled, restarts) = parts(rest, " ");
     let row = ServiceRow {
-        running: is_first(running, "running", "stopped")?,
-        enabled: is_first(enabled, "enabled", "disabled")?,
-        restarts: restarts.parse::<u32>()?,
+        running: is_first(running, "running", "stopped", report),
+        enabled: is_first(enabled, "enabled", "disabled", report),
+        restarts: report.count(restarts),
     };
-    Ok(world.services.insert(Name::from_text(alloc, name)?, row)?)
+    let name = Name::from_text(report.alloc, name).ok()?;
+    world.services.insert(name, row).ok()
 }
 
-fn add_lock(alloc: Global, world: &mut World, text: &str) -> Result<()> {
-    let lock = with_keys(alloc, text)?;
+fn add_lock(world: &mut World, text: &str, report: &mut Report) -> Option<()> {
+    let lock = with_keys(text, report);
     let (key, moment) = parts(lock.as_str(), " ");
-    let moment = moment.parse::<u64>()?;
-    Ok(world.locks.insert(Name::from_text(alloc, key)?, moment)?)
+    let moment = report.number(moment);
+    let key = Name::from_text(report.alloc, key).ok()?;
+    world.locks.insert(key, moment).ok()
 }
 
-// So many times the letter a.
-pub fn letters(alloc: Global, size: &str) -> Result<Vec<u8>> {
-    Ok(vec![in alloc; b'a'; size.parse::<usize>()?]?)
-}
-
-fn add_told(alloc: Global, world: &mut World, path: &str, field: &str) -> Result<()> {
-    let content = unescape(alloc, &Name::from_text(alloc, field)?)?;
-    add_file(alloc, world, path, content.as_str().as_bytes())
-}
-
-fn add_given(alloc: Global, world: &mut World, given: &str) -> Result<()> {
+// Adds what is told, and answers nothing where it can't be read or made.
+fn add_given(world: &mut World, given: &str, report: &mut Report) -> Option<()> {
     let (kind, text) = parts(given, " ");
     let (path, field) = parts(text, " ");
     match kind {
-        "dir" => add_dir(alloc, world, text),
-        "file" => add_told(alloc, world, path, field),
-        "raw" => add_file(alloc, world, text, &[255]),
-        "long" => add_file(alloc, world, path, letters(alloc, field)?.as_slice()),
-        "service" => add_service(alloc, world, text),
-        "lock" => add_lock(alloc, world, text),
-        "new" => Ok(()),
-        _ => bail!("no line of a host: {given}"),
+        "dir" => add_dir(report.alloc, world, text),
+        "file" => add_told(report.alloc, world, path, field),
+        "raw" => add_file(report.alloc, world, text, &[255]),
+        "long" => add_file(report.alloc, world, path, report.letters(field).as_slice()),
+        "service" => add_service(world, text, report),
+        "lock" => add_lock(world, text, report),
+        "new" => Some(()),
+        _ => None,
     }
 }
 
 // Adds what the lines of a host tell.
-fn add_host(alloc: Global, world: &mut World, heading: &str) -> Result<()> {
+fn add_host(world: &mut World, heading: &str, report: &mut Report) {
     for line in heading.lines() {
         if let Some(given) = line.strip_prefix("+ ") {
-            add_given(alloc, world, given)?;
+            let is_added = add_given(world, given, report).is_some();
+            report.require(is_added, line);
         }
     }
-    Ok(())
 }
 
-// The number behind a mark, on a line of its own.
-fn number_in(heading: &str, mark: &str) -> Result<Option<u32>> {
+// The line behind a mark.
+fn behind<'a>(heading: &'a str, mark: &str) -> Option<&'a str> {
     for line in heading.lines() {
-        if let Some(number) = line.strip_prefix(mark) {
-            return Ok(Some(number.parse::<u32>()?));
+        if let Some(behind) = line.strip_prefix(mark) {
+            return Some(behind);
         }
     }
-    Ok(None)
+    None
 }
 
 // The site in memory of a heading: `+ dir PATH`, `+ file PATH BYTES` with the bytes as an escaped field, `+ raw PATH` of one byte
 // that begins no text, `+ long PATH SIZE`, `+ service NAME running|stopped enabled|disabled RESTARTS` and
 // `+ lock |KEY TEXT| MOMENT`. Its call of the number behind `! ` fails, and each call once as many changes were made as stand
-// behind `!! `.
-pub fn site_of(alloc: Global, heading: &str) -> Result<MemorySite> {
-    let stop = number_in(heading, "!! ")?;
-    let failing_call = number_in(heading, "! ")?.unwrap_or(0);
-    let failing = vec![in alloc; failing_call]?;
-    let mut world = World::new(alloc);
-    add_host(alloc, &mut world, heading)?;
-    Ok(MemorySite::new(alloc, world, failing, stop)?)
+// behind `!! `. None comes for want of memory alone.
+pub fn site_of(heading: &str, report: &mut Report) -> Option<MemorySite> {
+    let stop = behind(heading, "!! ").map(|number| report.count(number));
+    let failing = report.failing(behind(heading, "! ").unwrap_or("0"));
+    let mut world = World::new(report.alloc);
+    add_host(&mut world, heading, report);
+    MemorySite::new(report.alloc, world, failing, stop).ok()
+}
+
+// What was left of a host, on which no call fails any more.
+fn mended(left: MemorySite, report: &Report) -> Option<MemorySite> {
+    MemorySite::new(
+        report.alloc,
+        left.into_world(),
+        Vec::new(report.alloc),
+        None,
+    )
+    .ok()
 }
 
 // The host of a run: what the run before left, or a new one of the lines that it tells, which are none behind `+ new`. Behind
 // `+ left` it is what was left, and no call on it fails any more.
-pub fn host_behind(alloc: Global, left: MemorySite, run: &str) -> Result<MemorySite> {
+pub fn host_behind(left: Option<MemorySite>, run: &str, report: &mut Report) -> Option<MemorySite> {
     if run.contains("\n+ left") {
-        return Ok(MemorySite::new(alloc, left.into_world(), Vec::new(alloc), None)?);
+        return left.and_then(|left| mended(left, report));
     }
     if run.contains("\n+ ") {
-        return site_of(alloc, run);
+        drop(left);
+        return site_of(run, report);
     }
-    Ok(left)
+    left
 }
