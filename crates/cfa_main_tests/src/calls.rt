@@ -39,9 +39,11 @@ fn push_word(alloc: Global, words: &mut Vec<Name>, word: &str) -> Option<()> {
 
 fn words_of(line: &str, report: &mut Report) -> Vec<Name> {
     let mut words = Vec::new(report.alloc);
-    for word in line.split(" ").skip(1) {
-        let is_done = !is_word(word) || push_word(report.alloc, &mut words, word).is_some();
-        report.require(is_done, word);
+    if let Some((_, behind)) = line.split_once(" ") {
+        for word in behind.split(" ") {
+            let is_done = !is_word(word) || push_word(report.alloc, &mut words, word).is_some();
+            report.require(is_done, word);
+        }
     }
     words
 }

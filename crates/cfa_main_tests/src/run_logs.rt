@@ -88,10 +88,10 @@ fn add_refusal(told: &mut String, call: Call, report: &mut Report) {
     report.add(told, &["refused ", call.as_str(), "\n"]);
 }
 
-// The entries of a log behind the first ones, each as a line.
-fn log_behind(log: &[Entry], count: usize, report: &mut Report) -> String {
+// The entries of a log, each as a line.
+fn lines_of(log: &[Entry], report: &mut Report) -> String {
     let mut told = String::new(report.alloc);
-    for entry in log.iter().skip(count) {
+    for entry in log {
         match entry {
             Entry::Did(change) => add_change(&mut told, change, report),
             Entry::Refused(call) => add_refusal(&mut told, *call, report),
@@ -110,7 +110,7 @@ fn is_log(wanted: &str, told: &str, report: &mut Report) -> bool {
 
 // Compares the entries of a log behind the first ones. Each key is told by the text that it is of, between two bars.
 pub fn compare_log(log: &[Entry], before: usize, wanted: &str, report: &mut Report) {
-    let told = log_behind(log, before, report);
+    let told = lines_of(log.get(before..).unwrap_or(&[]), report);
     let whole = with_keys(wanted, report);
     if !is_log(whole.as_str(), told.as_str(), report) {
         report.note("the log", told.as_str(), wanted);

@@ -22,8 +22,9 @@ fn add_blocks(policy: &mut String, name: &str, report: &mut Report) {
 // The policy of a heading, behind the text of a frame. What each may name stands behind it: bodies and edit bundles, and then texts
 // and lists by their lengths, which are added to those alone that name one.
 fn policy_of(frame: &str, heading: &str, report: &mut Report) -> String {
+    let (_, lines) = parts(heading, "\n");
     let mut policy = report.made(frame.to_string(report.alloc));
-    for line in heading.lines().skip(1) {
+    for line in lines.lines() {
         if !line.starts_with("+ ") && !line.starts_with("!") {
             add_line(&mut policy, line, report);
         }
@@ -45,8 +46,8 @@ fn texts_of(frame: &str, heading: &str, report: &mut Report) -> Vec<(Name, Bytes
 }
 
 // The lines that a run puts, and apart from them the entries that it adds to the log.
-fn read_run(run: &str, lines: &mut String, log: &mut String, report: &mut Report) {
-    for line in run.lines().skip(1) {
+fn read_run(behind: &str, lines: &mut String, log: &mut String, report: &mut Report) {
+    for line in behind.lines() {
         if let Some(entry) = line.strip_prefix("> ") {
             add_line(log, entry, report);
         } else if !line.is_empty() && !line.starts_with("+ ") {
@@ -63,12 +64,12 @@ fn compare_call<S: Site>(
     site: &mut S,
     report: &mut Report,
 ) -> String {
-    let (line, _) = parts(run, "\n");
+    let (line, behind) = parts(run, "\n");
     let files = texts_of(frame, row, report);
     let mut put = String::new(report.alloc);
     let status = make(line, files, site, &mut put, report);
     let (mut lines, mut log) = (String::new(report.alloc), String::new(report.alloc));
-    read_run(run, &mut lines, &mut log, report);
+    read_run(behind, &mut lines, &mut log, report);
     compare_answer(line, lines.as_str(), put.as_str(), status, report);
     log
 }
@@ -96,18 +97,18 @@ pub fn compare_row(frame: &str, row: &str, report: &mut Report) {
 }
 
 // A text with a field in the places of the mark of its number.
-fn with_field(text: &str, place: &str, field: &str, report: &mut Report) -> String {
-    let mut mark = String::new(report.alloc);
-    report.add(&mut mark, &["<", place, ">"]);
+fn with_field(text: &str, place: u64, field: &str, report: &mut Report) -> String {
+    let mark = report.made(format!(in report.alloc; "<{place}>"));
     report.made(text.replace(report.alloc, mark.as_str(), field))
 }
 
 // A row with the fields of a line in the places of `<0>`, `<1>` ..
 pub fn filled(row: &str, line: &str, report: &mut Report) -> String {
     let mut text = report.made(row.to_string(report.alloc));
-    for (place, field) in line.split(" | ").enumerate() {
-        let place = report.digits(place as u64);
-        text = with_field(text.as_str(), place.as_str(), field, report);
+    let mut place = 0u64;
+    for field in line.split(" | ") {
+        text = with_field(text.as_str(), place, field, report);
+        place = place.saturating_add(1);
     }
     text
 }

@@ -40,7 +40,7 @@ fn compare_filled(table: Table<'_>, row: &str, report: &mut Report) {
 }
 
 fn compare_rows(table: Table<'_>, rows: &str, report: &mut Report) {
-    for row in rows.split("== ").skip(1) {
+    for row in rows.split("== ") {
         match table.reader {
             "filled" => compare_filled(table, row, report),
             _ => compare(table, row, report),
@@ -60,15 +60,21 @@ fn is_table(reader: &str, text: &str) -> bool {
 pub fn run_table(told: &str, report: &mut Report) {
     let (reader, name) = parts(told, " ");
     let text = report.read(name, ".rows");
-    let (_, rows) = parts(text.as_str(), "\n\n");
-    let (front, _) = parts(rows, "== ");
-    report.require(is_table(reader, rows), "rows");
-    report.tell(name, "no table");
-    let table = Table {
-        reader,
-        name,
-        front,
-    };
-    compare_rows(table, rows, report);
+    let (_, text) = parts(text.as_str(), "\n\n");
+    if is_table(reader, text) {
+        let (front, rows) = parts(text, "== ");
+        compare_rows(
+            Table {
+                reader,
+                name,
+                front,
+            },
+            rows,
+            report,
+        );
+    } else {
+        report.require(false, "rows");
+        report.tell(name, "no table");
+    }
     report.tell_numbers(told);
 }

@@ -80,8 +80,10 @@ fn add_told(files: &mut Vec<(Name, Bytes)>, file: &str, report: &mut Report) {
 // The files that stand in a heading behind its policy, each behind `& `.
 pub fn files_of(heading: &str, report: &mut Report) -> Vec<(Name, Bytes)> {
     let mut files = Vec::new(report.alloc);
-    for file in heading.split("\n& ").skip(1) {
-        add_told(&mut files, file, report);
+    if let Some((_, behind)) = heading.split_once("\n& ") {
+        for file in behind.split("\n& ") {
+            add_told(&mut files, file, report);
+        }
     }
     files
 }
