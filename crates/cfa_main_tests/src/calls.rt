@@ -2,8 +2,8 @@
 // ones, ` @` and the moment, ` ?` and the build of a pattern that is refused for its size, ` <` and the reading of the inputs that
 // fails, ` >` and the put that fails, and ` #` and the room of the sink.
 use super::reports::Report;
-use super::texts::parts;
-use cfa_base::{Bytes, Name};
+use super::texts::{Files, parts};
+use cfa_base::Name;
 use cfa_main::agent_main;
 use cfa_outside::{MemoryInputs, MemorySink, RegexPatterns, Site};
 use std::alloc::Global;
@@ -72,84 +72,63 @@ fn call<S: Site>(
     out: &mut MemorySink,
     report: &mut Report,
 ) -> u8 {
-    report.count_call();
+    report.calls = report.calls.saturating_add(1);
     let moment = number_behind(line, " @", MOMENT, report);
     let mut pats = RegexPatterns::new(report.alloc, failing(line, " ?", report));
     let words = words_of(line, report);
-    agent_main(
-        report.alloc,
-        words.as_slice(),
-        moment,
-        inputs,
-        site,
-        out,
-        &mut pats,
-    )
+    let (alloc, words) = (report.alloc, words.as_slice());
+    agent_main(alloc, words, moment, inputs, site, out, &mut pats)
 }
 
-// Makes a call that puts into the sink of its line, tells what it put, and answers its status.
-fn call_into<S: Site>(
-    line: &str,
-    inputs: &mut MemoryInputs,
-    site: &mut S,
-    put: &mut String,
-    report: &mut Report,
-) -> u8 {
+fn sink_of(line: &str, report: &mut Report) -> Option<MemorySink> {
     let room = number_behind(line, " #", ROOM, report) as usize;
-    let failing = failing(line, " >", report);
-    let Ok(mut out) = MemorySink::new(report.alloc, room, failing) else {
-        report.require(false, "memory");
-        return u8::MAX;
-    };
-    let status = call(line, inputs, site, &mut out, report);
-    report.add(put, &[str::from_utf8(out.bytes()).unwrap_or("no text")]);
-    status
+    MemorySink::new(report.alloc, room, failing(line, " >", report)).ok()
 }
 
-// Makes the call of a line on these files, the first of each name, tells what it put, and answers its status.
-pub fn make<S: Site>(
-    line: &str,
-    files: Vec<(Name, Bytes)>,
-    site: &mut S,
-    put: &mut String,
-    report: &mut Report,
-) -> u8 {
-    let failing = failing(line, " <", report);
-    match MemoryInputs::new(report.alloc, files, failing) {
-        Ok(mut inputs) => call_into(line, &mut inputs, site, put, report),
-        Err(_) => {
-            report.require(false, "memory");
-            u8::MAX
-        }
-    }
+// The inputs of a call. None come for want of memory alone.
+pub fn inputs_of(files: Files, line: &str, report: &mut Report) -> Option<MemoryInputs> {
+    MemoryInputs::new(report.alloc, files, failing(line, " <", report)).ok()
+}
+
+// Makes the call of a line on these files, tells what it put, and answers its status. None comes for want of memory alone.
+pub fn make<S: Site>(line: &str, files: Files, site: &mut S, report: &mut Report) -> Option<u64> {
+    report.put.clear();
+    let mut inputs = inputs_of(files, line, report)?;
+    let mut out = sink_of(line, report)?;
+    let status = call(line, &mut inputs, site, &mut out, report);
+    report.push(&[str::from_utf8(out.bytes()).unwrap_or("no text")]);
+    Some(u64::from(status))
 }
 
 // These are the lines and the status of a verdict.
-fn is_verdict(put: &str, status: u8) -> bool {
+fn is_verdict(put: &str, status: Option<u64>) -> bool {
     match status {
-        0 => put.starts_with("accepted "),
-        3 => put.starts_with("conflict C"),
+        Some(0) => put.starts_with("accepted "),
+        Some(3) => put.starts_with("conflict C"),
         _ => false,
     }
 }
 
 // These lines were put, or as many first bytes of them as the sink has room for, where its room is told.
-fn is_put(line: &str, lines: &str, put: &str, report: &mut Report) -> bool {
+fn is_put(line: &str, lines: &str, report: &mut Report) -> bool {
     match told(line, " #") {
-        "" => put == lines,
-        room => report.number(room) == put.len() as u64 && lines.starts_with(put),
+        "" => report.put.as_str() == lines,
+        room => {
+            let room = report.number(room);
+            room == report.put.len() as u64 && lines.starts_with(report.put.as_str())
+        }
     }
 }
 
 // Compares what a call put and answered with its line and the lines behind it, or with a verdict where it is about validity alone.
-pub fn compare_answer(line: &str, lines: &str, put: &str, status: u8, report: &mut Report) {
+pub fn compare_answer(line: &str, lines: &str, status: Option<u64>, report: &mut Report) {
     let (wanted, _) = parts(line, " ");
     let is_met = if lines == VALID {
-        is_verdict(put, status)
+        is_verdict(report.put.as_str(), status)
     } else {
-        report.number(wanted) == u64::from(status) && is_put(line, lines, put, report)
+        status == Some(report.number(wanted)) && is_put(line, lines, report)
     };
     if !is_met {
-        report.note(line, put, lines);
+        report.note(line, lines);
     }
 }

@@ -9,7 +9,6 @@ mod reports;
 mod resolutions;
 mod run_logs;
 mod run_tables;
-mod shown;
 mod tables;
 mod texts;
 mod worlds;
@@ -25,9 +24,5 @@ fn main(rt: HostRuntime) -> ExitCode {
     for told in tables.as_str().lines() {
         run_table(told, &mut report);
     }
-    if report.is_printed() {
-        ExitCode::SUCCESS
-    } else {
-        ExitCode::FAILURE
-    }
+    ExitCode::from(u8::from(!report.is_printed))
 }

@@ -1,32 +1,30 @@
 // Pieces of policies that are put into a frame and checked. A frame is the text of a policy with `¤` where the piece stands, in a file
 // of its own. A title is `FRAME: TITLE`, with the frame of the rows behind it, each of one line, `ANSWER | PIECE`, with `¶` for each
-// line break in the piece. The answer is `valid`, or the place, the code and the word of the refusal.
+// line break in the piece. The answer is `valid`, or the place, the code and the word of the refusal. Policies that are shown, each in
+// a layout of its own, stand behind their canonical texts, `SHOWN | SOURCE`.
 use super::calls::make;
 use super::reports::Report;
 use super::texts::{add_file, parts};
 use super::worlds::site_of;
 
 // Makes the call of a line where `a.cf` is this source and the host is empty, tells what it put, and answers its status.
-pub fn make_on(line: &str, source: &[u8], put: &mut String, report: &mut Report) -> u8 {
-    report.count_row();
+fn make_on(line: &str, source: &[u8], report: &mut Report) -> Option<u64> {
+    report.rows = report.rows.saturating_add(1);
+    let mut site = site_of("", report)?;
     let mut files = Vec::new(report.alloc);
     add_file(&mut files, "a.cf", source, report);
-    let mut host = site_of("", report);
-    let status = match &mut host {
-        Some(site) => make(line, files, site, put, report),
-        None => u8::MAX,
-    };
-    drop(host);
+    let status = make(line, files, &mut site, report);
+    drop(site);
     status
 }
 
 // A valid policy is accepted or in conflict; another is refused by the one line of the answer.
-fn is_told(answer: &str, put: &str, status: u8) -> bool {
+fn is_told(answer: &str, put: &str, status: Option<u64>) -> bool {
     let line = put.strip_suffix("\n").unwrap_or("no line");
     match status {
-        0 => answer == "valid" && line.starts_with("accepted "),
-        1 => line.strip_prefix("a.cf:") == Some(answer),
-        3 => answer == "valid" && line.starts_with("conflict C"),
+        Some(0) => answer == "valid" && line.starts_with("accepted "),
+        Some(1) => line.strip_prefix("a.cf:") == Some(answer),
+        Some(3) => answer == "valid" && line.starts_with("conflict C"),
         _ => false,
     }
 }
@@ -34,10 +32,9 @@ fn is_told(answer: &str, put: &str, status: u8) -> bool {
 // Checks the source of a row, and compares.
 pub fn check_source(row: &str, source: &[u8], report: &mut Report) {
     let (answer, _) = parts(row, " | ");
-    let mut put = String::new(report.alloc);
-    let status = make_on("0 check a.cf", source, &mut put, report);
-    if !is_told(answer, put.as_str(), status) {
-        report.note(row, put.as_str(), answer);
+    let status = make_on("0 check a.cf", source, report);
+    if !is_told(answer, report.put.as_str(), status) {
+        report.note(row, answer);
     }
 }
 
@@ -56,5 +53,24 @@ pub fn check_pieces(titled: &str, report: &mut Report) {
     let frame = report.read(frame.as_str(), ".frame");
     for row in rows.lines() {
         check_piece(frame.as_str(), row, report);
+    }
+}
+
+// Shows the source of a row, and compares.
+fn show(row: &str, report: &mut Report) {
+    let (shown, source) = parts(row, " | ");
+    let shown = report.made(shown.replace(report.alloc, "¶", "\n"));
+    let source = report.made(source.replace(report.alloc, "¶", "\n"));
+    let status = make_on("0 show a.cf", source.as_str().as_bytes(), report);
+    if status != Some(0) || report.put.as_str() != shown.as_str() {
+        report.note(row, shown.as_str());
+    }
+}
+
+// Shows the source of each row behind a title, and compares.
+pub fn show_rows(titled: &str, report: &mut Report) {
+    let (_, rows) = parts(titled, "\n");
+    for row in rows.lines() {
+        show(row, report);
     }
 }

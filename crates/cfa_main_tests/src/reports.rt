@@ -9,11 +9,21 @@ use std::fs;
 pub struct Report {
     pub rt: HostRuntime,
     pub alloc: Global,
-    rows: u32,
-    calls: u32,
+    // What was put last, or told else of a call.
+    pub put: String,
+    // All could be printed so far.
+    pub is_printed: bool,
+    pub rows: u32,
+    pub calls: u32,
     is_met: bool,
     unmet: String,
-    is_printed: bool,
+}
+
+// Says something, as far as there is memory.
+fn say(text: &mut String, pieces: &[&str]) {
+    for piece in pieces {
+        let _ = text.push_str(piece);
+    }
 }
 
 impl Report {
@@ -22,39 +32,36 @@ impl Report {
         Report {
             rt,
             alloc,
+            put: String::new(alloc),
+            is_printed: true,
             rows: 0,
             calls: 0,
             is_met: true,
             unmet: String::new(alloc),
-            is_printed: true,
         }
     }
 
-    pub fn count_row(&mut self) {
-        self.rows = self.rows.saturating_add(1);
-    }
-
-    pub fn count_call(&mut self) {
-        self.calls = self.calls.saturating_add(1);
-    }
-
-    // Says something of the row, as far as there is memory. The row isn't met.
-    fn say(&mut self, pieces: &[&str]) {
+    // Notes that what was put isn't as it is to be.
+    pub fn note(&mut self, what: &str, wanted: &str) {
+        let put = self.put.as_str();
+        let pieces = [what, "\nput: ", put, "\nwanted: ", wanted, "\n"];
+        say(&mut self.unmet, &pieces);
         self.is_met = false;
-        for piece in pieces {
-            let _ = self.unmet.push_str(piece);
-        }
-    }
-
-    // Notes what isn't as it is to be.
-    pub fn note(&mut self, what: &str, put: &str, wanted: &str) {
-        self.say(&[what, "\nput: ", put, "\nwanted: ", wanted, "\n"]);
     }
 
     // Notes what can't be read or made, where it can't.
     pub fn require(&mut self, is_had: bool, what: &str) {
         if !is_had {
-            self.say(&["can't be had: ", what, "\n"]);
+            self.is_met = false;
+            say(&mut self.unmet, &["can't be had: ", what, "\n"]);
+        }
+    }
+
+    // Adds pieces to what was put.
+    pub fn push(&mut self, pieces: &[&str]) {
+        for piece in pieces {
+            let is_added = self.put.push_str(piece).is_ok();
+            self.require(is_added, "memory");
         }
     }
 
@@ -105,15 +112,9 @@ impl Report {
     }
 
     // So many times the letter a.
-    pub fn letters(&mut self, size: &str) -> Vec<u8> {
+    pub fn letters(&mut self, size: &str) -> String {
         let size = self.count(size) as usize;
-        match vec![in self.alloc; b'a'; size] {
-            Ok(letters) => letters,
-            Err(_) => {
-                self.require(false, "memory");
-                Vec::new(self.alloc)
-            }
-        }
+        self.made("a".repeat(self.alloc, size))
     }
 
     // The list of the calls that fail, of which there is one. No call has the number 0.
@@ -142,8 +143,7 @@ impl Report {
         if !self.is_met {
             let (title, _) = parts(row, "\n");
             let unmet = self.unmet.as_str();
-            let is_printed = println!(self.rt; "{name}: {title}: {unmet}").is_ok();
-            self.is_printed = self.is_printed && is_printed;
+            self.is_printed &= println!(self.rt; "{name}: {title}: {unmet}").is_ok();
         }
         self.unmet.clear();
         self.is_met = true;
@@ -152,14 +152,8 @@ impl Report {
     // Prints the numbers of a table, and counts anew.
     pub fn tell_numbers(&mut self, table: &str) {
         let (rows, calls) = (self.rows, self.calls);
-        let is_printed = println!(self.rt; "{table}: {rows} rows, {calls} calls").is_ok();
-        self.is_printed = self.is_printed && is_printed;
+        self.is_printed &= println!(self.rt; "{table}: {rows} rows, {calls} calls").is_ok();
         self.rows = 0;
         self.calls = 0;
-    }
-
-    // All could be printed so far.
-    pub fn is_printed(&self) -> bool {
-        self.is_printed
     }
 }

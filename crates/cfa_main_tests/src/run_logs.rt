@@ -35,15 +35,15 @@ fn text_of(bytes: &Bytes) -> &str {
     str::from_utf8(bytes.as_slice()).unwrap_or("no text")
 }
 
-// Adds the line of a file, with its bytes as an escaped field.
-fn add_file(told: &mut String, path: &str, bytes: &Bytes, report: &mut Report) {
-    match escape_bytes(report.alloc, text_of(bytes).as_bytes()) {
-        Ok(field) => report.add(told, &["file ", path, "=", field.as_str(), "\n"]),
+// Tells a file, with its bytes as an escaped field.
+fn tell_file(path: &str, bytes: &Bytes, report: &mut Report) {
+    match escape_bytes(report.alloc, bytes.as_slice()) {
+        Ok(field) => report.push(&["file ", path, "=", field.as_str(), "\n"]),
         Err(_) => report.require(false, path),
     }
 }
 
-fn add_service(told: &mut String, name: &str, row: &ServiceRow, report: &mut Report) {
+fn tell_service(name: &str, row: &ServiceRow, report: &mut Report) {
     let running = if row.running {
         " running "
     } else {
@@ -51,68 +51,59 @@ fn add_service(told: &mut String, name: &str, row: &ServiceRow, report: &mut Rep
     };
     let enabled = if row.enabled { "enabled " } else { "disabled " };
     let restarts = report.digits(u64::from(row.restarts));
-    let restarts = restarts.as_str();
-    report.add(told, &["service ", name, running, enabled, restarts, "\n"]);
+    report.push(&["service ", name, running, enabled, restarts.as_str(), "\n"]);
 }
 
-// Adds the line of permissions, with the mode in octal digits.
-fn add_perms(told: &mut String, path: &str, perms: &Perms, report: &mut Report) {
+// Tells permissions, with the mode in octal digits.
+fn tell_perms(path: &str, perms: &Perms, report: &mut Report) {
     let (mode, owner, group) = (perms.mode, perms.owner.as_str(), perms.group.as_str());
-    let mode = report.made(format!(in report.alloc; "{mode:o}"));
-    let mode = mode.as_str();
-    report.add(
-        told,
-        &["perms ", path, " ", mode, " ", owner, " ", group, "\n"],
-    );
+    let line = report.made(format!(in report.alloc; "{mode:o} {owner} {group}\n"));
+    report.push(&["perms ", path, " ", line.as_str()]);
 }
 
-fn add_lock(told: &mut String, key: &str, moment: u64, report: &mut Report) {
+fn tell_lock(key: &str, moment: u64, report: &mut Report) {
     let moment = report.digits(moment);
-    report.add(told, &["lock ", key, " ", moment.as_str(), "\n"]);
+    report.push(&["lock ", key, " ", moment.as_str(), "\n"]);
 }
 
-fn add_change(told: &mut String, change: &Change, report: &mut Report) {
+fn tell_change(change: &Change, report: &mut Report) {
     match change {
-        Change::PutFile(path, bytes) => add_file(told, path.text().as_str(), bytes, report),
-        Change::PutDir(path) => report.add(told, &["dir ", path.text().as_str(), "\n"]),
-        Change::Remove(path) => report.add(told, &["remove ", path.text().as_str(), "\n"]),
-        Change::SetPerms(path, perms) => add_perms(told, path.text().as_str(), perms, report),
-        Change::PutService(name, row) => add_service(told, name.as_str(), row, report),
-        Change::PutLock(key, moment) => add_lock(told, key.text(), *moment, report),
-        Change::Append(bytes) => report.add(told, &["append ", text_of(bytes)]),
+        Change::PutFile(path, bytes) => tell_file(path.text().as_str(), bytes, report),
+        Change::PutDir(path) => report.push(&["dir ", path.text().as_str(), "\n"]),
+        Change::Remove(path) => report.push(&["remove ", path.text().as_str(), "\n"]),
+        Change::SetPerms(path, perms) => tell_perms(path.text().as_str(), perms, report),
+        Change::PutService(name, row) => tell_service(name.as_str(), row, report),
+        Change::PutLock(key, moment) => tell_lock(key.text(), *moment, report),
+        Change::Append(bytes) => report.push(&["append ", text_of(bytes)]),
     }
 }
 
-fn add_refusal(told: &mut String, call: Call, report: &mut Report) {
-    let call = report.made(format!(in report.alloc; "{call:?}"));
-    report.add(told, &["refused ", call.as_str(), "\n"]);
+fn tell_refusal(call: Call, report: &mut Report) {
+    let line = report.made(format!(in report.alloc; "refused {call:?}\n"));
+    report.push(&[line.as_str()]);
 }
 
-// The entries of a log, each as a line.
-fn lines_of(log: &[Entry], report: &mut Report) -> String {
-    let mut told = String::new(report.alloc);
+// Tells the entries of a log, each as a line.
+fn tell_log(log: &[Entry], report: &mut Report) {
+    report.put.clear();
     for entry in log {
         match entry {
-            Entry::Did(change) => add_change(&mut told, change, report),
-            Entry::Refused(call) => add_refusal(&mut told, *call, report),
+            Entry::Did(change) => tell_change(change, report),
+            Entry::Refused(call) => tell_refusal(*call, report),
         }
     }
-    told
 }
 
-// The log is this text, or has so many entries: `N entries`.
-fn is_log(wanted: &str, told: &str, report: &mut Report) -> bool {
-    match wanted.strip_suffix(" entries\n") {
-        Some(count) => report.number(count) == told.lines().count() as u64,
-        None => told == wanted,
-    }
-}
-
-// Compares the entries of a log behind the first ones. Each key is told by the text that it is of, between two bars.
-pub fn compare_log(log: &[Entry], before: usize, wanted: &str, report: &mut Report) {
-    let told = lines_of(log.get(before..).unwrap_or(&[]), report);
+// Compares the entries of a log with a text, or with their number, `N entries`. Each key is told by the text that it is of, between
+// two bars.
+pub fn compare_log(log: &[Entry], wanted: &str, report: &mut Report) {
+    tell_log(log, report);
     let whole = with_keys(wanted, report);
-    if !is_log(whole.as_str(), told.as_str(), report) {
-        report.note("the log", told.as_str(), wanted);
+    let is_met = match wanted.strip_suffix(" entries\n") {
+        Some(count) => report.number(count) == report.put.as_str().lines().count() as u64,
+        None => report.put.as_str() == whole.as_str(),
+    };
+    if !is_met {
+        report.note("the log", wanted);
     }
 }

@@ -8,10 +8,8 @@ use super::calls::{compare_answer, make};
 use super::folders::host_in;
 use super::reports::Report;
 use super::run_logs::compare_log;
-use super::texts::{add_file, add_line, files_of, parts};
+use super::texts::{Files, add_file, add_line, files_of, parts};
 use super::worlds::{host_behind, site_of};
-use cfa_base::{Bytes, Name};
-use cfa_hostdir::HostSite;
 use cfa_outside::{MemorySite, Site};
 
 fn add_blocks(policy: &mut String, name: &str, report: &mut Report) {
@@ -37,7 +35,7 @@ fn policy_of(frame: &str, heading: &str, report: &mut Report) -> String {
 }
 
 // The files of a heading, the policy last.
-fn texts_of(frame: &str, heading: &str, report: &mut Report) -> Vec<(Name, Bytes)> {
+fn texts_of(frame: &str, heading: &str, report: &mut Report) -> Files {
     let (first, _) = parts(heading, "\n& ");
     let policy = policy_of(frame, first, report);
     let mut files = files_of(heading, report);
@@ -57,33 +55,27 @@ fn read_run(behind: &str, lines: &mut String, log: &mut String, report: &mut Rep
 }
 
 // Makes the call of a run on a host, and compares what it puts and answers. Tells the entries that it is to add to the log.
-fn compare_call<S: Site>(
-    frame: &str,
-    row: &str,
-    run: &str,
-    site: &mut S,
-    report: &mut Report,
-) -> String {
+fn run_on<S: Site>(frame: &str, row: &str, run: &str, site: &mut S, report: &mut Report) -> String {
     let (line, behind) = parts(run, "\n");
     let files = texts_of(frame, row, report);
-    let mut put = String::new(report.alloc);
-    let status = make(line, files, site, &mut put, report);
+    let status = make(line, files, site, report);
     let (mut lines, mut log) = (String::new(report.alloc), String::new(report.alloc));
     read_run(behind, &mut lines, &mut log, report);
-    compare_answer(line, lines.as_str(), put.as_str(), status, report);
+    compare_answer(line, lines.as_str(), status, report);
     log
 }
 
 // Makes a run on a host in memory, and compares.
 fn compare_run(frame: &str, row: &str, run: &str, site: &mut MemorySite, report: &mut Report) {
     let before = site.log().len();
-    let log = compare_call(frame, row, run, site, report);
-    compare_log(site.log(), before, log.as_str(), report);
+    let wanted = run_on(frame, row, run, site, report);
+    let log = site.log().get(before..).unwrap_or(&[]);
+    compare_log(log, wanted.as_str(), report);
 }
 
 // Makes the runs of a row on a host in memory, with the policy behind the text of a frame, and compares.
 pub fn compare_row(frame: &str, row: &str, report: &mut Report) {
-    report.count_row();
+    report.rows = report.rows.saturating_add(1);
     let (heading, runs) = parts(row, "\n$ ");
     let mut host = site_of(heading, report);
     for run in runs.split("\n$ ") {
@@ -113,14 +105,9 @@ pub fn filled(row: &str, line: &str, report: &mut Report) -> String {
     text
 }
 
-// Makes a run on the real host, and compares what it puts and answers.
-fn compare_run_in(row: &str, run: &str, site: &mut HostSite<HostRuntime>, report: &mut Report) {
-    let _ = compare_call("", row, run, site, report);
-}
-
-// Makes the runs of a row on the real host, which is a new one where a run tells one.
+// Makes the runs of a row on the real host, which is a new one where a run tells one, and compares what they put and answer.
 pub fn compare_row_in(row: &str, report: &mut Report) {
-    report.count_row();
+    report.rows = report.rows.saturating_add(1);
     let (heading, runs) = parts(row, "\n$ ");
     let mut host = host_in(heading, report);
     for run in runs.split("\n$ ") {
@@ -128,7 +115,7 @@ pub fn compare_row_in(row: &str, report: &mut Report) {
             host = host_in(run, report);
         }
         match &mut host {
-            Some(site) => compare_run_in(heading, run, site, report),
+            Some(site) => drop(run_on("", heading, run, site, report)),
             None => report.require(false, run),
         }
     }

@@ -1,7 +1,10 @@
 // The files of a row: its policy, and the files beside it.
 use super::reports::Report;
-use cfa_base::{Bytes, Name, NoMemory};
+use cfa_base::{Bytes, Name};
 use std::alloc::Global;
+
+// The first of each name stands.
+pub type Files = Vec<(Name, Bytes)>;
 
 // The two parts of a text round what stands first between them, or the text and nothing.
 pub fn parts<'a>(text: &'a str, between: &str) -> (&'a str, &'a str) {
@@ -11,19 +14,14 @@ pub fn parts<'a>(text: &'a str, between: &str) -> (&'a str, &'a str) {
     }
 }
 
-// Adds a line with a number in the place of `#`.
-fn add_numbered(text: &mut String, line: &str, number: u32, report: &mut Report) {
-    let number = report.digits(u64::from(number));
-    let line = report.made(line.replace(report.alloc, "#", number.as_str()));
-    report.add(text, &[line.as_str(), "\n"]);
-}
-
 // Adds the line behind `* FROM TO ` for each number from the first on that is below the second, with the number in the place of `#`.
 fn add_repeated(text: &mut String, repeated: &str, report: &mut Report) {
     let (from, rest) = parts(repeated, " ");
     let (to, line) = parts(rest, " ");
-    for number in report.count(from)..report.count(to) {
-        add_numbered(text, line, number, report);
+    for number in report.number(from)..report.number(to) {
+        let number = report.digits(number);
+        let line = report.made(line.replace(report.alloc, "#", number.as_str()));
+        report.add(text, &[line.as_str(), "\n"]);
     }
 }
 
@@ -35,25 +33,20 @@ pub fn add_line(text: &mut String, line: &str, report: &mut Report) {
     }
 }
 
-fn push_file(
-    alloc: Global,
-    files: &mut Vec<(Name, Bytes)>,
-    name: &str,
-    bytes: &[u8],
-) -> Result<(), NoMemory> {
-    let bytes = Bytes::from_slice(alloc, bytes)?;
-    files.push((Name::from_text(alloc, name)?, bytes))?;
-    Ok(())
+fn push_file(alloc: Global, files: &mut Files, name: &str, bytes: &[u8]) -> Option<()> {
+    let name = Name::from_text(alloc, name).ok()?;
+    let bytes = Bytes::from_slice(alloc, bytes).ok()?;
+    files.push((name, bytes)).ok()
 }
 
 // Adds a file of these bytes.
-pub fn add_file(files: &mut Vec<(Name, Bytes)>, name: &str, bytes: &[u8], report: &mut Report) {
-    let is_added = push_file(report.alloc, files, name, bytes).is_ok();
+pub fn add_file(files: &mut Files, name: &str, bytes: &[u8], report: &mut Report) {
+    let is_added = push_file(report.alloc, files, name, bytes).is_some();
     report.require(is_added, name);
 }
 
 // Adds a file of lines, the last of them without a newline.
-fn add_lines(files: &mut Vec<(Name, Bytes)>, name: &str, lines: &str, report: &mut Report) {
+fn add_lines(files: &mut Files, name: &str, lines: &str, report: &mut Report) {
     let mut text = String::new(report.alloc);
     for line in lines.split("\n") {
         add_line(&mut text, line, report);
@@ -63,7 +56,7 @@ fn add_lines(files: &mut Vec<(Name, Bytes)>, name: &str, lines: &str, report: &m
 }
 
 // Adds a file: `NAME` and its lines, `raw NAME` of one byte that begins no text, or `long NAME SIZE` of so many letters.
-fn add_told(files: &mut Vec<(Name, Bytes)>, file: &str, report: &mut Report) {
+fn add_told(files: &mut Files, file: &str, report: &mut Report) {
     let (first, lines) = parts(file, "\n");
     let (kind, rest) = parts(first, " ");
     let (name, size) = parts(rest, " ");
@@ -71,14 +64,14 @@ fn add_told(files: &mut Vec<(Name, Bytes)>, file: &str, report: &mut Report) {
         "raw" => add_file(files, name, &[255], report),
         "long" => {
             let letters = report.letters(size);
-            add_file(files, name, letters.as_slice(), report);
+            add_file(files, name, letters.as_str().as_bytes(), report);
         }
         _ => add_lines(files, first, lines, report),
     }
 }
 
 // The files that stand in a heading behind its policy, each behind `& `.
-pub fn files_of(heading: &str, report: &mut Report) -> Vec<(Name, Bytes)> {
+pub fn files_of(heading: &str, report: &mut Report) -> Files {
     let mut files = Vec::new(report.alloc);
     if let Some((_, behind)) = heading.split_once("\n& ") {
         for file in behind.split("\n& ") {

@@ -38,6 +38,12 @@ fn add_told(alloc: Global, world: &mut World, path: &str, field: &str) -> Option
     add_file(alloc, world, path, content.as_str().as_bytes())
 }
 
+// Adds a file of so many letters.
+fn add_long(world: &mut World, path: &str, size: &str, report: &mut Report) -> Option<()> {
+    let letters = report.letters(size);
+    add_file(report.alloc, world, path, letters.as_str().as_bytes())
+}
+
 // The word is the first of the two, or else the second.
 fn is_first(word: &str, first: &str, second: &str, report: &mut Report) -> bool {
     report.require(word == first || word == second, word);
@@ -73,7 +79,7 @@ fn add_given(world: &mut World, given: &str, report: &mut Report) -> Option<()> 
         "dir" => add_dir(report.alloc, world, text),
         "file" => add_told(report.alloc, world, path, field),
         "raw" => add_file(report.alloc, world, text, &[255]),
-        "long" => add_file(report.alloc, world, path, report.letters(field).as_slice()),
+        "long" => add_long(world, path, field, report),
         "service" => add_service(world, text, report),
         "lock" => add_lock(world, text, report),
         "new" => Some(()),
@@ -106,29 +112,22 @@ fn behind<'a>(heading: &'a str, mark: &str) -> Option<&'a str> {
 // `+ lock |KEY TEXT| MOMENT`. Its call of the number behind `! ` fails, and each call once as many changes were made as stand
 // behind `!! `. None comes for want of memory alone.
 pub fn site_of(heading: &str, report: &mut Report) -> Option<MemorySite> {
-    let stop = behind(heading, "!! ").map(|number| report.count(number));
+    let stop = match behind(heading, "!! ") {
+        Some(changes) => Some(report.count(changes)),
+        None => None,
+    };
     let failing = report.failing(behind(heading, "! ").unwrap_or("0"));
     let mut world = World::new(report.alloc);
     add_host(&mut world, heading, report);
     MemorySite::new(report.alloc, world, failing, stop).ok()
 }
 
-// What was left of a host, on which no call fails any more.
-fn mended(left: MemorySite, report: &Report) -> Option<MemorySite> {
-    MemorySite::new(
-        report.alloc,
-        left.into_world(),
-        Vec::new(report.alloc),
-        None,
-    )
-    .ok()
-}
-
 // The host of a run: what the run before left, or a new one of the lines that it tells, which are none behind `+ new`. Behind
 // `+ left` it is what was left, and no call on it fails any more.
 pub fn host_behind(left: Option<MemorySite>, run: &str, report: &mut Report) -> Option<MemorySite> {
     if run.contains("\n+ left") {
-        return left.and_then(|left| mended(left, report));
+        let world = left?.into_world();
+        return MemorySite::new(report.alloc, world, Vec::new(report.alloc), None).ok();
     }
     if run.contains("\n+ ") {
         drop(left);
