@@ -43,10 +43,10 @@ impl Report {
 
     // Notes that what was put isn't as it is to be.
     pub fn note(&mut self, what: &str, wanted: &str) {
-        let put = self.put.as_str();
-        let pieces = [what, "\nput: ", put, "\nwanted: ", wanted, "\n"];
-        say(&mut self.unmet, &pieces);
         self.is_met = false;
+        say(&mut self.unmet, &[what, "\nput: "]);
+        say(&mut self.unmet, &[self.put.as_str()]);
+        say(&mut self.unmet, &["\nwanted: ", wanted, "\n"]);
     }
 
     // Notes what can't be read or made, where it can't.
