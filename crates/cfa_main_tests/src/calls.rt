@@ -126,7 +126,8 @@ pub fn compare_answer(line: &str, lines: &str, status: Option<u64>, report: &mut
     let is_met = if lines == VALID {
         is_verdict(report.put.as_str(), status)
     } else {
-        status == Some(report.number(wanted)) && is_put(line, lines, report)
+        let wanted = report.number(wanted);
+        status.unwrap_or(u64::MAX) == wanted && is_put(line, lines, report)
     };
     if !is_met {
         report.note(line, lines);

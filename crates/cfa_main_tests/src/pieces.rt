@@ -21,9 +21,10 @@ fn make_on(line: &str, source: &[u8], report: &mut Report) -> Option<u64> {
 // A valid policy is accepted or in conflict; another is refused by the one line of the answer.
 fn is_told(answer: &str, put: &str, status: Option<u64>) -> bool {
     let line = put.strip_suffix("\n").unwrap_or("no line");
+    let (file, refusal) = parts(line, ":");
     match status {
         Some(0) => answer == "valid" && line.starts_with("accepted "),
-        Some(1) => line.strip_prefix("a.cf:") == Some(answer),
+        Some(1) => file == "a.cf" && refusal == answer,
         Some(3) => answer == "valid" && line.starts_with("conflict C"),
         _ => false,
     }
@@ -62,7 +63,7 @@ fn show(row: &str, report: &mut Report) {
     let shown = report.made(shown.replace(report.alloc, "¶", "\n"));
     let source = report.made(source.replace(report.alloc, "¶", "\n"));
     let status = make_on("0 show a.cf", source.as_str().as_bytes(), report);
-    if status != Some(0) || report.put.as_str() != shown.as_str() {
+    if status.unwrap_or(u64::MAX) != 0 || report.put.as_str() != shown.as_str() {
         report.note(row, shown.as_str());
     }
 }
