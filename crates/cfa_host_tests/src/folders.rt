@@ -4,15 +4,13 @@
 // TEXT` a file in it, and `link NAME TARGET` a link. The other steps are calls of the agent, with the answer behind ` => `, or of a
 // second one behind `2 `; `has NAME` asks for the text of a file in the folder. `agent` lets the next agent follow the first one,
 // and `agent PATH` one at a path in the folder. Texts have bars for newlines, and `Z` for 64 zeros.
-use crate::host_calls::{RealHost, told_call};
-use crate::texts::{parts, text_of};
-use cfa_base::Name;
+use crate::host_calls::{RealHost, make_call};
+use crate::reports::Report;
+use crate::texts::parts;
 use cfa_hostdir::HostSite;
-use std::alloc::Global;
 use std::fs;
 use std::os::unix::fs::symlink;
-use std::process::Abort;
-use std::test::Fail;
+use std::process::ExitCode;
 
 // What is done lasts for the next agent, and behind a writing of the tables.
 const LASTING: &str = "== lasting
@@ -205,115 +203,136 @@ agent
 look /a => Ok(File(1))
 ";
 
-fn host_in(host: &HostRuntime, root: &str) -> Result<RealHost, Fail> {
-    Ok(HostSite::new(host.clone()?, Name::from_text(host.alloc(), root)?))
+// The agents of a row, and what is found of the rows.
+#[derive(Drop)]
+struct Scene {
+    report: Report,
+    first: Option<RealHost>,
+    second: Option<RealHost>,
 }
 
-fn place_in(alloc: Global, folder: &str, name: &str) -> Result<String, Fail> {
-    Ok(format!(in alloc; "{folder}/{name}")?)
+fn host_in(root: &str, report: &Report) -> Option<RealHost> {
+    let root = report.name(root)?;
+    Some(HostSite::new(report.rt.clone().ok()?, root))
 }
 
-fn told_file(host: &HostRuntime, folder: &str, name: &str) -> Result<String, Fail> {
-    let place = place_in(host.alloc(), folder, name)?;
-    let text = fs::read_to_string(host, place.as_str());
-    let told = match &text {
-        Ok(text) if text.is_empty() => "nothing",
-        Ok(text) => text.as_str(),
-        Err(_) => "no file",
+// Lets a new agent follow one.
+fn renew(agent: &mut Option<RealHost>, root: &str, report: &mut Report) {
+    *agent = host_in(root, report);
+    report.require(agent.is_some(), root);
+}
+
+fn call_on(agent: &mut Option<RealHost>, call: &str, report: &mut Report) {
+    let is_made = match agent {
+        Some(site) => make_call(site, call, report).is_some(),
+        None => false,
     };
-    Ok(String::from_str(host.alloc(), told)?)
+    report.require(is_made, call);
 }
 
-// Makes a folder, a file or a link.
-fn arrange(host: &HostRuntime, folder: &str, step: &str) -> Result<(), Fail> {
+fn or_nothing(text: &str) -> &str {
+    if text.is_empty() { "nothing" } else { text }
+}
+
+fn tell_file(folder: &str, name: &str, report: &mut Report) {
+    let place = report.joined(&[folder, "/", name]);
+    match fs::read_to_string(&report.rt, place.as_str()) {
+        Ok(text) => report.put(&[or_nothing(text.as_str())]),
+        Err(_) => report.put(&["no file"]),
+    }
+}
+
+fn write_file(place: &str, told: &str, report: &mut Report) -> bool {
+    let text = report.text(told);
+    fs::write(&report.rt, place, text.as_str()).is_ok()
+}
+
+// Makes a folder, a file or a link at a place, and tells whether it could.
+fn make_at(place: &str, word: &str, text: &str, report: &mut Report) -> bool {
+    match word {
+        "folder" => fs::create_dir(&report.rt, place).is_ok(),
+        "link" => symlink(&report.rt, text, place).is_ok(),
+        "write" => write_file(place, text, report),
+        _ => false,
+    }
+}
+
+fn arrange(folder: &str, step: &str, report: &mut Report) {
     let (word, rest) = parts(step, " ");
     let (name, text) = parts(rest, " ");
-    let place = place_in(host.alloc(), folder, name)?;
-    match word {
-        "folder" => fs::create_dir(host, place.as_str())?,
-        "link" => symlink(host, text, place.as_str())?,
-        _ => fs::write(host, place.as_str(), text_of(host.alloc(), text)?.as_str())?,
-    }
-    Ok(())
+    let place = report.joined(&[folder, "/", name]);
+    let is_made = make_at(place.as_str(), word, text, report);
+    report.require(is_made, step);
 }
 
-// The answer to a step that has one.
-fn answer_of(
-    host: &HostRuntime,
-    folder: &str,
-    first: &mut RealHost,
-    second: &mut RealHost,
-    call: &str,
-) -> Result<String, Fail> {
-    if let Some(name) = call.strip_prefix("has ") {
-        return told_file(host, folder, name);
-    }
-    match call.strip_prefix("2 ") {
-        Some(call) => told_call(host.alloc(), second, call),
-        None => told_call(host.alloc(), first, call),
+// Makes the call of a step that has an answer.
+fn make(folder: &str, call: &str, scene: &mut Scene) {
+    let (word, rest) = parts(call, " ");
+    match word {
+        "has" => tell_file(folder, rest, &mut scene.report),
+        "2" => call_on(&mut scene.second, rest, &mut scene.report),
+        _ => call_on(&mut scene.first, call, &mut scene.report),
     }
 }
 
 // Takes a step that has no answer.
-fn take_step(
-    host: &HostRuntime,
-    folder: &str,
-    first: &mut RealHost,
-    step: &str,
-) -> Result<(), Fail> {
+fn take_step(folder: &str, step: &str, scene: &mut Scene) {
     let (word, path) = parts(step, " ");
-    if word != "agent" {
-        return arrange(host, folder, step);
+    if word == "agent" {
+        let root = scene.report.joined(&[folder, path]);
+        renew(&mut scene.first, root.as_str(), &mut scene.report);
+    } else {
+        arrange(folder, step, &mut scene.report);
     }
-    let root = format!(in host.alloc(); "{folder}{path}")?;
-    *first = host_in(host, root.as_str())?;
-    Ok(())
 }
 
-fn compare_step(
-    rt: &impl Abort,
-    host: &HostRuntime,
-    folder: &str,
-    first: &mut RealHost,
-    second: &mut RealHost,
-    step: &str,
-) -> Result<(), Fail> {
-    let Some((call, want)) = step.split_once(" => ") else {
-        return take_step(host, folder, first, step);
-    };
-    let answer = answer_of(host, folder, first, second, call)?;
-    let want = text_of(host.alloc(), want)?;
-    assert_eq!(rt; answer.as_str(), want.as_str(), "{folder}: {step}");
-    Ok(())
+fn compare_step(folder: &str, step: &str, scene: &mut Scene) {
+    match step.split_once(" => ") {
+        Some((call, told)) => {
+            make(folder, call, scene);
+            let wanted = scene.report.text(told);
+            scene.report.compare(folder, step, wanted.as_str());
+        }
+        None => take_step(folder, step, scene),
+    }
 }
 
-fn compare_steps(
-    rt: &impl Abort,
-    host: &HostRuntime,
-    folder: &str,
-    steps: &str,
-) -> Result<(), Fail> {
-    let mut first = host_in(host, folder)?;
-    let mut second = host_in(host, folder)?;
+fn compare_row(row: &str, scene: &mut Scene) {
+    let (folder, steps) = parts(row, "\n");
+    renew(&mut scene.first, folder, &mut scene.report);
+    renew(&mut scene.second, folder, &mut scene.report);
+    let _ = fs::remove_dir_all(&scene.report.rt, folder);
     for step in steps.lines() {
-        compare_step(rt, host, folder, &mut first, &mut second, step)?;
+        compare_step(folder, step, scene);
     }
-    Ok(())
 }
 
-fn compare_rows(rt: &impl Abort, host: &HostRuntime, table: &str) -> Result<(), Fail> {
-    for row in table.split("== ").skip(1) {
-        let (folder, steps) = parts(row, "\n");
-        let _ = fs::remove_dir_all(host, folder);
-        compare_steps(rt, host, folder, steps)?;
+fn compare_rows(table: &str, scene: &mut Scene) {
+    let (_, rows) = parts(table, "== ");
+    for row in rows.split("== ") {
+        compare_row(row, scene);
     }
-    Ok(())
+}
+
+fn compare_tables(scene: &mut Scene) {
+    compare_rows(LASTING, scene);
+    compare_rows(KILLED, scene);
+    compare_rows(LINKS, scene);
+    compare_rows(DAMAGED, scene);
+    compare_rows(HOLDING, scene);
+}
+
+fn scene_of(report: Report) -> Scene {
+    Scene {
+        report,
+        first: None,
+        second: None,
+    }
 }
 
 #[test]
-fn agents_in_folders(rt: HostRuntime) -> Result<(), Fail> {
-    for table in [LASTING, KILLED, LINKS, DAMAGED, HOLDING] {
-        compare_rows(&rt, &rt, table)?;
-    }
-    Ok(())
+fn agents_in_folders(rt: HostRuntime) -> ExitCode {
+    let mut scene = scene_of(Report::new(rt));
+    compare_tables(&mut scene);
+    scene.report.end()
 }

@@ -1,111 +1,141 @@
 // Calls of an agent on the real host, each as a text, and what it is answered.
-use crate::texts::{ZEROS, parts, path_of, text_of};
-use cfa_base::{Bytes, Key, Name};
+use crate::reports::Report;
+use crate::texts::{ZEROS, parts};
+use cfa_base::Key;
 use cfa_hostdir::HostSite;
-use cfa_outside::{Change, Perms, ServiceRow, Site};
-use std::alloc::Global;
+use cfa_outside::{Change, Path, Perms, ServiceRow, Site};
 use std::str;
-use std::test::Fail;
 
 pub type RealHost = HostSite<HostRuntime>;
 
-fn zeros() -> Result<Key, Fail> {
-    Ok(Key::read(ZEROS.as_bytes()).ok_or("no key")?)
-}
-
-fn bytes_of(alloc: Global, text: &str) -> Result<Bytes, Fail> {
-    let text = text_of(alloc, text)?;
-    Ok(Bytes::from_slice(alloc, text.as_bytes())?)
-}
-
-fn file_put(alloc: Global, text: &str) -> Result<Change, Fail> {
+fn file_put(text: &str, report: &mut Report) -> Option<Change> {
     let (path, content) = parts(text, " ");
-    Ok(Change::PutFile(path_of(alloc, path)?, bytes_of(alloc, content)?))
+    let content = report.bytes(content)?;
+    Some(Change::PutFile(report.path(path)?, content))
 }
 
-fn perms_of(alloc: Global, text: &str) -> Result<Perms, Fail> {
-    let (mode, names) = parts(text, " ");
-    let (owner, group) = parts(names, " ");
-    Ok(Perms {
-        mode: if mode == "644" { 0o644 } else { 0o600 },
-        owner: Name::from_text(alloc, owner)?,
-        group: Name::from_text(alloc, group)?,
-    })
+// The word is the first of the two, or else the second.
+fn is_first(word: &str, first: &str, second: &str, report: &mut Report) -> bool {
+    report.require(word == first || word == second, word);
+    word == first
 }
 
-fn perms_put(alloc: Global, text: &str) -> Result<Change, Fail> {
+fn perms_put(text: &str, report: &mut Report) -> Option<Change> {
     let (path, perms) = parts(text, " ");
-    Ok(Change::SetPerms(path_of(alloc, path)?, perms_of(alloc, perms)?))
+    let (mode, names) = parts(perms, " ");
+    let (owner, group) = parts(names, " ");
+    let mode = if is_first(mode, "644", "600", report) {
+        0o644
+    } else {
+        0o600
+    };
+    let (owner, group) = (report.name(owner)?, report.name(group)?);
+    Some(Change::SetPerms(report.path(path)?, Perms { mode, owner, group }))
 }
 
-fn service_put(alloc: Global, text: &str) -> Result<Change, Fail> {
+fn service_put(text: &str, report: &mut Report) -> Option<Change> {
     let (name, rest) = parts(text, " ");
     let (running, rest) = parts(rest, " ");
     let (enabled, restarts) = parts(rest, " ");
     let row = ServiceRow {
-        running: running == "running",
-        enabled: enabled == "enabled",
-        restarts: restarts.parse::<u32>().unwrap_or(0),
+        running: is_first(running, "running", "stopped", report),
+        enabled: is_first(enabled, "enabled", "disabled", report),
+        restarts: u32::try_from(report.number(restarts)).ok()?,
     };
-    Ok(Change::PutService(Name::from_text(alloc, name)?, row))
+    Some(Change::PutService(report.name(name)?, row))
 }
 
-fn change_of(alloc: Global, kind: &str, text: &str) -> Result<Change, Fail> {
-    Ok(match kind {
-        "file" => file_put(alloc, text)?,
-        "set" => perms_put(alloc, text)?,
-        "service" => service_put(alloc, text)?,
-        "lock" => Change::PutLock(zeros()?, text.parse::<u64>().unwrap_or(0)),
-        "append" => Change::Append(bytes_of(alloc, text)?),
-        "dir" => Change::PutDir(path_of(alloc, text)?),
-        _ => Change::Remove(path_of(alloc, text)?),
-    })
+fn change_of(kind: &str, text: &str, report: &mut Report) -> Option<Change> {
+    match kind {
+        "file" => file_put(text, report),
+        "set" => perms_put(text, report),
+        "service" => service_put(text, report),
+        "lock" => Some(Change::PutLock(Key::read(ZEROS.as_bytes())?, report.number(text))),
+        "append" => Some(Change::Append(report.bytes(text)?)),
+        "dir" => Some(Change::PutDir(report.path(text)?)),
+        "remove" => Some(Change::Remove(report.path(text)?)),
+        _ => None,
+    }
 }
 
-fn told_bytes(alloc: Global, site: &mut RealHost, path: &str) -> Result<String, Fail> {
-    let bytes = site.read(alloc, &path_of(alloc, path)?)?;
-    let text = str::from_utf8(bytes.as_slice()).unwrap_or("no text");
-    Ok(String::from_str(alloc, text)?)
+fn tell_bytes(site: &mut RealHost, path: &Path, report: &mut Report) {
+    match site.read(report.alloc, path) {
+        Ok(bytes) => report.put(&[str::from_utf8(bytes.as_slice()).unwrap_or("no text")]),
+        Err(error) => report.tell(&error),
+    }
 }
 
-fn told_perms(alloc: Global, site: &mut RealHost, path: &str) -> Result<String, Fail> {
-    let perms = site.perms(alloc, &path_of(alloc, path)?)?;
-    let (mode, owner, group) = (perms.mode, perms.owner.as_str(), perms.group.as_str());
-    Ok(format!(in alloc; "{mode:o} {owner} {group}")?)
+fn put_perms(perms: &Perms, report: &mut Report) {
+    let mode = perms.mode;
+    match format!(in report.alloc; "{mode:o}") {
+        Ok(mode) => report.put(&[
+            mode.as_str(),
+            " ",
+            perms.owner.as_str(),
+            " ",
+            perms.group.as_str(),
+        ]),
+        Err(_) => report.require(false, "memory"),
+    }
 }
 
-fn told_row(alloc: Global, site: &mut RealHost, name: &str) -> Result<String, Fail> {
-    let row = site.service(alloc, &Name::from_text(alloc, name)?);
-    Ok(format!(in alloc; "{row:?}")?)
+fn tell_perms(site: &mut RealHost, path: &Path, report: &mut Report) {
+    match site.perms(report.alloc, path) {
+        Ok(perms) => put_perms(&perms, report),
+        Err(error) => report.tell(&error),
+    }
 }
 
-fn told_moment(alloc: Global, site: &mut RealHost) -> Result<String, Fail> {
-    let moment = site.lock(alloc, &zeros()?);
-    Ok(format!(in alloc; "{moment:?}")?)
+fn tell_path(site: &mut RealHost, word: &str, path: &str, report: &mut Report) -> Option<()> {
+    let path = report.path(path)?;
+    match word {
+        "read" => tell_bytes(site, &path, report),
+        "perms" => tell_perms(site, &path, report),
+        _ => {
+            let look = site.look(report.alloc, &path);
+            report.tell(&look);
+        }
+    }
+    Some(())
 }
 
-fn told_look(alloc: Global, site: &mut RealHost, path: &str) -> Result<String, Fail> {
-    let look = site.look(alloc, &path_of(alloc, path)?);
-    Ok(format!(in alloc; "{look:?}")?)
+fn tell_row(site: &mut RealHost, name: &str, report: &mut Report) -> Option<()> {
+    let name = report.name(name)?;
+    let row = site.service(report.alloc, &name);
+    report.tell(&row);
+    Some(())
 }
 
-fn told_change(alloc: Global, site: &mut RealHost, kind: &str, text: &str) -> Result<String, Fail> {
-    let changed = site.change(alloc, &change_of(alloc, kind, text)?);
-    Ok(format!(in alloc; "{changed:?}")?)
+fn tell_tables(site: &mut RealHost, report: &mut Report) -> Option<()> {
+    let are_written = site.write_tables(report.alloc);
+    report.tell(&are_written);
+    Some(())
 }
 
-// The answer to a call of an agent. `look`, `read`, `perms` and `row` are asked at a path or a name, `moment` of the lock of 64 zeros;
-// `tables` writes the tables. The others are changes: `file PATH TEXT`, `set PATH MODE OWNER GROUP`, `service ROW`, `lock MOMENT`,
-// `append TEXT`, `dir PATH` and `remove PATH`.
-pub fn told_call(alloc: Global, site: &mut RealHost, call: &str) -> Result<String, Fail> {
+fn tell_moment(site: &mut RealHost, report: &mut Report) -> Option<()> {
+    let moment = site.lock(report.alloc, &Key::read(ZEROS.as_bytes())?);
+    report.tell(&moment);
+    Some(())
+}
+
+fn tell_change(site: &mut RealHost, kind: &str, text: &str, report: &mut Report) -> Option<()> {
+    let change = change_of(kind, text, report)?;
+    let changed = site.change(report.alloc, &change);
+    drop(change);
+    report.tell(&changed);
+    Some(())
+}
+
+// Makes a call of an agent, and takes what it is answered. `look`, `read`, `perms` and `row` are asked at a path or a name, `moment` of
+// the lock of 64 zeros; `tables` writes the tables. The others are changes: `file PATH TEXT`, `set PATH MODE OWNER GROUP`,
+// `service ROW`, `lock MOMENT`, `append TEXT`, `dir PATH` and `remove PATH`. None comes where the call can't be read.
+pub fn make_call(site: &mut RealHost, call: &str, report: &mut Report) -> Option<()> {
     let (word, text) = parts(call, " ");
     match word {
-        "look" => told_look(alloc, site, text),
-        "read" => told_bytes(alloc, site, text),
-        "perms" => told_perms(alloc, site, text),
-        "row" => told_row(alloc, site, text),
-        "moment" => told_moment(alloc, site),
-        "tables" => Ok(format!(in alloc; "{}", site.write_tables(alloc))?),
-        kind => told_change(alloc, site, kind, text),
+        "look" | "read" | "perms" => tell_path(site, word, text, report),
+        "row" => tell_row(site, text, report),
+        "moment" => tell_moment(site, report),
+        "tables" => tell_tables(site, report),
+        kind => tell_change(site, kind, text, report),
     }
 }

@@ -6,6 +6,8 @@ mod folders;
 #[cfg(test)]
 mod host_calls;
 #[cfg(test)]
+mod reports;
+#[cfg(test)]
 mod sites;
 #[cfg(test)]
 mod tables;

@@ -1,10 +1,10 @@
 // A world in memory, whose nodes are added one by one, and which is taken out of its site and looked at in another one.
-use crate::texts::{parts, path_of};
+use crate::reports::Report;
+use crate::texts::parts;
 use cfa_base::Bytes;
-use cfa_outside::{MemorySite, Node, Site, World, root_perms};
+use cfa_outside::{MemorySite, Node, Path, Site, World, root_perms};
 use std::alloc::Global;
-use std::process::Abort;
-use std::test::Fail;
+use std::process::ExitCode;
 
 // Each directory or file of two bytes that is added, and the answer.
 const ADDED: &str = "dir /etc => Ok(())
@@ -24,54 +24,89 @@ const LOOKS: &str = "/etc => Dir(false) false false false
 /et => Nothing true true false
 /empty/x/y => Nothing true true false";
 
-fn node_of(alloc: Global, kind: &str) -> Result<Node, Fail> {
-    let perms = root_perms(alloc, 0o640)?;
-    if kind == "dir" {
-        Ok(Node::Dir(perms))
-    } else {
-        Ok(Node::File(Bytes::from_slice(alloc, b"hi")?, perms))
+fn node_of(alloc: Global, kind: &str) -> Option<Node> {
+    let perms = root_perms(alloc, 0o640).ok()?;
+    match kind {
+        "file" => Some(Node::File(Bytes::from_slice(alloc, b"hi").ok()?, perms)),
+        _ => Some(Node::Dir(perms)),
     }
 }
 
-fn told_added(alloc: Global, world: &mut World, node: &str) -> Result<String, Fail> {
-    let (kind, path) = parts(node, " ");
-    let path = path_of(alloc, path)?;
-    let added = world.nodes.add(alloc, &path, node_of(alloc, kind)?);
-    Ok(format!(in alloc; "{added:?}")?)
+fn add(world: &mut World, kind: &str, path: &Path, report: &mut Report) -> Option<()> {
+    let added = world
+        .nodes
+        .add(report.alloc, path, node_of(report.alloc, kind)?);
+    report.tell(&added);
+    Some(())
 }
 
-fn told_look(alloc: Global, site: &mut MemorySite, path: &str) -> Result<String, Fail> {
-    let look = site.look(alloc, &path_of(alloc, path)?)?;
-    let (file, directory) = (look.takes_file(), look.takes_directory());
-    let removed = look.is_removable();
-    Ok(format!(in alloc; "{look:?} {file} {directory} {removed}")?)
+fn add_told(world: &mut World, node: &str, report: &mut Report) -> Option<()> {
+    let (kind, path) = parts(node, " ");
+    let path = report.path(path)?;
+    add(world, kind, &path, report)
+}
+
+fn compare_added(world: &mut World, report: &mut Report) {
+    for row in ADDED.lines() {
+        let (node, wanted) = parts(row, " => ");
+        let is_made = add_told(world, node, report).is_some();
+        report.require(is_made, row);
+        report.compare("added", row, wanted);
+    }
+}
+
+fn word_of(is_so: bool) -> &'static str {
+    if is_so { " true" } else { " false" }
+}
+
+fn tell_look(site: &mut MemorySite, path: &str, report: &mut Report) -> Option<()> {
+    let path = report.path(path)?;
+    let look = site.look(report.alloc, &path).ok()?;
+    report.tell(&look);
+    report.push(&[
+        word_of(look.takes_file()),
+        word_of(look.takes_directory()),
+        word_of(look.is_removable()),
+    ]);
+    Some(())
+}
+
+fn compare_looks(site: &mut MemorySite, report: &mut Report) {
+    for row in LOOKS.lines() {
+        let (path, wanted) = parts(row, " => ");
+        let is_made = tell_look(site, path, report).is_some();
+        report.require(is_made, row);
+        report.compare("looks", row, wanted);
+    }
+}
+
+fn site_of(alloc: Global, world: World) -> Option<MemorySite> {
+    MemorySite::new(alloc, world, Vec::new(alloc), None).ok()
+}
+
+fn world_of(report: &mut Report) -> World {
+    let mut world = World::new(report.alloc);
+    compare_added(&mut world, report);
+    world
 }
 
 // A site whose world was that of another one.
-fn moved(alloc: Global, world: World) -> Result<MemorySite, Fail> {
-    let site = MemorySite::new(alloc, world, Vec::new(alloc), None)?;
-    let world = site.into_world();
-    Ok(MemorySite::new(alloc, world, Vec::new(alloc), None)?)
+fn moved(report: &mut Report) -> Option<MemorySite> {
+    let site = site_of(report.alloc, world_of(report))?;
+    site_of(report.alloc, site.into_world())
 }
 
-fn added(rt: &impl Abort, alloc: Global) -> Result<World, Fail> {
-    let mut world = World::new(alloc);
-    for row in ADDED.lines() {
-        let (node, want) = parts(row, " => ");
-        let told = told_added(alloc, &mut world, node)?;
-        assert_eq!(rt; told.as_str(), want, "{row}");
+fn look_at_world(report: &mut Report) {
+    let mut site = moved(report);
+    match &mut site {
+        Some(site) => compare_looks(site, report),
+        None => report.require(false, "a site"),
     }
-    Ok(world)
 }
 
 #[test]
-fn worlds_are_looked_at(rt: HostRuntime) -> Result<(), Fail> {
-    let world = added(&rt, rt.alloc())?;
-    let mut site = moved(rt.alloc(), world)?;
-    for row in LOOKS.lines() {
-        let (path, want) = parts(row, " => ");
-        let told = told_look(rt.alloc(), &mut site, path)?;
-        assert_eq!(rt; told.as_str(), want, "{row}");
-    }
-    Ok(())
+fn worlds_are_looked_at(rt: HostRuntime) -> ExitCode {
+    let mut report = Report::new(rt);
+    look_at_world(&mut report);
+    report.end()
 }

@@ -1,11 +1,12 @@
 // The tables of a host: which texts are tables, and what is written of their rows.
-use crate::texts::{parts, text_of};
+use crate::reports::Report;
+use crate::texts::parts;
 use cfa_base::{Bytes, NoMemory};
 use cfa_hostdir::{
     TableErr, read_locks, read_perms, read_services, write_locks, write_perms, write_services,
 };
 use std::alloc::Global;
-use std::test::Fail;
+use std::process::ExitCode;
 
 // The rows of a table, written again.
 fn rewritten(alloc: Global, kind: &str, bytes: &Bytes) -> Result<Bytes, TableErr> {
@@ -20,15 +21,13 @@ fn rewritten(alloc: Global, kind: &str, bytes: &Bytes) -> Result<Bytes, TableErr
     }
 }
 
-// The first bad line from 1, or 0 where the text is a table that is written again as it was.
-fn bad_line(alloc: Global, kind: &str, text: &str) -> Result<u64, Fail> {
-    let text = text_of(alloc, text)?;
-    let bytes = Bytes::from_slice(alloc, text.as_bytes())?;
-    match rewritten(alloc, kind, &bytes) {
-        Ok(again) if again.as_slice() == bytes.as_slice() => Ok(0),
-        Ok(_) => Ok(u64::MAX),
-        Err(TableErr::BadTable(line)) => Ok(line),
-        Err(TableErr::NoMemory) => Err(Fail::from("no memory")),
+// Tells the first bad line from 1, or 0 where the text is a table that is written again as it was.
+fn tell_bad_line(kind: &str, bytes: &Bytes, report: &mut Report) {
+    match rewritten(report.alloc, kind, bytes) {
+        Ok(again) if again.as_slice() == bytes.as_slice() => report.put(&["0"]),
+        Ok(_) => report.put(&["another text"]),
+        Err(TableErr::BadTable(line)) => report.tell(&line),
+        Err(TableErr::NoMemory) => report.put(&["no memory"]),
     }
 }
 
@@ -83,14 +82,21 @@ locks 2 Z 5|Z 6|
 locks 1 0 5|
 locks 1 Z 05|";
 
-#[test]
-fn tables_read_back(rt: HostRuntime) -> Result<(), Fail> {
-    for row in TABLES.lines() {
-        let (kind, rest) = parts(row, " ");
-        let (line, text) = parts(rest, " ");
-        let wanted = line.parse::<u64>().unwrap_or(u64::MAX);
-        let found = bad_line(rt.alloc(), kind, text)?;
-        assert_eq!(rt; found, wanted, "{row}");
+fn compare_table(row: &str, report: &mut Report) {
+    let (kind, rest) = parts(row, " ");
+    let (line, text) = parts(rest, " ");
+    match report.bytes(text) {
+        Some(bytes) => tell_bad_line(kind, &bytes, report),
+        None => report.require(false, row),
     }
-    Ok(())
+    report.compare("tables", row, line);
+}
+
+#[test]
+fn tables_read_back(rt: HostRuntime) -> ExitCode {
+    let mut report = Report::new(rt);
+    for row in TABLES.lines() {
+        compare_table(row, &mut report);
+    }
+    report.end()
 }
