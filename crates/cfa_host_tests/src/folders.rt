@@ -9,6 +9,7 @@ use crate::reports::Report;
 use crate::texts::parts;
 use cfa_hostdir::HostSite;
 use std::fs;
+use std::mem::replace;
 use std::os::unix::fs::symlink;
 use std::process::ExitCode;
 
@@ -218,7 +219,7 @@ fn host_in(root: &str, report: &Report) -> Option<RealHost> {
 
 // Lets a new agent follow one.
 fn renew(agent: &mut Option<RealHost>, root: &str, report: &mut Report) {
-    *agent = host_in(root, report);
+    drop(replace(agent, host_in(root, report)));
     report.require(agent.is_some(), root);
 }
 
@@ -334,5 +335,7 @@ fn scene_of(report: Report) -> Scene {
 fn agents_in_folders(rt: HostRuntime) -> ExitCode {
     let mut scene = scene_of(Report::new(rt));
     compare_tables(&mut scene);
-    scene.report.end()
+    let status = scene.report.end();
+    drop(scene);
+    status
 }

@@ -96,17 +96,21 @@ fn moved(report: &mut Report) -> Option<MemorySite> {
     site_of(report.alloc, site.into_world())
 }
 
-fn look_at_world(report: &mut Report) {
-    let mut site = moved(report);
-    match &mut site {
-        Some(site) => compare_looks(site, report),
-        None => report.require(false, "a site"),
+fn look_at_world(report: &mut Report) -> bool {
+    match moved(report) {
+        Some(mut site) => {
+            compare_looks(&mut site, report);
+            drop(site);
+            true
+        }
+        None => false,
     }
 }
 
 #[test]
 fn worlds_are_looked_at(rt: HostRuntime) -> ExitCode {
     let mut report = Report::new(rt);
-    look_at_world(&mut report);
+    let is_made = look_at_world(&mut report);
+    report.require(is_made, "a site");
     report.end()
 }
