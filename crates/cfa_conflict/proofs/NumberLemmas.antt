@@ -1,12 +1,12 @@
 -- What the numbers of first and last visits tell.
-use Rattle.std.proofs.Common.{◌≡◌, ℕ, suc, ◌+◌, ◌<◌, ◌≤◌, Bool, true, false, ◌||◌, cond, List, [], ◌∷◌, length, get_or, drop, Option, Some, None, MatchBool, refl, sym, ap, subst, ◌∙◌, inl, inr, arith, add_assoc, eqb, ltb}
+use Rattle.std.proofs.Common.{◌≡◌, ℕ, suc, ◌+◌, ◌<◌, ◌≤◌, Bool, true, false, ◌||◌, cond, List, [], ◌∷◌, length, get_or, set, drop, Option, Some, None, MatchBool, refl, sym, ap, subst, ◌∙◌, inl, inr, arith, add_assoc, eqb, ltb}
 use denote.Ref.{Bor}
 use Rattle.std.specs.Prelude.{slice_get}
 use Rattle.std.specs.Option.{option_copied}
 use Rattle.std.specs.Slice.{IsGetResult}
 use Rattle.std.proofs.lemmas.Option.{slice_get-get_or, slice_get_past}
 use Rattle.std.proofs.lemmas.Bool.{cond-true, cond-false, eq-eqb, ne_eqb, lt-ltb, le-ltb, cases_eq}
-use Rattle.std.proofs.lemmas.List.{at_drop_more}
+use Rattle.std.proofs.lemmas.List.{at_drop_more, get_or-set_same, get_or-set_other}
 use Rattle.cfa_states.specs.declared.walks.Visit.{Visit}
 use Rattle.cfa_conflict.specs.Conflicts.{first_visit, has_visit, is_visited_after}
 use Rattle.cfa_conflict.specs.Targets.{first_from, last_from, unless_zero}
@@ -115,3 +115,72 @@ pub last_here : (visits : List Visit) (i : ℕ) (d : Visit) (place : ℕ) → i 
     → last_from i (drop i visits) place
     ≡ unless_zero (last_from (i + 1) (drop (i + 1) visits) place) (cond (eqb (get_or visits i d).instance place) i 0)
 last_here visits i d place h = at_drop_more (λ l. last_from i l place) visits i d h
+
+module _ (visits : List Visit) (n i : ℕ) (d : Visit) (one : n ≡ i + 1) (lt : i < length visits) where
+  first_step : (place : ℕ) → first_from i (drop i visits) place ≡ cond (eqb (get_or visits i d).instance place) i (first_from n (drop n visits) place)
+  first_step place =
+      first_here visits i d place lt ∙ ap (λ m. cond (eqb (get_or visits i d).instance place) i (first_from m (drop m visits) place)) (sym one)
+
+  last_step : (place : ℕ)
+      → last_from i (drop i visits) place ≡ unless_zero (last_from n (drop n visits) place) (cond (eqb (get_or visits i d).instance place) i 0)
+  last_step place =
+      last_here visits i d place lt
+      ∙ ap (λ m. unless_zero (last_from m (drop m visits) place) (cond (eqb (get_or visits i d).instance place) i 0)) (sym one)
+
+  -- the visit is of another instance
+  pub first_elsewhere : (place : ℕ) → (place ≡ (get_or visits i d).instance → ⊥) → first_from n (drop n visits) place ≡ first_from i (drop i visits) place
+  first_elsewhere place other =
+      sym (first_step place ∙ cond-false (eqb (get_or visits i d).instance place) i (first_from n (drop n visits) place)
+      (ne_eqb (get_or visits i d).instance place (λ e. other (sym e))))
+
+  unless_elsewhere : (l : ℕ) → unless_zero l 0 ≡ l
+  unless_elsewhere l = elim (cases_eq l 0) [
+    | inl none ↦ unless_none l 0 none ∙ sym none
+    | inr some ↦ cond-false (eqb l 0) 0 l (ne_eqb l 0 some)
+  ]
+
+  pub last_elsewhere : (place : ℕ) → (place ≡ (get_or visits i d).instance → ⊥) → last_from n (drop n visits) place ≡ last_from i (drop i visits) place
+  last_elsewhere place other =
+      let l = last_from n (drop n visits) place in
+      sym (last_step place ∙ ap (unless_zero l) (cond-false (eqb (get_or visits i d).instance place) i 0
+      (ne_eqb (get_or visits i d).instance place (λ e. other (sym e)))) ∙ unless_elsewhere l)
+
+  -- it is the first one of its instance
+  pub first_put : (firsts : List ℕ) (place : ℕ) → (get_or visits i d).instance < length firsts → get_or firsts place 0 ≡ first_from n (drop n visits) place
+      → get_or (set firsts (get_or visits i d).instance i) place 0 ≡ first_from i (drop i visits) place
+  first_put firsts place within before =
+      let here = (get_or visits i d).instance in
+      elim (cases_eq place here) [
+        | inl same ↦
+            ap (λ m. get_or (set firsts here i) m 0) same ∙ get_or-set_same firsts here i 0 within
+            ∙ sym (first_step place ∙ cond-true (eqb here place) i (first_from n (drop n visits) place) (eq-eqb here place (sym same)))
+        | inr other ↦ get_or-set_other firsts here place i 0 other ∙ before ∙ first_elsewhere place other
+      ]
+
+  -- it is the last one, where none is behind it
+  pub last_put : (lasts : List ℕ) (place : ℕ) → (get_or visits i d).instance < length lasts → get_or lasts (get_or visits i d).instance 0 ≡ 0
+      → get_or lasts place 0 ≡ last_from n (drop n visits) place
+      → get_or (set lasts (get_or visits i d).instance i) place 0 ≡ last_from i (drop i visits) place
+  last_put lasts place within none before =
+      let here = (get_or visits i d).instance in
+      let l = last_from n (drop n visits) place in
+      elim (cases_eq place here) [
+        | inl same ↦
+            ap (λ m. get_or (set lasts here i) m 0) same ∙ get_or-set_same lasts here i 0 within
+            ∙ sym (last_step place ∙ ap (unless_zero l) (cond-true (eqb here place) i 0 (eq-eqb here place (sym same)))
+            ∙ unless_none l i (sym before ∙ ap (λ m. get_or lasts m 0) same ∙ none))
+        | inr other ↦ get_or-set_other lasts here place i 0 other ∙ before ∙ last_elsewhere place other
+      ]
+
+  pub last_kept : (lasts : List ℕ) (place : ℕ) → (get_or lasts (get_or visits i d).instance 0 ≡ 0 → ⊥)
+      → get_or lasts place 0 ≡ last_from n (drop n visits) place → get_or lasts place 0 ≡ last_from i (drop i visits) place
+  last_kept lasts place some before =
+      let here = (get_or visits i d).instance in
+      let l = last_from n (drop n visits) place in
+      elim (cases_eq place here) [
+        | inl same ↦
+            before
+            ∙ sym (last_step place ∙ cond-false (eqb l 0) (cond (eqb here place) i 0) l
+            (ne_eqb l 0 (λ e. some (sym (ap (λ m. get_or lasts m 0) same) ∙ before ∙ e))))
+        | inr other ↦ before ∙ last_elsewhere place other
+      ]
