@@ -1,39 +1,38 @@
 -- Rows that are like others: of those with the same acts one is kept.
-use Rattle.std.proofs.Common.{◌≡◌, ℕ, ◌+◌, ◌<◌, ◌≤◌, inl, inr, List, [], ◌∷◌, ◌++◌, length, get_or, map, take, Bool, true, false, cond, ◌||◌, refl, sym, ap, subst, ◌∙◌, eq-eqb}
+use Rattle.std.proofs.Common.{◌≡◌, ℕ, ◌+◌, ◌<◌, ◌≤◌, inl, inr, List, [], ◌∷◌, ◌++◌, length, get_or, take, Bool, true, false, ◌||◌, refl, sym, ap, subst, ◌∙◌, eq-eqb}
 use Rattle.std.proofs.lemmas.Bool.{and_parts, and_from, or_left, or_right, or_cases, eqb-true}
 use Rattle.std.proofs.lemmas.List.{map_push, take_more, take_all}
-use Rattle.std.proofs.lemmas.List.Folds.{list_any-append}
+use Rattle.std.proofs.lemmas.List.Folds.{list_any-append, list_any_at}
 use Rattle.std.proofs.lemmas.Slice.Eq.{bytes_eq-Decides}
 use Rattle.std.specs.Cmp.Lexicographic.{pointwise}
-use Rattle.std.specs.List.{filter, list_any}
+use Rattle.std.specs.List.{list_any}
 use Rattle.std.specs.Prelude.{nat_eq}
 use Rattle.std.specs.Str.{bytes_eq}
 use Rattle.cfa_base.specs.Index.{Text}
 use Rattle.cfa_resolve.specs.declared.instances.Instance.{Instance}
+use Rattle.cfa_acts.specs.declared.acts.Act.{Act}
 use Rattle.cfa_acts.specs.Same.{is_same}
-use Rattle.cfa_conflict.specs.Targets.{Row, seen_row, seen_rows, is_sought, places_of, acts_at, is_row, is_like, HaveLikes}
-use Rattle.cfa_conflict.proofs.PlaceLemmas.{Seen, at_key}
+use Rattle.cfa_conflict.specs.Targets.{Row, seen_row, seen_rows, acts_at, is_row, is_like, HaveLikes}
+use Rattle.cfa_conflict.proofs.PlaceLemmas.{Seen}
 use Rattle.cfa_conflict.specs.lemmas.Anywhere.{in_left, in_right}
 
--- an instance at one of the places of a target has the same acts
-pub like_among : (instances : List Instance) (rows : List Row) (target : Text) (place : ℕ)
-    → list_any (λ other. pointwise is_same (acts_at instances other) (acts_at instances place)) (places_of rows target false) ≡ true
-    → list_any (is_like instances target place) rows ≡ true
-like_among instances [] target place is = is
-like_among instances (row ∷ rows) target place is =
-    let same : ℕ → Bool = λ other. pointwise is_same (acts_at instances other) (acts_at instances place) in
-    let kept = filter (λ (r : Row). is_sought target false r.0) rows in
-    let test = is_like instances target place in
-    elim (is_sought target false row.0) as (λ b. is_sought target false row.0 ≡ b → list_any same (map (λ (r : Row). r.1) (cond b (row ∷ kept) kept)) ≡ true → list_any test (row ∷ rows) ≡ true) [
-      | true ↦ λ at found.
-          elim (or_cases (same row.1) (list_any same (places_of rows target false)) found) [
-            | inl here ↦
-                or_left (test row) (list_any test rows)
-                (and_from (bytes_eq target row.0) (nat_eq place row.1 || same row.1) (sym (at_key target row.0) ∙ at) (or_right (nat_eq place row.1) (same row.1) here))
-            | inr later ↦ or_right (test row) (list_any test rows) (like_among instances rows target place later)
-          ]
-      | false ↦ λ at found. or_right (test row) (list_any test rows) (like_among instances rows target place found)
-    ] refl is
+any_seen : (test : Row → Bool) (rows : List Seen) → list_any test (seen_rows rows) ≡ list_any (λ (row : Seen). test (seen_row row)) rows
+any_seen test [] = refl
+any_seen test (row ∷ rows) = ap (λ b. test (seen_row row) || b) (any_seen test rows)
+
+-- a row of the target is of an instance with the same acts
+pub like_at : (instances : List Instance) (rows : List Seen) (target : Text) (place i : ℕ) (d : Seen) (acts others : List Act) → i < length rows
+    → bytes_eq target (get_or rows i d).0.now ≡ true
+    → acts ≡ acts_at instances place → others ≡ acts_at instances (get_or rows i d).1 → pointwise is_same others acts ≡ true
+    → list_any (is_like instances target place) (seen_rows rows) ≡ true
+like_at instances rows target place i d acts others lt at here there same =
+    let row = get_or rows i d in
+    let alike = pointwise is_same (acts_at instances row.1) (acts_at instances place) in
+    let are : alike ≡ true =
+    ap (λ l. pointwise is_same l (acts_at instances place)) (sym there) ∙ ap (pointwise is_same others) (sym here) ∙ same in
+    any_seen (is_like instances target place) rows
+    ∙ list_any_at (λ (r : Seen). is_like instances target place (seen_row r)) rows i d lt
+    (and_from (bytes_eq target row.0.now) (nat_eq place row.1 || alike) at (or_right (nat_eq place row.1) alike are))
 
 -- a row is like itself
 like_itself : (instances : List Instance) (row : Seen) → is_like instances row.0.now row.1 (seen_row row) ≡ true

@@ -2,21 +2,24 @@
 use Rattle.std.proofs.Common.{◌≡◌, ℕ, ◌+◌, ◌<◌, ◌≤◌, List, [], ◌∷◌, ◌++◌, length, get_or, take, drop, Bool, true, false, cond, eqb, refl, sym, ap, subst, ◌∙◌, arith}
 use Rattle.std.proofs.lemmas.Bool.{false≢true, false_from_ne_true}
 use Rattle.std.proofs.lemmas.Bool.Decides.{nat_tests}
-use Rattle.std.proofs.lemmas.Cmp.{nat_list_cmp_total, is_lt_index}
+use Rattle.std.proofs.lemmas.Cmp.{nat_list_cmp_total, is_lt_index, tied_itself}
+use Rattle.std.proofs.lemmas.Slice.Eq.{bytes_eq-Decides}
 use Rattle.std.proofs.lemmas.List.{take-append-drop, get_or-drop, get_or-take, length-drop, length-take-le, append-nil}
 use Rattle.std.proofs.lemmas.List.Elements.{filter-append, All-head, All-tail}
 use Rattle.std.proofs.lemmas.List.Sorted.{sorted_far, searchable_from_sorted, ranks_by}
 use Rattle.std.specs.Prelude.{nat_eq}
 use Rattle.std.specs.List.{All, AllWithin, filter, starts_with}
 use Rattle.std.specs.List.Sorted.{IsSorted, IsPartitionedBy, IsPartitionPoint}
-use Rattle.std.specs.Ordering.{is_lt, is_gt, nat_cmp, ordering_then, ordering_reverse, ordering_index}
+use Rattle.std.specs.Ordering.{is_lt, is_gt, is_eq, nat_cmp, ordering_then, ordering_reverse, ordering_index}
+use Rattle.std.specs.Str.{bytes_eq}
 use Rattle.std.specs.declared.cmp.Ordering.{Ordering}
 use Rattle.std.specs.declared.cmp.Ordering.TheVariants.{Less, Equal, Greater}
 use denote.Ref.{Bor}
 use Rattle.cfa_base.specs.Index.{Text}
 use Rattle.cfa_base.specs.TextMaps.{text_cmp}
 use Rattle.cfa_base.specs.lemmas.Fronts.{from_front, between}
-use Rattle.cfa_conflict.specs.Targets.{AreSorted, is_row_before, begins_with}
+use Rattle.cfa_base.specs.lemmas.TextMaps.{tied}
+use Rattle.cfa_conflict.specs.Targets.{AreSorted, is_row_before, is_near}
 
 -- ---- the order of the rows
 
@@ -72,11 +75,33 @@ pub record PassesTogether (key : Text) (test : Bor Text × ℕ → Bool) : Type 
   pub all_between : (low high : Bor Text × ℕ) → is_gt (text_cmp key low.0.now) ≡ false → is_gt (text_cmp low.0.now high.0.now) ≡ false
       → test high ≡ true → test low ≡ true
 
-pub those_beginning : (front : Text) → PassesTogether front (begins_with front)
+those_beginning : (front : Text) → PassesTogether front (λ row. starts_with nat_eq row.0.now front)
 those_beginning front = record {
-  none_before = λ row early. false_from_ne_true (begins_with front row) (λ is. false≢true (sym (not_before_front front row.0.now is) ∙ early));
+  none_before = λ row early. false_from_ne_true (starts_with nat_eq row.0.now front) (λ is. false≢true (sym (not_before_front front row.0.now is) ∙ early));
   all_between = λ low high above up_to is. between front low.0.now high.0.now above up_to is;
 }
+
+neither_way : (o : Ordering) → is_gt o ≡ false → is_lt o ≡ false → is_eq o ≡ true
+neither_way Less up down = absurd (false≢true (sym down))
+neither_way Equal up down = refl
+neither_way Greater up down = absurd (false≢true (sym up))
+
+those_at : (key : Text) → PassesTogether key (λ row. bytes_eq key row.0.now)
+those_at key = record {
+  none_before = λ row early.
+      false_from_ne_true (bytes_eq key row.0.now) (λ is.
+      let same : key ≡ row.0.now = (bytes_eq-Decides key row.0.now).0 is in
+      false≢true (sym (ap is_lt (tied_itself nat_list_cmp_total key)) ∙ ap (λ t. is_lt (text_cmp t key)) same ∙ early));
+  all_between = λ low high above up_to is.
+      let same : key ≡ high.0.now = (bytes_eq-Decides key high.0.now).0 is in
+      let below : is_gt (text_cmp low.0.now key) ≡ false = ap (λ t. is_gt (text_cmp low.0.now t)) same ∙ up_to in
+      let back = sym (lt_back (text_cmp key low.0.now)) ∙ sym (ap is_gt (nat_list_cmp_total.antisymm low.0.now key)) ∙ below in
+      (bytes_eq-Decides key low.0.now).1 (tied key low.0.now (neither_way (text_cmp key low.0.now) above back));
+}
+
+pub those_near : (key : Text) (beneath : Bool) → PassesTogether key (λ row. is_near key beneath row.0.now)
+those_near key true = those_beginning key
+those_near key false = those_at key
 
 -- the rows from a place on, none of which is before the key
 pub parted_by_test : (rows : List (Bor Text × ℕ)) (key : Text) (test : Bor Text × ℕ → Bool) (start : ℕ) → PassesTogether key test → AreSorted rows

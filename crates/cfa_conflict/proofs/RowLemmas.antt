@@ -1,11 +1,9 @@
 -- Rows one after the other, and the places that are taken from them.
-use Rattle.std.proofs.Common.{◌≡◌, ℕ, ◌+◌, ◌<◌, ◌≤◌, Bool, true, false, ◌||◌, cond, eqb, List, [], ◌∷◌, ◌++◌, length, get_or, drop, refl, sym, ap, ◌∙◌}
+use Rattle.std.proofs.Common.{◌≡◌, ℕ, ◌≤◌, Bool, true, false, ◌||◌, cond, eqb, List, [], ◌∷◌, ◌++◌, length, drop, refl, sym, ap, ◌∙◌}
 use Rattle.std.specs.Prelude.{nat_eq}
-use Rattle.std.proofs.Math.Bool.{or_assoc, or-false}
 use Rattle.std.specs.List.{flat_map, list_any, dedup, dedup_from}
 use Rattle.std.proofs.lemmas.Bool.{eqb-true}
-use Rattle.std.proofs.lemmas.List.{at_drop_more, append-nil, drop_all}
-use Rattle.std.proofs.lemmas.List.Folds.{list_any-append}
+use Rattle.std.proofs.lemmas.List.{append-nil, drop_all}
 use Rattle.cfa_acts.specs.declared.acts.Act.{Act}
 use Rattle.cfa_resolve.specs.declared.instances.Instance.{Instance}
 use Rattle.cfa_conflict.specs.Targets.{Row, rows_from, sought}
@@ -40,22 +38,7 @@ found_once (k ∷ places) place = dedup_finds place k places
 
 -- ---- the places of acts
 
-pub sought_added : (rows : List Row) (acts : List Act) (i : ℕ) (act : Act) (places more : List ℕ) → i < length acts → act ≡ get_or acts i act
-    → ((place : ℕ) → list_any (nat_eq place) more ≡ (list_any (nat_eq place) places || list_any (nat_eq place) (sought rows act)))
-    → (place : ℕ) → (list_any (nat_eq place) more || list_any (nat_eq place) (flat_map (sought rows) (drop (i + 1) acts)))
-    ≡ (list_any (nat_eq place) places || list_any (nat_eq place) (flat_map (sought rows) (drop i acts)))
-sought_added rows acts i act places more lt is grown place =
-    let rest = flat_map (sought rows) (drop (i + 1) acts) in
-    let here : flat_map (sought rows) (drop i acts) ≡ sought rows act ++ rest =
-    at_drop_more (flat_map (sought rows)) acts i act lt ∙ ap (λ (a : Act). sought rows a ++ rest) (sym is) in
-    ap (λ b. b || list_any (nat_eq place) rest) (grown place)
-    ∙ or_assoc (list_any (nat_eq place) places) (list_any (nat_eq place) (sought rows act)) (list_any (nat_eq place) rest)
-    ∙ ap (λ b. list_any (nat_eq place) places || b) (sym (list_any-append (nat_eq place) (sought rows act) rest) ∙ ap (list_any (nat_eq place)) (sym here))
-
-pub sought_done : (rows : List Row) (acts : List Act) (i : ℕ) (places : List ℕ) (place : ℕ) → length acts ≤ i
-    → (list_any (nat_eq place) places || list_any (nat_eq place) (flat_map (sought rows) (drop i acts))) ≡ list_any (nat_eq place) (flat_map (sought rows) acts)
-    → list_any (nat_eq place) places ≡ list_any (nat_eq place) (flat_map (sought rows) acts)
-sought_done rows acts i places place past invariant =
-    sym (or-false (list_any (nat_eq place) places))
-    ∙ ap (λ (l : List Act). list_any (nat_eq place) places || list_any (nat_eq place) (flat_map (sought rows) l)) (sym (drop_all i acts past))
-    ∙ invariant
+pub sought_done : (rows : List Row) (acts : List Act) (i : ℕ) (places : List ℕ) → length acts ≤ i
+    → places ++ flat_map (sought rows) (drop i acts) ≡ flat_map (sought rows) acts → places ≡ flat_map (sought rows) acts
+sought_done rows acts i places past invariant =
+    sym (append-nil places) ∙ ap (λ (l : List Act). places ++ flat_map (sought rows) l) (sym (drop_all i acts past)) ∙ invariant

@@ -1,12 +1,10 @@
 -- Of the code alone: where the acts are that can disturb an act, and where its visits are.
 use Rattle.std.specs.Prelude.{List, [], ◌∷◌, Option, Some, None, ◌≡◌, ℕ, ◌+◌, ◌<◌, ◌==◌, length, slice_index, if◌then◌else◌, Bool, true, false, ◌&&◌, nat_eq, drop, map, ◌||◌, ◌++◌, get_or, slice_get}
 use Rattle.std.specs.Cmp.Lexicographic.{slice_cmp, pointwise}
-use Rattle.std.specs.HashMap.{HashMap, get_by}
 use Rattle.std.specs.List.{filter, list_any, starts_with, flat_map}
 use Rattle.std.specs.List.Sorted.{IsSortedBy}
 use Rattle.std.specs.Ordering.{is_lt, nat_cmp}
 use Rattle.std.specs.Str.{bytes_eq}
-use Rattle.std.specs.declared.vec.Vec.{Vec}
 use denote.Ref.{Bor}
 use Rattle.cfa_states.specs.declared.walks.Visit.{Visit}
 use Rattle.cfa_base.specs.Index.{Text}
@@ -44,8 +42,8 @@ pub record AreNumbers (visits : List Visit) (firsts lasts : List ℕ) : Type 0 w
   pub first : (place : ℕ) → place < length firsts → slice_index firsts place ≡ first_from 0 visits place
   pub last : (place : ℕ) → place < length firsts → slice_index lasts place ≡ last_from 0 visits place
 
--- Texts, each with a place. The places of a text stand in a table; those of the texts that begin with it stand
--- together where the rows are in the order of their texts.
+-- Texts, each with a place. In the order of the texts those of a text stand together, and so do those of the texts that begin
+-- with it.
 
 -- a text with its place
 abbrev pub Row : Type 0
@@ -65,8 +63,10 @@ is_row_before row other = is_lt (slice_cmp nat_cmp row.0.now other.0.now)
 abbrev pub AreSorted : List (Bor Text × ℕ) → Type 0
 AreSorted rows = IsSortedBy is_row_before rows
 
-abbrev pub begins_with : (front : Text) → Bor Text × ℕ → Bool
-begins_with front row = starts_with nat_eq row.0.now front
+-- the text is the key; or, where it may go on, begins with it
+abbrev pub is_near : (key : Text) → (beneath : Bool) → (target : Text) → Bool
+is_near key true target = starts_with nat_eq target key
+is_near key false target = bytes_eq key target
 
 -- the text is the key; or, where it may be beneath, goes on with a slash
 abbrev pub goes_on : (beneath : Bool) → (rest : Text) → Bool
@@ -78,24 +78,6 @@ is_sought key beneath target = starts_with nat_eq target key && goes_on beneath 
 
 abbrev pub places_of : List Row → (key : Text) → (beneath : Bool) → List ℕ
 places_of rows key beneath = map (λ (row : Row). row.1) (filter (λ (row : Row). is_sought key beneath row.0) rows)
-
--- what a table of places answers, with none for a text that it lacks
-abbrev pub in_group : {A : Type 0} → Option (Vec ℕ A) → List ℕ
-in_group None = []
-in_group (Some places) = places.items
-
-abbrev pub grouped : {A S : Type 0} → HashMap (Bor Text) (Vec ℕ A) S → Text → List ℕ
-grouped groups text = in_group (get_by (λ key. bytes_eq text key.now) groups)
-
-abbrev pub AnswersPlaces : {A S : Type 0} → List (Bor Text × ℕ) → HashMap (Bor Text) (Vec ℕ A) S → Type 0
-AnswersPlaces rows groups = (text : Text) → grouped groups text ≡ places_of (seen_rows rows) text false
-
--- the rows in the order of their texts, where that was made
-abbrev pub IsOrderOf : {A : Type 0} → List (Bor Text × ℕ) → Option (Vec (Bor Text × ℕ) A) → Type 0
-IsOrderOf rows None = Unit {0}
-IsOrderOf rows (Some ordered) =
-    AreSorted ordered.items
-    × ((test : Row → Bool) → list_any test (seen_rows ordered.items) ≡ list_any test (seen_rows rows))
 
 -- Where the acts are that can disturb an act. An act changes one target, a path or a service. It can disturb an
 -- act that stands on this target, a copy from it, and the deletion of a path at or above it. So each act looks
@@ -147,11 +129,6 @@ sought rows (Enable name) = places_of rows name false
 sought rows (Disable name) = places_of rows name false
 sought rows (Restart name) = []
 sought rows (Bust reason) = []
-
--- a deletion also disturbs what is beneath its path
-abbrev pub is_deletion : Act → Bool
-is_deletion (Delete path with_directories) = true
-is_deletion act = false
 
 -- ---- instances with the same acts
 

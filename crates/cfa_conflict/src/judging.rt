@@ -10,7 +10,7 @@ use crate::numbers::VisitIndex;
 use crate::pairs::{
     acts_of, first_restart, undone_by_itself, undone_by_other, unsettled_conflict, unsure_at,
 };
-use crate::targets::{deletes, distinct_of, places_sought, targets_of};
+use crate::targets::{distinct_of, places_sought, targets_of};
 use crate::text_places::TextPlaces;
 use crate::{Conflict, Verdict};
 use cfa_base::{NoMemory, PairIndex};
@@ -129,32 +129,15 @@ fn first_at(alloc: Global, all: &Open<'_>, one: Placed<'_>) -> Result<Option<Con
     first_undone(alloc, all, one)
 }
 
-// The targets of the acts of instances, and of those with the same acts on one target the first alone. Their order is made where
-// an act deletes what may be beneath a path.
-fn indexed<'a>(
-    alloc: Global,
-    instances: &'a [Instance],
-) -> Result<(TextPlaces<'a>, TextPlaces<'a>), NoMemory>
-    ensures targets { IfOk result (λ both. HasRows both.0 instances.entry.now) }
-    ensures distinct { IfOk result (λ both. HaveLikes instances.entry.now both.0 both.1) }
-{
-    let mut targets = targets_of(alloc, instances)?;
-    let mut distinct = distinct_of(alloc, instances, &targets)?;
-    if instances.iter().any(|instance| deletes(instance)) {
-        targets.put_in_order(alloc)?;
-        distinct.put_in_order(alloc)?;
-    }
-    Ok((targets, distinct))
-}
-
 // The open walk, with what is looked up in it.
 fn opened(alloc: Global, walk: &Walk) -> Result<Open<'_>, NoMemory>
     ensures visits { IfOk result (λ all. all.visits.visits.now ≡ walk.entry.now.visits) }
     ensures instances { IfOk result (λ all. all.instances.now ≡ walk.entry.now.instances) }
 {
     let instances = walk.instances.as_slice();
+    let targets = targets_of(alloc, instances)?;
+    let distinct = distinct_of(alloc, instances, &targets)?;
     let visits = VisitIndex::new(alloc, walk.visits.as_slice(), instances.len())?;
-    let (targets, distinct) = indexed(alloc, instances)?;
     Ok(Open {
         instances,
         visits,
@@ -197,11 +180,11 @@ fn first_conflict(alloc: Global, kept: &Walk, open: &Walk) -> Result<Option<Conf
     found
 }
 
-/// The verdict by the walk where all is kept and the open walk. It costs as much as both walks list, with a logarithm where one of
-/// them deletes, where the acts of instances are on different paths and services, or are the same. Of the instances with an act on a path or service of
-/// a live instance, on the source of a copy, or at or beneath a path that it deletes, those with different acts are looked at;
-/// and all of them only where an act among these may disturb it. So many instances with different acts on one path, or with edits
-/// there, cost as many pairs. A deletion looks through all targets that begin with the text of its path.
+/// The verdict by the walk where all is kept and the open walk. It costs as much as both walks list, with a logarithm, where the acts
+/// of instances are on different paths and services, or are the same. Of the instances with an act on a path or service of a live
+/// instance, on the source of a copy, or at or beneath a path that it deletes, those with different acts are looked at; and all of
+/// them only where an act among these may disturb it. So many instances with different acts on one path, or with edits there, cost as
+/// many pairs. A deletion looks through all targets that begin with the text of its path.
 pub fn judge(alloc: Global, kept: &Walk, open: &Walk) -> Result<Verdict, NoMemory>
     ensures { IfOk result (λ verdict. verdict ≡ verdict_of kept.now «open».now) }
 {

@@ -1,11 +1,8 @@
 // Where the acts are that can disturb an act.
-ghost use Rattle.std.specs.Prelude.{◌≡◌, ◌||◌, ◌++◌, ℕ, true, false, IfOk, OnOk, nat_eq, option_copied};
-ghost use Rattle.std.specs.Cmp.Lexicographic.{pointwise};
+ghost use Rattle.std.specs.Prelude.{◌≡◌, ◌++◌, ℕ, true, false, IfOk, OnOk, nat_eq, option_copied};
 ghost use Rattle.std.specs.List.{flat_map, list_any};
 ghost use Rattle.std.specs.List.Sorted.{IsNonDecreasing};
-ghost use Rattle.cfa_acts.specs.Same.{is_same};
-ghost use Rattle.cfa_conflict.specs.Targets.{places_of, target_of, rows_of, rows_from, sought, is_deletion, acts_at, HaveLikes};
-ghost use Rattle.cfa_states.specs.Tellers.{acts_of};
+ghost use Rattle.cfa_conflict.specs.Targets.{places_of, seen_rows, target_of, rows_of, rows_from, sought, acts_at, is_like, HasRows, HaveLikes};
 
 use crate::pairs::acts_of;
 use crate::text_places::TextPlaces;
@@ -37,17 +34,31 @@ fn target_of(act: &Act) -> Option<&str>
 
 // Adds the targets of the acts of an instance.
 fn add_targets<'a>(
-    alloc: Global,
     place: usize,
     acts: &'a [Act],
-    targets: &mut TextPlaces<'a>,
+    rows: &mut Vec<(&'a str, usize)>,
 ) -> Result<(), NoMemory>
-    ensures { OnOk result (targets.new ≡ targets.old ++ rows_of place acts.entry.now) }
+    ensures { OnOk result (seen_rows rows.new.items
+        ≡ seen_rows rows.old.items ++ rows_of place acts.entry.now) }
 {
     for act in acts {
         if let Some(target) = target_of(act) {
-            targets.add(alloc, target, place)?;
+            rows.push((target, place))?;
         }
+    }
+    Ok(())
+}
+
+// Adds those of all instances.
+fn add_all_targets<'a>(
+    instances: &'a [Instance],
+    rows: &mut Vec<(&'a str, usize)>,
+) -> Result<(), NoMemory>
+    ensures { OnOk result (seen_rows rows.new.items
+        ≡ seen_rows rows.old.items ++ rows_from instances.entry.now 0) }
+{
+    for (place, instance) in instances.iter().enumerate() {
+        add_targets(place, acts_of(&instance.work), rows)?;
     }
     Ok(())
 }
@@ -57,13 +68,11 @@ pub(crate) fn targets_of<'a>(
     alloc: Global,
     instances: &'a [Instance],
 ) -> Result<TextPlaces<'a>, NoMemory>
-    ensures { IfOk result (λ targets. targets ≡ rows_from instances.entry.now 0) }
+    ensures { IfOk result (λ targets. HasRows targets instances.entry.now) }
 {
-    let mut targets = TextPlaces::new(alloc);
-    for (place, instance) in instances.iter().enumerate() {
-        add_targets(alloc, place, acts_of(&instance.work), &mut targets)?;
-    }
-    Ok(targets)
+    let mut rows = Vec::new(alloc);
+    add_all_targets(instances, &mut rows)?;
+    TextPlaces::from_rows(rows)
 }
 
 fn acts_at(instances: &[Instance], place: usize) -> &[Act]
@@ -75,18 +84,40 @@ fn acts_at(instances: &[Instance], place: usize) -> &[Act]
     }
 }
 
-// Whether an instance at one of the places has the same acts as the one at this place.
-fn has_like(instances: &[Instance], places: &[usize], place: usize) -> bool
-    ensures { result ≡ list_any (λ other.
-        pointwise is_same (acts_at instances.now other) (acts_at instances.now place)) places.now }
+// Whether one of the last rows, as far as they have this target, is of an instance with the same acts as the one at this place.
+fn has_like(instances: &[Instance], rows: &[(&str, usize)], target: &str, place: usize) -> bool
+    ensures { result ≡ true
+        → list_any (is_like instances.now target.now place) (seen_rows rows.now) ≡ true }
 {
     let acts = acts_at(instances, place);
-    places.iter().any(
-        |other: &usize| -> bool
-            ensures { result ≡ pointwise is_same (acts_at instances.entry.now other.entry.now)
-                acts.entry.now }
-        { are_same_acts(acts_at(instances, *other), acts) },
-    )
+    for i in (0..rows.len()).rev() {
+        let (text, other) = rows[i];
+        if target != text {
+            return false;
+        }
+        if are_same_acts(acts_at(instances, other), acts) {
+            return true;
+        }
+    }
+    false
+}
+
+// Adds those rows before which none stands that has the same target and is of an instance with the same acts. Those of a target
+// stand together.
+fn add_distinct<'a>(
+    instances: &[Instance],
+    rows: &[(&'a str, usize)],
+    likes: &mut Vec<(&'a str, usize)>,
+) -> Result<(), NoMemory>
+    ensures { OnOk result
+        (HaveLikes instances.now (seen_rows rows.now) (seen_rows likes.new.items)) }
+{
+    for (target, place) in rows {
+        if !has_like(instances, likes.as_slice(), target, *place) {
+            likes.push((*target, *place))?;
+        }
+    }
+    Ok(())
 }
 
 /// Of the targets of instances with the same acts on one target the first alone.
@@ -97,36 +128,9 @@ pub(crate) fn distinct_of<'a>(
 ) -> Result<TextPlaces<'a>, NoMemory>
     ensures { IfOk result (λ likes. HaveLikes instances.now targets.now likes) }
 {
-    let mut likes = TextPlaces::new(alloc);
-    let all = targets.rows();
-    for (target, place) in all {
-        if !has_like(instances, likes.at(target), *place) {
-            likes.add(alloc, target, *place)?;
-        }
-    }
-    Ok(likes)
-}
-
-fn is_deletion(act: &Act) -> bool
-    ensures { result ≡ is_deletion act.now }
-{
-    matches!(act, Act::Delete(_, _))
-}
-
-/// Whether an instance has a deletion among its acts.
-pub(crate) fn deletes(instance: &Instance) -> bool
-    ensures { result ≡ list_any is_deletion (acts_of instance.now.work) }
-{
-    acts_of(&instance.work).iter().any(|act| is_deletion(act))
-}
-
-fn add_at(targets: &TextPlaces<'_>, target: &str, places: &mut Vec<usize>) -> Result<(), NoMemory>
-    ensures { OnOk result ((place : ℕ) → list_any (nat_eq place) places.new.items
-        ≡ (list_any (nat_eq place) places.old.items
-        || list_any (nat_eq place) (places_of targets.now target.now false))) }
-{
-    places.extend_from_slice(targets.at(target))?;
-    Ok(())
+    let mut likes = Vec::new(alloc);
+    add_distinct(instances, targets.rows(), &mut likes)?;
+    TextPlaces::from_rows(likes)
 }
 
 // The places of the source of a copy and of what it makes.
@@ -136,26 +140,24 @@ fn add_both(
     path: &str,
     places: &mut Vec<usize>,
 ) -> Result<(), NoMemory>
-    ensures { OnOk result ((place : ℕ) → list_any (nat_eq place) places.new.items
-        ≡ (list_any (nat_eq place) places.old.items || list_any (nat_eq place)
-        (places_of targets.now source.now false ++ places_of targets.now path.now false))) }
+    ensures { OnOk result (places.new.items ≡ places.old.items
+        ++ (places_of targets.now source.now false ++ places_of targets.now path.now false)) }
 {
-    add_at(targets, source, places)?;
-    add_at(targets, path, places)
+    targets.add_places(source, false, places)?;
+    targets.add_places(path, false, places)
 }
 
 fn add_sought(targets: &TextPlaces<'_>, act: &Act, places: &mut Vec<usize>) -> Result<(), NoMemory>
-    ensures { OnOk result ((place : ℕ) → list_any (nat_eq place) places.new.items
-        ≡ (list_any (nat_eq place) places.old.items
-        || list_any (nat_eq place) (sought targets.now act.now))) }
+    ensures { OnOk result
+        (places.new.items ≡ places.old.items ++ sought targets.now act.now) }
 {
     match act {
-        Act::Delete(path, _) => targets.add_beneath(path.text().as_str(), places),
+        Act::Delete(path, _) => targets.add_places(path.text().as_str(), true, places),
         Act::Create(path)
         | Act::MakeDir(path)
         | Act::Content(path, _)
         | Act::Edit(path, _)
-        | Act::Perms(path, _, _, _) => add_at(targets, path.text().as_str(), places),
+        | Act::Perms(path, _, _, _) => targets.add_places(path.text().as_str(), false, places),
         Act::Copy(source, path) => {
             add_both(
                 targets,
@@ -165,7 +167,7 @@ fn add_sought(targets: &TextPlaces<'_>, act: &Act, places: &mut Vec<usize>) -> R
             )
         }
         Act::Start(name) | Act::Stop(name) | Act::Enable(name) | Act::Disable(name) => {
-            add_at(targets, name.as_str(), places)
+            targets.add_places(name.as_str(), false, places)
         }
         Act::Restart(_) | Act::Bust(_) => Ok(()),
     }

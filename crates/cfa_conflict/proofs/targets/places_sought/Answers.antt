@@ -1,4 +1,4 @@
-use Rattle.std.proofs.Common.{eqb, sym, ap, subst, ◌∙◌, arith}
+use Rattle.std.proofs.Common.{eqb, sym, ap, subst, ◌∙◌}
 use Rattle.std.proofs.lemmas.Cmp.{nat_cmp_total}
 use Rattle.std.proofs.lemmas.List.Filters.{dedup_is}
 use Rattle.std.proofs.lemmas.List.Kept.{IsStrictlySortedBy-dedup}
@@ -8,20 +8,16 @@ use Rattle.std.specs.Cmp.{unsigned_ties}
 use Rattle.std.specs.List.{list_any, dedup}
 use Rattle.std.specs.List.Sorted.{IsNonDecreasing}
 use Rattle.std.specs.Prelude.{nat_eq}
-use Rattle.cfa_conflict.proofs.RowLemmas.{found_once, sought_added, sought_done}
+use Rattle.cfa_conflict.proofs.RowLemmas.{found_once, sought_done}
 use Rattle.cfa_conflict.proofs.targets.places_sought.Goals as goal
-
-pub loop-act-preserved : goal.loop-act-preserved
-loop-act-preserved c = λ place.
-    sought_added c.args.targets.now c.args.acts.now c.loop-act.act-index c.act-item.result c.loop-act.places.items c.add_sought.new.places.items (omega arith) c.act-item.is c.in_ok-add_sought.ensures place
-    ∙ c.loop-act.invariant place
 
 pub returns-clause-places : goal.returns-clause-places
 returns-clause-places c = λ place.
     let sorted = c.sort.new.self.items in
     ap (list_any (nat_eq place)) (dedup_is eqb sorted c.dedup.new.self.items c.dedup.ensures.filtered) ∙ found_once sorted place
     ∙ sym (list_any-IsPermutation (nat_eq place) c.loop-act.places.items sorted c.in_ok-sort.ensures.permutation)
-    ∙ sought_done c.args.targets.now c.args.acts.now c.loop-act.act-index c.loop-act.places.items place c.loop-act-test.false (c.loop-act.invariant place)
+    ∙ ap (list_any (nat_eq place))
+    (sought_done c.args.targets.now c.args.acts.now c.loop-act.act-index c.loop-act.places.items c.loop-act-test.false c.loop-act.invariant)
 
 pub returns-clause-order : goal.returns-clause-order
 returns-clause-order c =

@@ -1,8 +1,0 @@
-use Rattle.std.proofs.Common.{◌≡◌, ◌++◌, drop, true}
-use Rattle.cfa_conflict.specs.Targets.{seen_rows, places_of}
-use Rattle.cfa_conflict.proofs.text_places.add_rows_beneath.Given as goal
-
-abbrev pub invariant-loop-text : goal.invariant-loop-text
-invariant-loop-text l =
-    l.places.items ++ places_of (seen_rows (drop l.text-index l.rows)) l.path true
-    ≡ l.initial.places.items ++ places_of (seen_rows l.rows) l.path true
