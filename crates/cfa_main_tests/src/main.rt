@@ -1,28 +1,29 @@
 //! Worked rows of the top call, in the tables of `data/`: policies, hosts, logs, lines and statuses. What isn't met is told.
 #![tactic(auto)]
 
-mod calls;
-mod folders;
-mod made_sources;
-mod pieces;
-mod reports;
-mod resolutions;
-mod run_logs;
-mod run_tables;
-mod tables;
-mod texts;
-mod worlds;
-
-use reports::Report;
+use cfa_base::Name;
+use cfa_main::agent_main;
+use cfa_outside::{MemoryInputs, MemorySink, RegexPatterns, Site};
+use cfa_test_rows::{Top, run_all};
+use std::alloc::Global;
 use std::process::ExitCode;
-use tables::run_table;
+
+struct AgentMain;
+
+impl Top for AgentMain {
+    fn call<S: Site>(
+        alloc: Global,
+        words: &[Name],
+        moment: u64,
+        inputs: &mut MemoryInputs,
+        site: &mut S,
+        out: &mut MemorySink,
+        pats: &mut RegexPatterns,
+    ) -> u8 {
+        agent_main(alloc, words, moment, inputs, site, out, pats)
+    }
+}
 
 fn main(rt: HostRuntime) -> ExitCode {
-    let mut report = Report::new(rt);
-    let tables = report.read("tables", "");
-    report.tell("tables", "no list of tables");
-    for told in tables.as_str().lines() {
-        run_table(told, &mut report);
-    }
-    ExitCode::from(u8::from(!report.is_printed))
+    ExitCode::from(u8::from(!run_all::<AgentMain>(rt)))
 }

@@ -4,12 +4,13 @@
 // or their number alone, `> N entries`; and the lines that it puts, or `valid` for those of any verdict. A run that tells lines of a
 // host itself is made on that host, as are those behind it. A line of a text that is much repeated is told once, `* FROM TO LINE`
 // (`texts`).
-use super::calls::{compare_answer, make};
-use super::folders::host_in;
-use super::reports::Report;
-use super::run_logs::compare_log;
-use super::texts::{Files, add_file, add_line, files_of, parts};
-use super::worlds::{host_behind, site_of};
+use crate::calls::{Top, compare_answer, make};
+use crate::folders::host_in;
+use crate::reports::Report;
+use crate::run_logs::compare_log;
+use crate::texts::{Files, add_file, add_line, files_of, parts};
+use crate::worlds::{host_behind, site_of};
+use cfa_hostdir::HostSite;
 use cfa_outside::{MemorySite, Site};
 
 fn add_blocks(policy: &mut String, name: &str, report: &mut Report) {
@@ -55,10 +56,16 @@ fn read_run(behind: &str, lines: &mut String, log: &mut String, report: &mut Rep
 }
 
 // Makes the call of a run on a host, and compares what it puts and answers. Tells the entries that it is to add to the log.
-fn run_on<S: Site>(frame: &str, row: &str, run: &str, site: &mut S, report: &mut Report) -> String {
+fn run_on<T: Top, S: Site>(
+    frame: &str,
+    row: &str,
+    run: &str,
+    site: &mut S,
+    report: &mut Report,
+) -> String {
     let (line, behind) = parts(run, "\n");
     let files = texts_of(frame, row, report);
-    let status = make(line, files, site, report);
+    let status = make::<T, S>(line, files, site, report);
     let (mut lines, mut log) = (String::new(report.alloc), String::new(report.alloc));
     read_run(behind, &mut lines, &mut log, report);
     compare_answer(line, lines.as_str(), status, report);
@@ -66,22 +73,28 @@ fn run_on<S: Site>(frame: &str, row: &str, run: &str, site: &mut S, report: &mut
 }
 
 // Makes a run on a host in memory, and compares.
-fn compare_run(frame: &str, row: &str, run: &str, site: &mut MemorySite, report: &mut Report) {
+fn compare_run<T: Top>(
+    frame: &str,
+    row: &str,
+    run: &str,
+    site: &mut MemorySite,
+    report: &mut Report,
+) {
     let before = site.log().len();
-    let wanted = run_on(frame, row, run, site, report);
+    let wanted = run_on::<T, MemorySite>(frame, row, run, site, report);
     let log = site.log().get(before..).unwrap_or(&[]);
     compare_log(log, wanted.as_str(), report);
 }
 
 // Makes the runs of a row on a host in memory, with the policy behind the text of a frame, and compares.
-pub fn compare_row(frame: &str, row: &str, report: &mut Report) {
+pub fn compare_row<T: Top>(frame: &str, row: &str, report: &mut Report) {
     report.rows = report.rows.saturating_add(1);
     let (heading, runs) = parts(row, "\n$ ");
     let mut host = site_of(heading, report);
     for run in runs.split("\n$ ") {
         host = host_behind(host, run, report);
         match &mut host {
-            Some(site) => compare_run(frame, heading, run, site, report),
+            Some(site) => compare_run::<T>(frame, heading, run, site, report),
             None => report.require(false, run),
         }
     }
@@ -91,7 +104,8 @@ pub fn compare_row(frame: &str, row: &str, report: &mut Report) {
 // A text with a field in the places of the mark of its number.
 fn with_field(text: &str, place: u64, field: &str, report: &mut Report) -> String {
     let mark = report.made(format!(in report.alloc; "<{place}>"));
-    report.made(text.replace(report.alloc, mark.as_str(), field))
+    let field = report.made(field.replace(report.alloc, "¶", "\n"));
+    report.made(text.replace(report.alloc, mark.as_str(), field.as_str()))
 }
 
 // A row with the fields of a line in the places of `<0>`, `<1>` ..
@@ -105,19 +119,29 @@ pub fn filled(row: &str, line: &str, report: &mut Report) -> String {
     text
 }
 
-// Makes the runs of a row on the real host, which is a new one where a run tells one, and compares what they put and answer.
-pub fn compare_row_in(row: &str, report: &mut Report) {
+// Makes a run on the real host, which is a new one where the run tells one, and compares what it puts and answers.
+fn compare_run_in<T: Top>(
+    row: &str,
+    run: &str,
+    host: &mut Option<HostSite<HostRuntime>>,
+    report: &mut Report,
+) {
+    if run.contains("\n+ ") {
+        *host = host_in(run, report);
+    }
+    match host {
+        Some(site) => drop(run_on::<T, HostSite<HostRuntime>>("", row, run, site, report)),
+        None => report.require(false, run),
+    }
+}
+
+// Makes the runs of a row on the real host, and compares.
+pub fn compare_row_in<T: Top>(row: &str, report: &mut Report) {
     report.rows = report.rows.saturating_add(1);
     let (heading, runs) = parts(row, "\n$ ");
     let mut host = host_in(heading, report);
     for run in runs.split("\n$ ") {
-        if run.contains("\n+ ") {
-            host = host_in(run, report);
-        }
-        match &mut host {
-            Some(site) => drop(run_on("", heading, run, site, report)),
-            None => report.require(false, run),
-        }
+        compare_run_in::<T>(heading, run, &mut host, report);
     }
     drop(host);
 }

@@ -1,5 +1,5 @@
 // What is found of the rows of a table.
-use super::texts::parts;
+use crate::texts::parts;
 use std::alloc::{AllocError, Global};
 use std::fs;
 

@@ -1,6 +1,6 @@
 // The real host in a folder that is made where the program runs.
-use super::reports::Report;
-use super::texts::parts;
+use crate::reports::Report;
+use crate::texts::parts;
 use cfa_base::{Name, unescape_bytes};
 use cfa_hostdir::HostSite;
 use std::fs;

@@ -1,5 +1,5 @@
 // What a run adds to the log of its host, as lines.
-use super::reports::Report;
+use crate::reports::Report;
 use cfa_base::{Bytes, Name, escape_bytes};
 use cfa_locks::key;
 use cfa_outside::{Call, Change, Entry, Perms, ServiceRow};

@@ -1,13 +1,26 @@
 // Calls of the program, each by the line of a table that tells it: `STATUS WORDS`, and behind them, where they aren't the usual
 // ones, ` @` and the moment, ` ?` and the build of a pattern that is refused for its size, ` <` and the reading of the inputs that
 // fails, ` >` and the put that fails, and ` #` and the room of the sink.
-use super::reports::Report;
-use super::texts::{Files, parts};
+use crate::reports::Report;
+use crate::texts::{Files, parts};
 use cfa_base::Name;
-use cfa_main::agent_main;
 use cfa_outside::{MemoryInputs, MemorySink, RegexPatterns, Site};
 use std::alloc::Global;
 use std::str;
+
+/// Who makes the calls of the rows.
+pub trait Top {
+    /// Makes the call of these words at a moment, in seconds since 1970, and answers its status.
+    fn call<S: Site>(
+        alloc: Global,
+        words: &[Name],
+        moment: u64,
+        inputs: &mut MemoryInputs,
+        site: &mut S,
+        out: &mut MemorySink,
+        pats: &mut RegexPatterns,
+    ) -> u8;
+}
 
 // Monday, 1 January 2024, 10:00 UTC.
 const MOMENT: u64 = 1_704_103_200;
@@ -65,7 +78,7 @@ fn failing(line: &str, mark: &str, report: &mut Report) -> Vec<u32> {
 }
 
 // Makes a call, and answers its status.
-fn call<S: Site>(
+fn call<T: Top, S: Site>(
     line: &str,
     inputs: &mut MemoryInputs,
     site: &mut S,
@@ -77,7 +90,7 @@ fn call<S: Site>(
     let mut pats = RegexPatterns::new(report.alloc, failing(line, " ?", report));
     let words = words_of(line, report);
     let (alloc, words) = (report.alloc, words.as_slice());
-    agent_main(alloc, words, moment, inputs, site, out, &mut pats)
+    T::call(alloc, words, moment, inputs, site, out, &mut pats)
 }
 
 fn sink_of(line: &str, report: &mut Report) -> Option<MemorySink> {
@@ -86,16 +99,21 @@ fn sink_of(line: &str, report: &mut Report) -> Option<MemorySink> {
 }
 
 // The inputs of a call. None come for want of memory alone.
-pub fn inputs_of(files: Files, line: &str, report: &mut Report) -> Option<MemoryInputs> {
+fn inputs_of(files: Files, line: &str, report: &mut Report) -> Option<MemoryInputs> {
     MemoryInputs::new(report.alloc, files, failing(line, " <", report)).ok()
 }
 
 // Makes the call of a line on these files, tells what it put, and answers its status. None comes for want of memory alone.
-pub fn make<S: Site>(line: &str, files: Files, site: &mut S, report: &mut Report) -> Option<u64> {
+pub fn make<T: Top, S: Site>(
+    line: &str,
+    files: Files,
+    site: &mut S,
+    report: &mut Report,
+) -> Option<u64> {
     report.put.clear();
     let mut inputs = inputs_of(files, line, report)?;
     let mut out = sink_of(line, report)?;
-    let status = call(line, &mut inputs, site, &mut out, report);
+    let status = call::<T, S>(line, &mut inputs, site, &mut out, report);
     report.push(&[str::from_utf8(out.bytes()).unwrap_or("no text")]);
     Some(u64::from(status))
 }

@@ -1,5 +1,5 @@
 // The files of a row: its policy, and the files beside it.
-use super::reports::Report;
+use crate::reports::Report;
 use cfa_base::{Bytes, Name};
 use std::alloc::Global;
 
@@ -14,12 +14,15 @@ pub fn parts<'a>(text: &'a str, between: &str) -> (&'a str, &'a str) {
     }
 }
 
-// Adds the line behind `* FROM TO ` for each number from the first on that is below the second, with the number in the place of `#`.
+// Adds the line behind `* FROM TO ` for each number from the first on that is below the second, with the next number in the place of
+// `##`, and the number in that of `#`.
 fn add_repeated(text: &mut String, repeated: &str, report: &mut Report) {
     let (from, rest) = parts(repeated, " ");
     let (to, line) = parts(rest, " ");
     for number in report.number(from)..report.number(to) {
+        let next = report.digits(number.saturating_add(1));
         let number = report.digits(number);
+        let line = report.made(line.replace(report.alloc, "##", next.as_str()));
         let line = report.made(line.replace(report.alloc, "#", number.as_str()));
         report.add(text, &[line.as_str(), "\n"]);
     }
@@ -55,13 +58,14 @@ fn add_lines(files: &mut Files, name: &str, lines: &str, report: &mut Report) {
     add_file(files, name, text.as_bytes(), report);
 }
 
-// Adds a file: `NAME` and its lines, `raw NAME` of one byte that begins no text, or `long NAME SIZE` of so many letters.
+// Adds a file: `NAME` and its lines, `long NAME SIZE` of so many letters, or `raw NAME`, whose last byte, in the second line, begins a
+// character that isn't there. In front of it stands a byte that begins no token.
 fn add_told(files: &mut Files, file: &str, report: &mut Report) {
     let (first, lines) = parts(file, "\n");
     let (kind, rest) = parts(first, " ");
     let (name, size) = parts(rest, " ");
     match kind {
-        "raw" => add_file(files, name, &[255], report),
+        "raw" => add_file(files, name, b"%\n'\xc3\xa9 \xc3".as_slice(), report),
         "long" => {
             let letters = report.letters(size);
             add_file(files, name, letters.as_str().as_bytes(), report);

@@ -1,7 +1,7 @@
 // Hosts in memory by the lines of a table, each of which begins with a plus sign.
-use super::reports::Report;
-use super::run_logs::with_keys;
-use super::texts::parts;
+use crate::reports::Report;
+use crate::run_logs::with_keys;
+use crate::texts::parts;
 use cfa_base::{Bytes, Name, unescape_bytes};
 use cfa_outside::{MemorySite, Node, Path, ServiceRow, World, root_perms};
 use std::alloc::Global;
