@@ -24,14 +24,13 @@ use Rattle.cfa_states.specs.Levels.{GoesTo, IsTooLarge, is_quiet, EndedAs, Fault
 use Rattle.cfa_states.specs.Numbered.{Numbered, name_of, numbered_in, params_of}
 use Rattle.cfa_states.specs.Builds.{BuiltOn}
 use Rattle.cfa_states.specs.Passes.{Course, goes, bind, activation, called_by, calls_of}
-use Rattle.cfa_walk.specs.Steps.{passes_level, call_course, CallEnds}
+use Rattle.cfa_walk.specs.Steps.{passes_level, call_course, BeginsCall, CallEnds}
 use Rattle.cfa_states.specs.Tellers.{Teller, worst_in, inner_path}
 use Rattle.cfa_states.specs.Views.{Setting, Home, shared_names}
 use Rattle.cfa_states.specs.lemmas.Courses.{goes_weaker, passed_bind}
 use Rattle.cfa_walk.proofs.LevelLemmas.{quietly_behind, later_same}
 use Rattle.cfa_states.specs.lemmas.Keeping.{keeps_begun}
 use Rattle.cfa_states.specs.lemmas.Spared.{spare_none, spare_then, spare_begun, inner_has_newline}
-use Rattle.cfa_states.specs.lemmas.Later.{home_same}
 
 -- ---- the course of a call
 
@@ -76,29 +75,23 @@ unshared : (policy : PolicyTree) (s : Setting) (instance : Instance) → HasPlai
 unshared policy s instance plain same =
     ap (λ (p : PolicyTree). is_listed (shared_names p) (inner_path instance)) same ∙ plain (inner_path instance) (inner_has_newline instance)
 
--- an activation of the path has begun, whatever was kept before
-abbrev pub Begins : (path : List ℕ) → Activation → Type 0
-Begins path a =
-    (s : Setting) (state : State) (h : History) (values : List Datum) → Keeps s state h → is_listed (shared_names s.policy) path ≡ false →
-    Stands s state a (Begun path values ∷ h)
+-- ---- how a call begins
+
+-- its parameters are set in an activation of its path
+module _ (path its_path name : List ℕ) (status : Status) (is : its_path ≡ path) (a a' : Activation) (of : IsOf its_path name status a) (same : IsSame a a') where
+  pub bound_is : IsOf path name status a'
+  bound_is = record { path = same.path ∙ (of.path ∙ is); bundle = same.bundle ∙ of.bundle; status = same.status ∙ of.status }
+
+  pub bound_begins : (params : List NamedTree) (given : List Datum) (st st' : State) →
+      ((s : Setting) (state : State) (h : History) (values : List Datum) → Keeps s state h → is_listed (shared_names s.policy) its_path ≡ false →
+      Stands s state a (Begun its_path values ∷ h)) →
+      ((s : Setting) (h : History) → Stands s st a h → Stands s st' a' (bind a.path params given h)) → BeginsCall path params given st st' a'
+  bound_begins params given st st' begins binds = λ s h keeps own.
+      subst (λ (x : List ℕ). Stands s st' a' (bind x params given (Begun x given ∷ h))) is
+      (subst (λ (x : List ℕ). Stands s st' a' (bind x params given (Begun its_path given ∷ h))) of.path
+      (binds s (Begun its_path given ∷ h) (begins s st h given keeps (ap (λ (x : List ℕ). is_listed (shared_names s.policy) x) is ∙ own))))
 
 -- ---- how a call ends
-
--- what two ways of a call have in common where they join
-module _ {T S O X P : Type 0} (teller : X → Teller) (agrees : T × (S × O) → X → Type 0) (behind : T × (S × O) → X → History → Type 0) (faults : T × (S × O) → Faults) (policy : PolicyTree)
-    (instance : Instance) (status : Status) (w : T × (S × O)) (st : State) (b : Shown (List (List ℕ))) (depth : ℕ) (shown : P → Shown (List (List ℕ))) where
-  abbrev Ended : T → S → O → State → P → Activation → Type 0
-  Ended t s o st' p a = CallEnds teller agrees behind faults policy depth instance status w (t, (s, o)) st st' b (shown p) (Ok a.worst)
-
-  pub joined : (t' t : T) (s' s : S) (o' o : O) (st2 st1 : State) (p' p : P) (a' a : Activation) → t' ≡ t → s' ≡ s → o' ≡ o → st2 ≡ st1 → p' ≡ p → a' ≡ a →
-      Ended t s o st1 p a → Ended t' s' o' st2 p' a'
-  joined t' t s' s o' o st2 st1 p' p a' a tellers sites sinks states patterns activations ends =
-      subst (λ (x : T). Ended x s' o' st2 p' a') (sym tellers)
-      (subst (λ (x : S). Ended t x o' st2 p' a') (sym sites)
-      (subst (λ (x : O). Ended t s x st2 p' a') (sym sinks)
-      (subst (λ (x : State). Ended t s o x p' a') (sym states)
-      (subst (λ (x : P). Ended t s o st1 x a') (sym patterns)
-      (subst (λ (x : Activation). Ended t s o st1 p x) (sym activations) ends)))))
 
 module _ {W X : Type 0} (teller : X → Teller) (agrees : W → X → Type 0) (behind : W → X → History → Type 0) (faults : W → Faults) (policy : PolicyTree)
     (instance : Instance) (status : Status) (w : W) (st : State) (b : Shown (List (List ℕ))) where
@@ -152,25 +145,20 @@ module _ {W X : Type 0} (teller : X → Teller) (agrees : W → X → Type 0) (b
       (later_same (faults w), refl),
     )
 
-    module _ (depth n : ℕ) (deep : depth ≡ suc n) (a : Activation) (of : IsOf path name status a)
-        (begins : Begins path a) where
+    module _ (depth n : ℕ) (deep : depth ≡ suc n) where
       -- no bundle has its name
-      pub call_missing : bundle_of policy name ≡ None → CallEnds teller agrees behind faults policy depth instance status w w st st b b (Ok a.worst)
+      pub call_missing : bundle_of policy name ≡ None → CallEnds teller agrees behind faults policy depth instance status w w st st b b (Ok Kept)
       call_missing missing = (
         λ s x h agree. (
           agree,
           λ same keeps stays.
               let k : History = Begun path given ∷ h in
-              let stands = begins s st h given keeps (unshared policy s instance plain same) in
-              subst (λ (c : Course). GoesTo c (λ k. Keeps s st k × (behind w x k × (SpareShorter (length path) h k × EndedAs instance.work instance a.worst k))))
+              subst (λ (c : Course). GoesTo c (λ k. Keeps s st k × (behind w x k × (SpareShorter (length path) h k × EndedAs instance.work instance Kept k))))
               (sym (course_found instance name given is_call status s (teller x) h policy depth n None deep same missing)) (
-                stands.0,
+                keeps_begun s st h path given (unshared policy s instance plain same) keeps,
                 (
                   steady x (Begun path given) h refl stays,
-                  (
-                    spare_begun (length path) h path given (omega arith),
-                    ended instance name given is_call a.worst k (stands.1.1.1.0.0 ∙ ap (λ (p : List ℕ). worst_in k p) of.path),
-                  ),
+                  (spare_begun (length path) h path given (omega arith), ended instance name given is_call Kept k (sym (begun_kept path given h))),
                 ),
               ),
         ),
@@ -178,9 +166,9 @@ module _ {W X : Type 0} (teller : X → Teller) (agrees : W → X → Type 0) (b
       )
 
       -- its bundle is gone through
-      module _ (block : BlockTree) (params : List NamedTree) (ps : List Numbered) (found : bundle_of policy name ≡ Some block) (named : name_of block ≡ name)
-          (params_are : params ≡ params_of block) (numbered : ps ≡ numbered_in block) (st1 : State) (a1 : Activation) (same_one : IsSame a a1)
-          (binds : (s : Setting) (h : History) → Stands s st a h → Stands s st1 a1 (bind a.path params given h)) (w' : W) (st2 : State) (a2 : Activation) where
+      module _ (block : BlockTree) (ps : List Numbered) (found : bundle_of policy name ≡ Some block) (named : name_of block ≡ name)
+          (numbered : ps ≡ numbered_in block) (st1 : State) (a1 : Activation) (of : IsOf path name status a1)
+          (begins : BeginsCall path (params_of block) given st st1 a1) (w' : W) (st2 : State) (a2 : Activation) where
         abbrev home : Home
         home = record { path = path; bundle = name_of block }
 
@@ -189,18 +177,11 @@ module _ {W X : Type 0} (teller : X → Teller) (agrees : W → X → Type 0) (b
 
         home_is : home_of a1 ≡ home
         home_is =
-            home_same a a1 same_one
-            ∙ (ap (λ (x : List ℕ). record { path = x; bundle = a.bundle }) of.path
-            ∙ ap (λ (x : List ℕ). record { path = path; bundle = x }) (of.bundle ∙ sym named))
+            ap (λ (x : List ℕ). record { path = x; bundle = a1.bundle }) of.path
+            ∙ ap (λ (x : List ℕ). record { path = path; bundle = x }) (of.bundle ∙ sym named)
 
         stands_begun : (s : Setting) (h : History) → s.policy ≡ policy → Keeps s st h → StandsAt policy s home status st1 a1 (begun h)
-        stands_begun s h same keeps =
-            let stands = binds s (Begun path given ∷ h) (begins s st h given keeps (unshared policy s instance plain same)) in
-            let first : bind a.path params given (Begun path given ∷ h) ≡ bind path params given (Begun path given ∷ h) =
-            ap (λ (x : List ℕ). bind x params given (Begun path given ∷ h)) of.path in
-            let second : bind path params given (Begun path given ∷ h) ≡ begun h =
-            ap (λ (x : List NamedTree). bind path x given (Begun path given ∷ h)) params_are in
-            (same, (home_is, (same_one.status ∙ of.status, subst (λ (k : History). Stands s st1 a1 k) (first ∙ second) stands)))
+        stands_begun s h same keeps = (same, (home_is, (of.status, begins s h keeps (unshared policy s instance plain same))))
 
         behind_begun : (x : X) (h : History) → behind w x h → behind w x (begun h)
         behind_begun x h stays =

@@ -1,5 +1,5 @@
 -- Promises of common bundles, and common bundles one after the other.
-use Rattle.std.proofs.Common.{◌≡◌, ◌∙◌, ℕ, ◌+◌, ◌<◌, length, take, drop, get_or, map, true, false, cond, List, [], ◌∷◌, ◌++◌, IsTrue, refl, ap, sym, subst, rules}
+use Rattle.std.proofs.Common.{◌≡◌, ◌∙◌, ℕ, ◌<◌, length, take, drop, get_or, map, true, false, cond, List, [], ◌∷◌, ◌++◌, IsTrue, refl, ap, sym, subst, rules}
 use Rattle.std.specs.Prelude.{All, Result, Err}
 use Rattle.std.proofs.lemmas.Bool.{false≢true}
 use Rattle.std.proofs.lemmas.List.{map-append, take-append-drop}

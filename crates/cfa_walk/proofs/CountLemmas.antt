@@ -1,6 +1,6 @@
 -- A promise that has instances: its visits are counted, and its instances visited.
 use Rattle.std.proofs.Common.{◌≡◌, ℕ, Bool, true, List, ◌∷◌, refl, ap, ◌∙◌, ◌+◌, ◌-◌, ◌≤◌, ◌<◌, false, ◌++◌, length, filter_map, Option, Some, All, IsTrue, inl, inr, sym, subst, arith}
-use Rattle.std.specs.Prelude.{◌&&◌, nat_le, Result, Ok, Err}
+use Rattle.std.specs.Prelude.{◌&&◌, nat_le, Result, Ok, Err, IsErrOf}
 use Rattle.std.specs.Str.{bytes_eq}
 use Rattle.cfa_statuses.specs.declared.levels.Status.{Status}
 use Rattle.cfa_statuses.specs.declared.levels.Status.TheVariants.{No, Maybe, Yes}
@@ -20,7 +20,10 @@ use Rattle.cfa_statuses.specs.Raised.{Raised as Statuses, status_in}
 use Rattle.cfa_output.specs.declared.ends.Stop.{Stop}
 use Rattle.cfa_output.specs.declared.ends.Stop.TheVariants.{Outside, Memory, Visits, Pattern}
 use Rattle.cfa_resolve.specs.declared.instances.Instance.{Instance}
+use Rattle.cfa_resolve.specs.declared.instances.ResolveErr.{ResolveErr}
+use Rattle.cfa_resolve.specs.declared.instances.ResolveErr.TheVariants.{TooLarge, PatternTooBig, NoMemory}
 use Rattle.cfa_resolve.specs.declared.instances.Resolved.{Resolved}
+use Rattle.cfa_resolve.specs.Viewed.{too_big_in}
 use Rattle.cfa_resolve.specs.Laws.{IsInstanceOf}
 use Rattle.cfa_resolve.specs.Instances.{Reached as ReachedAt}
 use Rattle.cfa_schema.specs.Laws.{IsCounted}
@@ -37,7 +40,7 @@ use Rattle.cfa_states.specs.Kept.{Stands, SpareShorter, home_of, scope_at, AreLa
 use Rattle.cfa_states.specs.Levels.{GoesTo, IsTooLarge, is_quiet, Faults, StandsAt, LevelDone, PatternsAre, Ends}
 use Rattle.cfa_states.specs.Builds.{BuiltOn, BuiltWhere}
 use Rattle.cfa_states.specs.Passes.{Course, within_limit, most_visits, calls_of, instances_from}
-use Rattle.cfa_walk.specs.Steps.{acting_level, instances_level, resolution_at, reached_event, Counts, IsAt}
+use Rattle.cfa_walk.specs.Steps.{acting_level, instances_level, resolution_at, reached_event, Counts, IsAt, stop_of}
 use Rattle.cfa_states.specs.Tellers.{Teller}
 use Rattle.cfa_base.specs.Patterns.{SizeRefusal}
 use Rattle.cfa_states.specs.lemmas.Built.{size_refused, built_where, calls_kept, instances_kept, limited_kept}
@@ -46,7 +49,7 @@ use Rattle.cfa_walk.proofs.LevelLemmas.{patterns_then}
 use Rattle.cfa_states.specs.lemmas.Spared.{spare_then, spare_reached}
 use Rattle.cfa_states.specs.lemmas.Scopes.{scopes_are}
 use Rattle.cfa_states.specs.lemmas.Keeping.{keeps_reached}
-use Rattle.cfa_states.specs.lemmas.Later.{here_by, later_by}
+use Rattle.cfa_states.specs.lemmas.Later.{here_by, later_by, later_same}
 use Rattle.cfa_states.specs.lemmas.Locals.{local_waits}
 
 -- ---- promises that are reached
@@ -226,6 +229,24 @@ module _ (policy : PolicyTree) (p : Numbered) (scopes : InScope) (statuses : Sta
       let past : most_visits < r.visits + visits_in h =
       exceeds st.left r.visits (visits_in h) (subst (λ (x : Resolved). st.left < x.visits) (seen_is s home status h stands) few) stands.1.1.1.0.1.1.1.1.0 in
       lt-leb (r.visits + visits_in h) most_visits past
+
+  -- it wasn't resolved
+  pub not_resolved : (guard : Status) → (guard ≡ No → ⊥) → (error : ResolveErr) (st' : State) (a1 : Activation) (pats pats' : Shown (List (List ℕ))) →
+      (IsErrOf {T = Resolved} (Err error) TooLarge → st.left < (resolution (seen_at policy p scopes statuses a.path)).visits) →
+      SizeRefusal (IsBuiltFor (seen_at policy p scopes statuses a.path)) (too_big_in {X = Resolved} (Err error)) pats pats' → Counts policy p guard st st' a a1 (Err (stop_of error))
+  not_resolved guard set TooLarge st' a1 pats pats' few refusal = uncounted guard st' a1 (few refl)
+  not_resolved guard set (PatternTooBig text) st' a1 pats pats' few refusal = too_big guard set text st' a1 (Some text) pats pats' refl refusal
+  not_resolved guard set NoMemory st' a1 pats pats' few refusal = tt
+
+pub refusal_patterns : (Built : List ℕ → Type 0) (error : ResolveErr) (pats pats' : Shown (List (List ℕ))) →
+    SizeRefusal Built (too_big_in {X = Resolved} (Err error)) pats pats' → PatternsAre (Err (stop_of error)) pats pats'
+refusal_patterns Built TooLarge pats pats' refusal = refusal
+refusal_patterns Built (PatternTooBig text) pats pats' refusal = refusal.1
+refusal_patterns Built NoMemory pats pats' refusal = refusal
+
+-- what the instances of a promise wait for changes nothing that is read of an activation
+pub waiting_later : (st : State) (a : Activation) (waits : Option Wait) → AreLater st st a (record a { waits = waits })
+waiting_later st a waits = record { state = later_same st; here = here_by a (record a { waits = waits }) refl refl refl refl refl refl }
 
 -- what is unsettled was noted from a list that is the same
 pub noted : (st1 st' : State) (us vs : List Unsettled) → us ≡ vs → st' ≡ record st1 { log = logged_blames (filter_map (blame_edit (source_of st1.environment)) us) st1.log } →

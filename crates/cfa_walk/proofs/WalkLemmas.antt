@@ -12,11 +12,11 @@ use Rattle.cfa_served.specs.Served.{bundle_of}
 use Rattle.cfa_tree.specs.Tree.{NamedTree, BlockTree, PolicyTree}
 use Rattle.cfa_states.specs.declared.states.State.{State}
 use Rattle.cfa_states.specs.declared.activations.Activation.{Activation}
-use Rattle.cfa_walk.specs.Steps.{Walk, IsClear, HasQuietlyGone, QuietWalkDone, passes_walk, HasGone, WalkDone, WalkEnds, agent_walk, sequence_walk, bundle_walk, passes_level}
+use Rattle.cfa_walk.specs.Steps.{Walk, IsClear, HasQuietlyGone, QuietWalkDone, passes_walk, HasGone, WalkDone, WalkEnds, agent_walk, sequence_walk, bundle_walk, passes_level, to_state}
 use Rattle.cfa_states.specs.Builds.{BuiltOn}
 use Rattle.cfa_states.specs.History.{History, Event, Begun, within}
 use Rattle.cfa_states.specs.Kept.{Keeps, Stands, IsOf}
-use Rattle.cfa_states.specs.Levels.{GoesTo, IsTooLarge, is_quiet, Faults, StandsAt, LevelDone, done_of}
+use Rattle.cfa_states.specs.Levels.{GoesTo, IsTooLarge, is_quiet, Faults, StandsAt, LevelDone}
 use Rattle.cfa_states.specs.Numbered.{Numbered, name_of, numbered_in, params_of}
 use Rattle.cfa_states.specs.Passes.{then_on, passes, calls_of, all_calls, bind, by_type, in_sequence, type_of_block, run}
 use Rattle.cfa_states.specs.Tellers.{Teller}
@@ -201,7 +201,7 @@ module _ {W X : Type 0} (teller : X → Teller) (agrees : W → X → Type 0) (b
   course_is t = ap (λ ns. then_on (passes_walk s t []) (sequence_walk ns s t)) listed ∙ sym (run_course s t)
 
   -- after the common bundles the sequence
-  pub has_run : (w' : W) (st st' st'' : State) → Keeps s st [] → HasQuietlyGone s.policy passes_walk st st' →
+  has_run : (w' : W) (st st' st'' : State) → Keeps s st [] → HasQuietlyGone s.policy passes_walk st st' →
       WalkDone teller agrees behind s.policy (sequence_walk names) w w' st' st'' (Ok tt) → HasRunTo teller agrees behind s w w' (Ok st'')
   has_run w' st st' st'' keeps first second = λ x agree. (
     (second s x [] agree).0,
@@ -210,7 +210,7 @@ module _ {W X : Type 0} (teller : X → Teller) (agrees : W → X → Type 0) (b
         (second s x k agree).1 refl p.0.1.0 (quietly_behind teller agrees behind (λ v. (0, 0)) s.policy w x (steady x) p.1 stays))),
   )
 
-  pub sequence_stops : (w' : W) (st st' st'' : State) (stop : Stop) → Keeps s st [] → HasQuietlyGone s.policy passes_walk st st' →
+  sequence_stops : (w' : W) (st st' st'' : State) (stop : Stop) → Keeps s st [] → HasQuietlyGone s.policy passes_walk st st' →
       WalkDone teller agrees behind s.policy (sequence_walk names) w w' st' st'' (Err stop) → HasRunTo teller agrees behind s w w' (Err stop)
   sequence_stops w' st st' st'' (Outside object) keeps first second = tt
   sequence_stops w' st st' st'' Memory keeps first second = tt
@@ -226,6 +226,11 @@ module _ {W X : Type 0} (teller : X → Teller) (agrees : W → X → Type 0) (b
         (built_then s text (passes_walk s (teller x) []) (sequence_walk names s (teller x)) _ (first s (teller x) [] (refl, (keeps, first_clear))) (λ k p.
         (second s x k agree).1 refl p.0.1.0 (quietly_behind teller agrees behind (λ v. (0, 0)) s.policy w x (steady x) p.1 stays))),
   )
+
+  pub sequence_ends : (w' : W) (st st' st'' : State) (result : Result (Unit {0}) Stop) → Keeps s st [] → HasQuietlyGone s.policy passes_walk st st' →
+      WalkDone teller agrees behind s.policy (sequence_walk names) w w' st' st'' result → HasRunTo teller agrees behind s w w' (to_state st'' result)
+  sequence_ends w' st st' st'' (Ok done) keeps first second = has_run w' st st' st'' keeps first second
+  sequence_ends w' st st' st'' (Err stop) keeps first second = sequence_stops w' st st' st'' stop keeps first second
 
 -- the common bundles alone stopped it
 module _ {W X : Type 0} (teller : X → Teller) (agrees : W → X → Type 0) (behind : W → X → History → Type 0) (s : Setting) (w : W) where
@@ -245,9 +250,9 @@ module _ {W X : Type 0} (teller : X → Teller) (agrees : W → X → Type 0) (b
   )
 
   -- what is kept of it aside
-  pub run_alone : (w' : W) (result : Result State Stop) → HasRunTo teller agrees behind s w w' result → HasRun teller agrees behind s w w' (done_of result)
-  run_alone w' (Ok st) ran = λ x agree. ((ran x agree).0, λ stays. goes_weaker (run s (teller x)) _ _ (λ k p. p.1) ((ran x agree).1 stays))
-  run_alone w' (Err (Outside object)) ran = tt
-  run_alone w' (Err Memory) ran = tt
-  run_alone w' (Err Visits) ran = ran
-  run_alone w' (Err (Pattern text)) ran = ran
+  pub run_alone : (w' : W) (st : State) (result : Result (Unit {0}) Stop) → HasRunTo teller agrees behind s w w' (to_state st result) → HasRun teller agrees behind s w w' result
+  run_alone w' st (Ok done) ran = λ x agree. ((ran x agree).0, λ stays. goes_weaker (run s (teller x)) _ _ (λ k p. p.1) ((ran x agree).1 stays))
+  run_alone w' st (Err (Outside object)) ran = tt
+  run_alone w' st (Err Memory) ran = tt
+  run_alone w' st (Err Visits) ran = ran
+  run_alone w' st (Err (Pattern text)) ran = ran

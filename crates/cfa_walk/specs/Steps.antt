@@ -1,8 +1,10 @@
 -- Of the code alone: the levels of the passes, by what each is about.
-use Rattle.std.specs.Prelude.{◌≡◌, ℕ, ◌+◌, nat_le, Bool, true, false, All, IsTrue, List, ◌∷◌, length, ⊤, Result, Ok, Err, [], Some, None}
+use Rattle.std.specs.Prelude.{◌≡◌, ℕ, ◌+◌, nat_le, Bool, true, false, All, IsTrue, List, ◌∷◌, length, ⊤, Result, Ok, Err, [], Option, Some, None}
 use Rattle.cfa_base.specs.Shown.{Shown}
 use Rattle.cfa_schema.specs.Laws.{IsCounted}
 use Rattle.cfa_resolve.specs.declared.instances.Resolved.{Resolved}
+use Rattle.cfa_resolve.specs.declared.instances.ResolveErr.{ResolveErr}
+use Rattle.cfa_resolve.specs.declared.instances.ResolveErr.TheVariants.{TooLarge, PatternTooBig, NoMemory}
 use Rattle.cfa_resolve.specs.Resolution.{resolution}
 use Rattle.cfa_states.specs.declared.activations.Activation.{Activation}
 use Rattle.cfa_states.specs.declared.remembering.Found.{Found}
@@ -15,14 +17,15 @@ use Rattle.cfa_outcomes.specs.declared.outcomes.Outcome.{Outcome}
 use Rattle.cfa_resolve.specs.declared.instances.Instance.{Instance}
 use Rattle.cfa_resolve.specs.declared.instances.Work.{Work}
 use Rattle.cfa_resolve.specs.declared.instances.Work.TheVariants.{Acts, Call, Report}
-use Rattle.cfa_tree.specs.Tree.{PolicyTree, BlockTree}
+use Rattle.cfa_tree.specs.Tree.{NamedTree, PolicyTree, BlockTree}
+use Rattle.cfa_vars.specs.declared.scoping.Datum.{Datum}
 use Rattle.cfa_states.specs.declared.states.State.{State}
-use Rattle.cfa_states.specs.History.{History, everywhere, within, Reached, visits_in, locally, local_source}
-use Rattle.cfa_states.specs.Kept.{Keeps, SpareShorter}
+use Rattle.cfa_states.specs.History.{History, Begun, everywhere, within, Reached, visits_in, locally, local_source}
+use Rattle.cfa_states.specs.Kept.{Keeps, SpareShorter, Stands}
 use Rattle.cfa_states.specs.Levels.{Level, QuietLevel, GoesTo, IsTooLarge, EndedAs, StandsAt, Faults, FaultsAre, PatternsAre, done_of, Quietly}
 use Rattle.cfa_states.specs.Numbered.{Numbered, of_type, agent_types, common_types, name_of, numbered_in}
 use Rattle.cfa_states.specs.Builds.{BuiltOn, BuiltWhere}
-use Rattle.cfa_states.specs.Passes.{Course, goes, most_visits, visit, instances_from, acting_reached, reach, promises_from, types_from, passes, calls_of, through_common, commons_from, common_passes, activation, all_calls, in_sequence, sequence_from, raise_lists}
+use Rattle.cfa_states.specs.Passes.{Course, goes, bind, most_visits, visit, instances_from, acting_reached, reach, promises_from, types_from, passes, calls_of, through_common, commons_from, common_passes, activation, all_calls, in_sequence, sequence_from, raise_lists}
 use Rattle.cfa_states.specs.Tellers.{Teller, inner_path, worst_in, outcomes_in}
 use Rattle.cfa_states.specs.Views.{Setting, Home, reached_in_history, shared_names}
 use Rattle.cfa_kinds.specs.declared.kinds.PromiseType.TheVariants.{Vars, Classes}
@@ -34,6 +37,8 @@ use Rattle.cfa_served.specs.Served.{bundle_of}
 use Rattle.cfa_base.specs.Index.{is_listed}
 use Rattle.cfa_states.specs.Waits.{waits_in}
 use Rattle.cfa_states.specs.declared.endings.Ending.{Ending}
+use Rattle.cfa_walk.specs.declared.listing.WalkErr.{WalkErr}
+use Rattle.cfa_walk.specs.declared.listing.WalkErr.TheVariants as refusals
 
 -- ---- levels of a common bundle, where nothing is told
 
@@ -95,10 +100,20 @@ resolution_at s home p h =
 abbrev pub reached_event : Home → Numbered → (guard : Status) → Resolved → History → History
 reached_event home p guard resolved h = Reached home p guard false resolved.visits ∷ h
 
--- the instances among what was found out
-abbrev pub instances_of : Result Found Stop → Result (List Instance) Stop
-instances_of (Ok found) = Ok found.resolved.instances
-instances_of (Err stop) = Err stop
+-- the instances among what was found out, if anything was
+abbrev pub instances_of : Option Found → List Instance
+instances_of None = []
+instances_of (Some found) = found.resolved.instances
+
+abbrev pub found_by : Option Found → Result (Unit {0}) Stop → Result (List Instance) Stop
+found_by kept (Ok done) = Ok (instances_of kept)
+found_by kept (Err stop) = Err stop
+
+-- what stops a run in which a promise isn't resolved
+abbrev pub stop_of : ResolveErr → Stop
+stop_of TooLarge = Visits
+stop_of (PatternTooBig text) = Pattern text
+stop_of NoMemory = Memory
 
 -- the visits of a promise were counted, and these are its instances
 module _ (policy : PolicyTree) (p : Numbered) (guard : Status) where
@@ -116,6 +131,12 @@ module _ (policy : PolicyTree) (p : Numbered) (guard : Status) where
   Counts st st' a a' (Err (Pattern text)) =
       (s : Setting) (home : Home) (status : Status) (h : History) → StandsAt policy s home status st a h →
       BuiltWhere s guard h home p text
+
+-- an activation of a called bundle has begun, and its parameters are set
+abbrev pub BeginsCall : (path : List ℕ) → (params : List NamedTree) → (given : List Datum) → (st st' : State) → Activation → Type 0
+BeginsCall path params given st st' a =
+    (s : Setting) (h : History) → Keeps s st h → is_listed (shared_names s.policy) path ≡ false →
+    Stands s st' a (bind path params given (Begun path given ∷ h))
 
 -- a call's bundle was gone through
 module _ {W X : Type 0} (teller : X → Teller) (agrees : W → X → Type 0) (behind : W → X → History → Type 0) (policy : PolicyTree) where
@@ -253,6 +274,18 @@ module _ {W X : Type 0} (teller : X → Teller) (agrees : W → X → Type 0) (b
   WalkEnds walk w w' st st' pats pats' result =
       WalkDone teller agrees behind policy walk w w' st st' result
       × (FaultsAre (faults w) (faults w') result × PatternsAre result pats pats')
+
+-- a state, where a run to it was made
+abbrev pub to_state : State → Result (Unit {0}) Stop → Result State Stop
+to_state st (Ok done) = Ok st
+to_state st (Err stop) = Err stop
+
+-- why a policy was not walked whose run was stopped
+abbrev pub refusal_of : Stop → WalkErr
+refusal_of (Outside object) = refusals.NoMemory
+refusal_of Memory = refusals.NoMemory
+refusal_of Visits = refusals.TooLarge
+refusal_of (Pattern text) = refusals.PatternTooBig text
 
 -- an activation of a bundle
 abbrev pub agent_walk : (name : List ℕ) → BlockTree → Walk

@@ -5,13 +5,15 @@ ghost use Rattle.cfa_resolve.specs.Resolution.{is_acting, IsBuiltFor};
 ghost use Rattle.cfa_resolve.specs.Viewed.{too_big_in};
 ghost use Rattle.cfa_schema.specs.Laws.{IsCounted};
 ghost use Rattle.cfa_schema.specs.Seen.{tree_of};
-ghost use Rattle.cfa_states.specs.Kept.{AreLater, ResolutionHolds, RowHolds, reached_now, resolution_now, seen_numbered};
-ghost use Rattle.cfa_states.specs.Levels.{PatternsAre, done_of};
-ghost use Rattle.cfa_walk.specs.Steps.{IsAt, Counts, instances_of};
+ghost use Rattle.cfa_states.specs.Kept.{AreLater, RowHolds, reached_now, resolution_now, seen_numbered};
+ghost use Rattle.cfa_states.specs.Levels.{PatternsAre};
+ghost use Rattle.cfa_walk.specs.Steps.{IsAt, Counts, found_by, instances_of, stop_of};
 
 use cfa_base::Patterns;
 use cfa_output::Stop;
-use cfa_resolve::{FoundPromise, ResolveErr, Resolved, View, instances_are_named, resolve_promise};
+use cfa_resolve::{
+    FoundPromise, Instance, ResolveErr, Resolved, View, instances_are_named, resolve_promise,
+};
 use cfa_schema::Checked;
 use cfa_states::{Activation, Found, Numbered, State, moment_of, scopes_of, still_found, waits_of};
 use cfa_statuses::Status;
@@ -43,6 +45,7 @@ fn resolve_now<P: Patterns>(
 {
     if let Some(resolved) = still_found(kept, state, activation) {
         if resolved.visits > state.left {
+            drop(resolved);
             return Err(ResolveErr::TooLarge);
         }
         return Ok(resolved);
@@ -60,45 +63,72 @@ fn resolve_now<P: Patterns>(
     resolve_promise(alloc, checked, &found, &view, state.left, pats)
 }
 
-/// What a promise resolves to that is reached with this status of its guard; its visits are counted. It isn't resolved again
-/// where it was before and nothing has changed since.
+// What stops a run in which a promise isn't resolved.
+fn stop_of(error: ResolveErr) -> Stop
+    ensures { result ≡ stop_of error }
+{
+    match error {
+        ResolveErr::TooLarge => Stop::Visits,
+        ResolveErr::PatternTooBig(text) => Stop::Pattern(text),
+        ResolveErr::NoMemory => Stop::Memory,
+    }
+}
+
+/// Finds out what a promise resolves to that is reached with this status of its guard, and counts its visits. It isn't
+/// resolved again where it was before and nothing has changed since.
 pub(crate) fn count_instances<P: Patterns>(
     alloc: Global,
     checked: &Checked,
     promise: &Numbered<'_>,
     guard: Status,
-    kept: Option<Found>,
+    kept: &mut Option<Found>,
     state: &mut State,
     activation: &mut Activation,
     pats: &mut P,
-) -> Result<Found, Stop>
+) -> Result<(), Stop>
     requires acting { IsTrue (is_acting promise.now.promise_type) }
     requires id { IsCounted promise.now.id }
     requires set { guard ≢ Status.No }
-    requires kept { RowHolds (tree_of checked.now) (seen_numbered promise.now) kept
+    requires kept { RowHolds (tree_of checked.now) (seen_numbered promise.now) kept.old
         state.old activation.old }
     ensures counted { Counts (tree_of checked.now) (seen_numbered promise.now) guard
-        state.old state.new activation.old activation.new (instances_of result) }
-    ensures at { IfOk result (λ found.
-        All (IsAt activation.old.path) found.resolved.instances) }
+        state.old state.new activation.old activation.new (found_by kept.new result) }
+    ensures at { OnOk result (All (IsAt activation.old.path) (instances_of kept.new)) }
     ensures path { OnOk result (activation.new.path ≡ activation.old.path) }
     ensures later { OnOk result (AreLater state.old state.new activation.old activation.new) }
-    ensures holds { IfOk result (λ found. ResolutionHolds (tree_of checked.now)
-        (seen_numbered promise.now) found state.new activation.new) }
-    ensures patterns { PatternsAre (done_of result) (P.shown pats.old) (P.shown pats.new) }
+    ensures holds { OnOk result (RowHolds (tree_of checked.now) (seen_numbered promise.now)
+        kept.new state.new activation.new) }
+    ensures patterns { PatternsAre result (P.shown pats.old) (P.shown pats.new) }
 {
-    let waits = waits_of(alloc, promise.promise, guard, state, activation)?;
+    activation.waits = waits_of(alloc, promise.promise, guard, state, activation)?;
     let moment = moment_of(state, activation);
     instances_are_named();
-    match resolve_now(alloc, checked, promise, kept, state, activation, pats) {
+    match resolve_now(
+        alloc,
+        checked,
+        promise,
+        kept.take(),
+        state,
+        activation,
+        pats,
+    ) {
         Ok(resolved) => {
             state.left -= resolved.visits;
-            state.log_edits(alloc, resolved.unsettled.as_slice())?;
-            activation.waits = waits;
-            Ok(Found { moment, resolved })
+            let noted = state.log_edits(alloc, resolved.unsettled.as_slice());
+            *kept = Some(Found { moment, resolved });
+            noted?;
+            Ok(())
         }
-        Err(ResolveErr::TooLarge) => Err(Stop::Visits),
-        Err(ResolveErr::PatternTooBig(text)) => Err(Stop::Pattern(text)),
-        Err(ResolveErr::NoMemory) => Err(Stop::Memory),
+        Err(error) => Err(stop_of(error)),
+    }
+}
+
+/// The instances of what was found out of a promise, if anything was.
+pub(crate) fn instances_of(kept: &Option<Found>) -> &[Instance]
+    ensures { result.now ≡ instances_of kept.now }
+{
+    match kept {
+        None => &[],
+        Some(found) => found.resolved.instances.as_slice(),
     }
 }

@@ -1,7 +1,8 @@
 // What follows when an instance has ended.
 ghost use Rattle.std.specs.Prelude.{◌≡◌, [], ◌∷◌, IfOk, OnOk};
-ghost use Rattle.cfa_states.specs.History.{History};
-ghost use Rattle.cfa_states.specs.Kept.{Keeps, IsLater};
+ghost use Rattle.cfa_states.specs.History.{History, Told};
+ghost use Rattle.cfa_states.specs.Kept.{Keeps, KeepsLocally, IsSame, IsLater, AreLater};
+ghost use Rattle.cfa_states.specs.Tellers.{outcomes_in};
 ghost use Rattle.cfa_resolve.specs.declared.instances.Instance.{Instance as AnyInstance};
 ghost use Rattle.cfa_walk.specs.Steps.{raise_ending};
 ghost use Rattle.cfa_states.specs.Passes.{classes_for, in_every_list, raise_each, raised_to, visit_status};
@@ -10,7 +11,7 @@ ghost use Rattle.cfa_states.specs.Views.{Setting};
 use cfa_base::{Name, NameIndex, Names, NoMemory};
 use cfa_outcomes::Outcome;
 use cfa_resolve::{Instance, copy_id};
-use cfa_states::{Ending, State};
+use cfa_states::{Activation, Ending, State};
 use cfa_statuses::Status;
 use std::alloc::Global;
 
@@ -122,18 +123,24 @@ fn raise_both(
     )
 }
 
-/// Raises the classes of an instance by how it ended or may end, everywhere.
-pub(crate) fn raise_ending(
+/// Ends a visit of an instance: notes in its activation how it ended or may end, and raises the classes for that, everywhere.
+pub(crate) fn end_visit(
     alloc: Global,
     instance: &Instance,
     ending: Ending,
     status: Status,
     state: &mut State,
+    activation: &mut Activation,
 ) -> Result<(), NoMemory>
+    ensures same { IsSame activation.old activation.new }
+    ensures notes { (s : Setting) (h : History) (i : AnyInstance) → i.path ≡ activation.old.path
+        → KeepsLocally s activation.old h
+        → KeepsLocally s activation.new (Told i (outcomes_in ending) ∷ h) }
     ensures keeps { OnOk result ((s : Setting) (h : History) → Keeps s state.old h
         → Keeps s state.new (raise_ending instance.now ending status h)) }
-    ensures later { OnOk result (IsLater state.old state.new) }
+    ensures later { OnOk result (AreLater state.old state.new activation.old activation.new) }
 {
+    activation.note(ending);
     match ending {
         Ending::One(outcome) => raise_outcome(alloc, instance, outcome, status, state),
         Ending::KeptOrRepaired => raise_both(alloc, instance, status, state),

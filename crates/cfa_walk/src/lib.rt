@@ -7,6 +7,7 @@ mod ending;
 mod facts;
 mod listing;
 mod passing;
+mod remembered;
 mod scenes;
 mod tellers;
 mod visiting;

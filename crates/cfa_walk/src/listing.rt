@@ -1,5 +1,11 @@
 // The walks of a policy: a run in which nothing is done, and what it lists.
 ghost use Rattle.std.specs.Prelude.{◌≡◌, IfOk, IfErr};
+ghost use Rattle.cfa_states.specs.History.{History};
+ghost use Rattle.cfa_states.specs.Kept.{KeepsLog};
+ghost use Rattle.cfa_states.specs.Views.{Setting};
+ghost use Rattle.cfa_states.specs.Walks.{walked};
+ghost use Rattle.cfa_walk.specs.declared.listing.WalkErr.TheVariants as errors;
+ghost use Rattle.cfa_walk.specs.Steps.{refusal_of};
 ghost use Rattle.cfa_walk.specs.Listed.{HasWalked, IsRefused, WalkPatterns};
 ghost use Rattle.cfa_walk.specs.Settings.{setting_of};
 ghost use Rattle.cfa_walk.specs.Tellings.{ending_of};
@@ -11,7 +17,7 @@ use cfa_outcomes::Outcome;
 use cfa_output::Stop;
 use cfa_resolve::{Instance, Work};
 use cfa_schema::Checked;
-use cfa_states::{Ending, Walk, walk_of};
+use cfa_states::{Ending, State, Walk, walk_of};
 use cfa_statuses::Status;
 use std::alloc::Global;
 use thiserror::Error;
@@ -100,6 +106,31 @@ impl Teller<(), ()> for Telling {
     }
 }
 
+// Why a policy was not walked whose run was stopped.
+fn refusal_of(stop: Stop) -> WalkErr
+    ensures { result ≡ refusal_of stop }
+{
+    match stop {
+        Stop::Visits => WalkErr::TooLarge,
+        Stop::Pattern(text) => WalkErr::PatternTooBig(text),
+        Stop::Memory => WalkErr::NoMemory,
+        // No object of the outside was handed in.
+        Stop::Outside(_) => WalkErr::NoMemory,
+    }
+}
+
+// The walk that a state has logged.
+fn take_walk(alloc: Global, state: &mut State) -> Result<Walk, WalkErr>
+    ensures walked { IfOk result (λ walk. (s : Setting) (h : History)
+        → KeepsLog s state.old.log h → walk ≡ walked s h) }
+    ensures refused { IfErr result (λ refusal. refusal ≡ errors.NoMemory) }
+{
+    match state.log.take() {
+        Some(log) => Ok(walk_of(alloc, log)?),
+        None => Err(WalkErr::NoMemory),
+    }
+}
+
 /// Walks a policy in a context: goes the way of a run without locks in which each instance ends as is told, touches nothing,
 /// and lists what was visited.
 ///
@@ -115,28 +146,25 @@ pub fn walk<P: Patterns>(
     ensures refused { IfErr result (IsRefused (setting_of checked.now context.now) telling) }
     ensures patterns { WalkPatterns result (P.shown pats.old) (P.shown pats.new) }
 {
+    let mut state = State::new(alloc, checked, &context.classes, true)?;
     let mut teller = telling;
     match make_run(
         alloc,
         checked,
-        context,
-        true,
+        &mut state,
         &mut teller,
         &mut (),
         &mut (),
         pats,
     ) {
-        Ok(state) => {
-            let log = state.log;
-            match log {
-                Some(log) => Ok(walk_of(alloc, log)?),
-                None => Err(WalkErr::NoMemory),
-            }
+        Ok(()) => {
+            let walked = take_walk(alloc, &mut state);
+            drop(state);
+            walked
         }
-        Err(Stop::Visits) => Err(WalkErr::TooLarge),
-        Err(Stop::Pattern(text)) => Err(WalkErr::PatternTooBig(text)),
-        Err(Stop::Memory) => Err(WalkErr::NoMemory),
-        // No object of the outside was handed in.
-        Err(Stop::Outside(_)) => Err(WalkErr::NoMemory),
+        Err(stop) => {
+            drop(state);
+            Err(refusal_of(stop))
+        }
     }
 }

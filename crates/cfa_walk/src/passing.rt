@@ -7,7 +7,7 @@ ghost use Rattle.cfa_states.specs.Kept.{AreLater, GuardsRepeat, RowHolds, RowsHo
 ghost use Rattle.cfa_states.specs.Levels.{Ends, HasPlainNames};
 ghost use Rattle.cfa_walk.specs.Steps.{AreCounted, acting_level, reach_level, type_level, pass_level, passes_level};
 
-use crate::counting::count_instances;
+use crate::counting::{count_instances, instances_of};
 use crate::scenes::Scene;
 use crate::tellers::Teller;
 use crate::visiting::visit_each;
@@ -15,8 +15,7 @@ use cfa_base::Patterns;
 use cfa_kinds::PromiseType;
 use cfa_output::Stop;
 use cfa_states::{
-    Activation, Found, Numbered, State, empty_rows, guard_known, pass_over, reach_classes,
-    reach_vars,
+    Activation, Found, Numbered, State, guard_known, pass_over, reach_classes, reach_vars,
 };
 use cfa_statuses::Status;
 
@@ -50,16 +49,13 @@ fn reach_instances<S, O, T: Teller<S, O>, P: Patterns>(
         kept.new state.new activation.new) }
 {
     let (alloc, checked) = (scene.alloc, scene.checked);
-    let before = kept.take();
-    let found = count_instances(
-        alloc, checked, promise, guard, before, state, activation, pats,
+    count_instances(
+        alloc, checked, promise, guard, kept, state, activation, pats,
     )?;
-    let listed = found.resolved.instances.as_slice();
+    let listed = instances_of(kept);
     visit_each(
         scene, listed, guard, state, activation, teller, site, out, pats,
-    )?;
-    *kept = Some(found);
-    Ok(())
+    )
 }
 
 // Reaches a promise with this status of its guard.
@@ -202,6 +198,7 @@ fn pass<S, O, T: Teller<S, O>, P: Patterns>(
 pub(crate) fn go_through<S, O, T: Teller<S, O>, P: Patterns>(
     scene: &Scene<'_>,
     promises: &[Numbered<'_>],
+    rows: &mut Vec<Option<Found>>,
     state: &mut State,
     activation: &mut Activation,
     teller: &mut T,
@@ -212,14 +209,14 @@ pub(crate) fn go_through<S, O, T: Teller<S, O>, P: Patterns>(
     requires names { HasPlainNames (tree_of scene.now.checked.now) }
     requires ids { AreCounted (map seen_numbered promises.now) }
     requires guards { GuardsRepeat promises.now }
+    requires rows { RowsHold (tree_of scene.now.checked.now) (map seen_numbered promises.now)
+        rows.old.items state.old activation.old }
     ensures ends { Ends T.teller T.agrees T.behind T.faults (tree_of scene.now.checked.now)
         (passes_level scene.now.depth (map seen_numbered promises.now))
         (teller.old, (site.old, out.old)) (teller.new, (site.new, out.new)) state.old state.new
         activation.old activation.new (P.shown pats.old) (P.shown pats.new) result }
     ensures later { OnOk result (AreLater state.old state.new activation.old activation.new) }
 {
-    let mut found = empty_rows(scene.alloc, promises)?;
-    let rows = &mut found;
     pass(
         scene, promises, rows, state, activation, teller, site, out, pats,
     )?;

@@ -1,23 +1,59 @@
 // Visits of instances, and the calls in them.
-ghost use Rattle.std.specs.Prelude.{◌≡◌, All, OnOk};
+ghost use Rattle.std.specs.Prelude.{◌≡◌, ◌≢◌, ◌∷◌, All, IfOk, OnOk, map};
+ghost use Rattle.cfa_outcomes.specs.Environments.{mark_of};
 ghost use Rattle.cfa_schema.specs.Laws.{IsCounted};
 ghost use Rattle.cfa_schema.specs.Seen.{tree_of};
-ghost use Rattle.cfa_states.specs.Kept.{AreLater, IsLater};
+ghost use Rattle.cfa_tree.specs.Plain.{plain_named};
+ghost use Rattle.cfa_states.specs.History.{History, Listed};
+ghost use Rattle.cfa_states.specs.Kept.{AreLater, IsLater, IsOf, Keeps};
 ghost use Rattle.cfa_states.specs.Levels.{Ends, HasPlainNames};
-ghost use Rattle.cfa_walk.specs.Steps.{IsAt, CallEnds, visit_level, instances_level};
+ghost use Rattle.cfa_states.specs.Passes.{visit_status};
+ghost use Rattle.cfa_states.specs.Tellers.{inner_path};
+ghost use Rattle.cfa_states.specs.Views.{Setting};
+ghost use Rattle.cfa_states.specs.Waits.{waits_in};
+ghost use Rattle.cfa_walk.specs.Steps.{IsAt, BeginsCall, CallEnds, visit_level, instances_level};
 
-use crate::ending::{raise_ending, visit_status};
+use crate::ending::{end_visit, visit_status};
 use crate::facts::ids_are_counted;
 use crate::passing::go_through;
+use crate::remembered::remembered_in;
 use crate::scenes::Scene;
 use crate::tellers::Teller;
-use cfa_base::{Name, Parts, Patterns};
+use cfa_base::{Name, NoMemory, Parts, Patterns};
 use cfa_outcomes::Outcome;
 use cfa_output::Stop;
 use cfa_resolve::{Instance, Work};
-use cfa_states::{Activation, State, bind, inner_path, numbered_in};
+use cfa_states::{Activation, State, bind, inner_path};
 use cfa_statuses::Status;
+use cfa_tree::Named;
 use cfa_vars::Datum;
+use std::alloc::Global;
+
+// Begins an activation of the bundle of a call, with its parameters set.
+fn begin_call(
+    alloc: Global,
+    instance: &Instance,
+    name: &Name,
+    given: &Parts<Datum>,
+    status: Status,
+    params: &[Named],
+    state: &mut State,
+) -> Result<Activation, NoMemory>
+    ensures is_of { IfOk result (IsOf (inner_path instance.now) name.now status) }
+    ensures stands { IfOk result (BeginsCall (inner_path instance.now)
+        (map plain_named params.now) given.now state.old state.new) }
+    ensures later { OnOk result (IsLater state.old state.new) }
+{
+    let path = inner_path(alloc, instance)?;
+    let mut activation = Activation::of_call(alloc, path, name, status)?;
+    match bind(alloc, params, given.as_slice(), state, &mut activation) {
+        Ok(()) => Ok(activation),
+        Err(error) => {
+            drop(activation);
+            Err(error)
+        }
+    }
+}
 
 // Goes through the bundle of a call, and answers its worst outcome.
 #[cycle(passes)]
@@ -42,38 +78,48 @@ fn activate<S, O, T: Teller<S, O>, P: Patterns>(
         (P.shown pats.old) (P.shown pats.new) result }
     ensures later { OnOk result (IsLater state.old state.new) }
 {
-    let path = inner_path(scene.alloc, instance)?;
-    let mut activation = Activation::of_call(scene.alloc, path, name, status)?;
     if scene.depth == 0 {
         return Ok(Outcome::Kept);
     }
-    let inner = Scene {
-        alloc: scene.alloc,
-        checked: scene.checked,
-        depth: scene.depth - 1,
-    };
-    if let Some(bundle) = scene.checked.bundle(name.as_str()) {
-        bind(
-            scene.alloc,
-            bundle.params.as_slice(),
-            given.as_slice(),
-            state,
-            &mut activation,
-        )?;
-        let promises = numbered_in(scene.alloc, bundle)?;
-        ids_are_counted(scene.checked);
-        go_through(
-            &inner,
-            &promises,
-            state,
-            &mut activation,
-            teller,
-            site,
-            out,
-            pats,
-        )?;
+    match scene.checked.bundle(name.as_str()) {
+        None => Ok(Outcome::Kept),
+        Some(bundle) => {
+            ids_are_counted(scene.checked);
+            let inner = Scene {
+                alloc: scene.alloc,
+                checked: scene.checked,
+                depth: scene.depth - 1,
+            };
+            let mut made = remembered_in(scene.alloc, bundle)?;
+            let params = bundle.params.as_slice();
+            let mut activation = begin_call(
+                scene.alloc,
+                instance,
+                name,
+                given,
+                status,
+                params,
+                state,
+            )?;
+            let remembered = &mut made;
+            let ended = go_through(
+                &inner,
+                &remembered.promises,
+                &mut remembered.rows,
+                state,
+                &mut activation,
+                teller,
+                site,
+                out,
+                pats,
+            );
+            let worst = activation.worst;
+            drop(activation);
+            drop(made);
+            ended?;
+            Ok(worst)
+        }
     }
-    Ok(activation.worst)
 }
 
 // Goes through the bundle of an instance that calls one; of another nothing is known.
@@ -107,6 +153,31 @@ fn call<S, O, T: Teller<S, O>, P: Patterns>(
     }
 }
 
+// Begins a visit of an instance: answers its status, and lists it with that unless it is No.
+fn begin_visit(
+    alloc: Global,
+    instance: &Instance,
+    guard: Status,
+    state: &mut State,
+    activation: &Activation,
+) -> Result<Status, NoMemory>
+    ensures status { IfOk result (λ status. status ≡ visit_status guard activation.now.status
+        (mark_of state.old.environment instance.now.path instance.now.text)) }
+    ensures unlisted { IfOk result (λ status. status ≡ Status.No → state.new ≡ state.old) }
+    ensures listed { IfOk result (λ status. status ≢ Status.No → (s : Setting) (h : History)
+        → activation.now.waits ≡ waits_in s h instance.now.path → Keeps s state.old h
+        → Keeps s state.new (Listed instance.now status ∷ h)) }
+    ensures later { OnOk result (IsLater state.old state.new) }
+{
+    let mark = state.environment.done(&instance.path, &instance.text);
+    let status = visit_status(guard, activation.status, mark);
+    if status == Status::No {
+        return Ok(status);
+    }
+    state.list(alloc, instance, status, mark, activation.waits.as_ref())?;
+    Ok(status)
+}
+
 // Visits an instance, unless its guard, its activation or an earlier visit leaves No.
 #[cycle(passes)]
 #[tactic(none)]
@@ -130,20 +201,16 @@ fn visit<S, O, T: Teller<S, O>, P: Patterns>(
         activation.old activation.new (P.shown pats.old) (P.shown pats.new) result }
     ensures later { OnOk result (AreLater state.old state.new activation.old activation.new) }
 {
-    let mark = state.environment.done(&instance.path, &instance.text);
-    let status = visit_status(guard, activation.status, mark);
+    let status = begin_visit(scene.alloc, instance, guard, state, activation)?;
     if status == Status::No {
         return Ok(());
     }
-    let waits = activation.waits.as_ref();
-    state.list(scene.alloc, instance, status, mark, waits)?;
     if teller.visit(scene.alloc, instance, status, site, out)? {
         return Ok(());
     }
     let called = call(scene, instance, status, state, teller, site, out, pats)?;
     let ending = teller.tell(scene.alloc, instance, called, site, out)?;
-    activation.note(ending);
-    raise_ending(scene.alloc, instance, ending, status, state)?;
+    end_visit(scene.alloc, instance, ending, status, state, activation)?;
     Ok(())
 }
 

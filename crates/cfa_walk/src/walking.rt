@@ -3,14 +3,16 @@ ghost use Rattle.std.specs.Prelude.{◌≡◌, [], ◌∷◌, ℕ, All, IsTrue, 
 ghost use Rattle.cfa_schema.specs.Seen.{tree_of};
 ghost use Rattle.cfa_served.specs.Served.{bundle_of};
 ghost use Rattle.cfa_tree.specs.Tree.{PolicyTree};
-ghost use Rattle.cfa_walk.specs.Steps.{is_in_common, seen_bundle, IsShared, QuietWalkDone, WalkEnds, common_walk, commons_walk, passes_walk, agent_walk, bundle_walk, sequence_walk, common_type_level};
-ghost use Rattle.cfa_states.specs.Levels.{FaultsAre, PatternsAre, QuietDone, done_of};
-ghost use Rattle.cfa_states.specs.Kept.{seen_numbered};
+ghost use Rattle.cfa_walk.specs.Steps.{is_in_common, seen_bundle, IsShared, QuietWalkDone, WalkEnds, common_walk, commons_walk, passes_walk, agent_walk, bundle_walk, sequence_walk, common_level, common_type_level, to_state};
+ghost use Rattle.cfa_walk.specs.declared.contexts.Context.{Context as AnyContext};
+ghost use Rattle.cfa_states.specs.Levels.{FaultsAre, PatternsAre, QuietDone};
+ghost use Rattle.cfa_states.specs.Kept.{Keeps, seen_numbered};
 ghost use Rattle.cfa_walk.specs.Settings.{setting_of};
 ghost use Rattle.cfa_walk.specs.Walked.{HasRun, HasRunTo};
 
 use crate::facts::{ids_are_counted, names_are_plain};
 use crate::passing::go_through;
+use crate::remembered::remembered_in;
 use crate::scenes::Scene;
 use crate::{Context, Teller};
 use cfa_base::{Name, Patterns};
@@ -73,7 +75,31 @@ fn reach_common_type<P: Patterns>(
     Ok(())
 }
 
-// Goes through a common bundle: its vars, and then its classes.
+// Reaches the promises of a common bundle in an activation of it: its vars, and then its classes.
+fn reach_common_types<P: Patterns>(
+    alloc: Global,
+    promises: &[Numbered<'_>],
+    state: &mut State,
+    activation: &mut Activation,
+    pats: &mut P,
+) -> Result<(), Stop>
+    ensures done { (policy : PolicyTree) (depth : ℕ) → QuietDone policy true
+        (common_level depth (map seen_numbered promises.now))
+        state.old state.new activation.old activation.new result }
+    ensures patterns { PatternsAre result (P.shown pats.old) (P.shown pats.new) }
+{
+    reach_common_type(alloc, promises, PromiseType::Vars, state, activation, pats)?;
+    reach_common_type(
+        alloc,
+        promises,
+        PromiseType::Classes,
+        state,
+        activation,
+        pats,
+    )
+}
+
+// Goes through a common bundle.
 fn through_common<P: Patterns>(
     alloc: Global,
     bundle: &Bundle,
@@ -84,21 +110,13 @@ fn through_common<P: Patterns>(
         → QuietWalkDone policy (common_walk (seen_bundle bundle.now)) state.old state.new result }
     ensures patterns { PatternsAre result (P.shown pats.old) (P.shown pats.new) }
 {
+    let promises = numbered_in(alloc, bundle)?;
     match Activation::of_common(alloc, state, &bundle.name.name)? {
         None => Ok(()),
-        Some(mut made) => {
-            let numbered = numbered_in(alloc, bundle)?;
-            let promises = numbered.as_slice();
-            let activation = &mut made;
-            reach_common_type(alloc, promises, PromiseType::Vars, state, activation, pats)?;
-            reach_common_type(
-                alloc,
-                promises,
-                PromiseType::Classes,
-                state,
-                activation,
-                pats,
-            )
+        Some(mut activation) => {
+            let ended = reach_common_types(alloc, &promises, state, &mut activation, pats);
+            drop(activation);
+            ended
         }
     }
 }
@@ -160,14 +178,26 @@ fn through_bundle<S, O, T: Teller<S, O>, P: Patterns>(
         (teller.old, (site.old, out.old)) (teller.new, (site.new, out.new))
         state.old state.new (P.shown pats.old) (P.shown pats.new) result }
 {
+    let mut made = remembered_in(scene.alloc, bundle)?;
     match Activation::of_sequence(scene.alloc, state, name)? {
         None => Ok(()),
-        Some(mut made) => {
-            let numbered = numbered_in(scene.alloc, bundle)?;
+        Some(mut activation) => {
             names_are_plain(scene.checked);
             ids_are_counted(scene.checked);
-            let promises = numbered.as_slice();
-            go_through(scene, promises, state, &mut made, teller, site, out, pats)
+            let remembered = &mut made;
+            let ended = go_through(
+                scene,
+                &remembered.promises,
+                &mut remembered.rows,
+                state,
+                &mut activation,
+                teller,
+                site,
+                out,
+                pats,
+            );
+            drop(activation);
+            ended
         }
     }
 }
@@ -223,26 +253,25 @@ fn through_sequence<S, O, T: Teller<S, O>, P: Patterns>(
     Ok(())
 }
 
-/// Makes the history of a run of a policy in a context, with a log of what it lists where one is asked for, and answers what is
-/// kept of it.
+/// Makes the history of a run of a policy, behind the state in which nothing has happened.
 pub(crate) fn make_run<S, O, T: Teller<S, O>, P: Patterns>(
     alloc: Global,
     checked: &Checked,
-    context: &Context,
-    is_logged: bool,
+    state: &mut State,
     teller: &mut T,
     site: &mut S,
     out: &mut O,
     pats: &mut P,
-) -> Result<State, Stop>
-    ensures ran { HasRunTo T.teller T.agrees T.behind (setting_of checked.now context.now)
-        (teller.old, (site.old, out.old)) (teller.new, (site.new, out.new)) result }
+) -> Result<(), Stop>
+    ensures ran { (context : AnyContext) → Keeps (setting_of checked.now context) state.old []
+        → HasRunTo T.teller T.agrees T.behind (setting_of checked.now context)
+        (teller.old, (site.old, out.old)) (teller.new, (site.new, out.new))
+        (to_state state.new result) }
     ensures faults { FaultsAre (T.faults (teller.old, (site.old, out.old)))
-        (T.faults (teller.new, (site.new, out.new))) (done_of result) }
-    ensures patterns { PatternsAre (done_of result) (P.shown pats.old) (P.shown pats.new) }
+        (T.faults (teller.new, (site.new, out.new))) result }
+    ensures patterns { PatternsAre result (P.shown pats.old) (P.shown pats.new) }
 {
-    let mut state = State::new(alloc, checked, &context.classes, is_logged)?;
-    through_commons(alloc, checked, &mut state, pats)?;
+    through_commons(alloc, checked, state, pats)?;
     let depth = checked.policy().blocks.as_slice().len();
     let scene = Scene {
         alloc,
@@ -250,9 +279,7 @@ pub(crate) fn make_run<S, O, T: Teller<S, O>, P: Patterns>(
         depth,
     };
     let names = checked.sequence(alloc)?;
-    let names = names.as_slice();
-    through_sequence(&scene, names, &mut state, teller, site, out, pats)?;
-    Ok(state)
+    through_sequence(&scene, names.as_slice(), state, teller, site, out, pats)
 }
 
 /// Makes the history of a run of a policy in a context, under who tells how its instances end: the common bundles three
@@ -275,8 +302,8 @@ pub fn run<S, O, T: Teller<S, O>, P: Patterns>(
         (T.faults (teller.new, (site.new, out.new))) result }
     ensures patterns { PatternsAre result (P.shown pats.old) (P.shown pats.new) }
 {
-    match make_run(alloc, checked, context, false, teller, site, out, pats) {
-        Ok(_) => Ok(()),
-        Err(stop) => Err(stop),
-    }
+    let mut state = State::new(alloc, checked, &context.classes, false)?;
+    let ended = make_run(alloc, checked, &mut state, teller, site, out, pats);
+    drop(state);
+    ended
 }

@@ -6,59 +6,47 @@ use Rattle.cfa_statuses.specs.declared.levels.Status.TheVariants.{No}
 use Rattle.cfa_kinds.specs.declared.kinds.PromiseType.{PromiseType}
 use Rattle.cfa_kinds.specs.declared.kinds.PromiseType.TheVariants.{Vars}
 use Rattle.cfa_schema.specs.Laws.{IsCounted}
+use Rattle.cfa_outcomes.specs.Environments.{mark_of}
 use Rattle.cfa_served.specs.Served.{bundle_of}
-use Rattle.cfa_tree.specs.Plain.{plain_named}
-use Rattle.cfa_vars.specs.declared.scoping.Datum.{Datum}
-use Rattle.cfa_walk.specs.Steps.{seen_bundle, IsAt, AreCounted, CallEnds, visit_level, instances_level, acting_level, type_level, types_level, pass_level, passes_level}
-use Rattle.cfa_states.specs.History.{History}
-use Rattle.cfa_states.specs.Kept.{Stands, IsOf, GuardsRepeat, RowHolds, seen_numbered}
-use Rattle.cfa_states.specs.Passes.{bind}
-use Rattle.cfa_states.specs.Tellers.{inner_path}
-use Rattle.cfa_states.specs.Views.{Setting}
+use Rattle.cfa_walk.specs.Steps.{seen_bundle, instances_of, IsAt, AreCounted, BeginsCall, CallEnds, visit_level, instances_level, acting_level, type_level, types_level, pass_level, passes_level}
+use Rattle.cfa_states.specs.Kept.{GuardsRepeat, RowHolds, RowsHold, seen_numbered}
 use Rattle.cfa_walk.proofs.ServedLemmas.{all_held, found_name}
-use Rattle.cfa_walk.proofs.+passes.Goals.{passing::reach_type-then-eq+in_ok-reach, passing::reach_type-else-eq, visiting::activate-in-Some+in_ok-bind+in_ok-promises+in_ok-go_through, visiting::activate-in_default}
+use Rattle.cfa_walk.proofs.+passes.Goals.{passing::reach_type-then-eq+in_ok-reach, passing::reach_type-else-eq}
 use Rattle.cfa_resolve.specs.declared.instances.Instance.{Instance}
 use Rattle.cfa_resolve.specs.Resolution.{is_acting}
 use Rattle.cfa_schema.specs.Seen.{tree_of}
 use Rattle.cfa_states.specs.declared.numbered.Numbered.{Numbered as Held}
 use Rattle.cfa_states.specs.declared.remembering.Found.{Found}
+use Rattle.cfa_states.specs.declared.states.State.{State}
 use Rattle.cfa_output.specs.declared.ends.Stop.TheVariants.{Memory}
 use Rattle.cfa_states.specs.Levels.{Ends, HasVisited}
 use Rattle.cfa_states.specs.Numbered.{Numbered, agent_types, numbered_in, params_of}
+use Rattle.cfa_states.specs.Tellers.{inner_path}
+use Rattle.cfa_tree.specs.Plain.{plain_named}
+use Rattle.cfa_tree.specs.Tree.{NamedTree}
 use Rattle.cfa_base.specs.lemmas.Firsts.{one_taken}
 use Rattle.cfa_walk.proofs.CommonLemmas.{in_parts, of_item, is_same_type, is_other_type, types_agree, types_differ}
 use Rattle.cfa_states.specs.lemmas.Statuses.{statuses_agree, statuses_differ}
 use Rattle.cfa_states.specs.lemmas.Later.{are_same, are_then, later_same, later_then, state_ok, with_state}
-use Rattle.cfa_walk.proofs.RememberedLemmas.{row_later, then_are, before_next, guard_read, repeated_before, inside_map, row_at, row_ok, rows_set, seen_at}
+use Rattle.cfa_walk.proofs.RememberedLemmas.{then_are, before_next, guard_read, repeated_before, inside_map, row_at, row_ok, rows_set, seen_at}
 use Rattle.cfa_walk.proofs.LoopLemmas.{loop_begins, loop_goes_on, loop_stops}
 use Rattle.cfa_walk.proofs.PassLemmas.{type_keeps, visit_keeps, first_stops, second_stops, passes_end, type_begins, type_goes_on, type_leaves, type_stops, reached_unset, reached_vars, reached_classes, reached_acting, reached_left, left_type, acting_type, no_answer}
 use Rattle.cfa_walk.proofs.CountLemmas.{acting_ends, count_stops}
 use Rattle.cfa_walk.proofs.VisitLemmas.{not_visited, teller_stops, skipped, call_stops, tell_stops, raise_stops, visit_done}
-use Rattle.cfa_walk.proofs.CallLemmas.{Begins, joined, no_acts, no_report, call_memory, call_deepest, call_missing, bundle_stops, call_done}
+use Rattle.cfa_walk.proofs.CallLemmas.{no_acts, no_report, call_memory, call_deepest, call_missing, bundle_stops, call_done}
 use Rattle.cfa_walk.proofs.+passes.Goals as goal
-
-pub passing::go_through-returns-in_err-found-clause-ends : goal.passing::go_through-returns-in_err-found-clause-ends
-passing::go_through-returns-in_err-found-clause-ends g t c =
-    let policy = tree_of c.args.scene.now.checked.now in
-    let ps = map seen_numbered c.args.promises.now in
-    on_err (λ result. Ends g.T.Teller.teller g.T.Teller.agrees g.T.Teller.behind g.T.Teller.faults policy (passes_level c.args.scene.now.depth ps) (c.args.teller.now, (c.args.site.now, c.args.out.now)) (c.args.teller.now, (c.args.site.now, c.args.out.now)) c.args.state.now c.args.state.now c.args.activation.now c.args.activation.now (g.P.Patterns.shown c.args.pats.now) (g.P.Patterns.shown c.args.pats.now) result)
-    c.from_residual.result Memory c.from_residual.ensures.1 (tt, (refl, refl))
-
-pub passing::go_through-returns-in_err-found-clause-later : goal.passing::go_through-returns-in_err-found-clause-later
-passing::go_through-returns-in_err-found-clause-later g t c =
-    no_answer _ c.from_residual.result Memory c.from_residual.ensures.1
 
 pub passing::go_through-returns-in_err-pass-clause-ends : goal.passing::go_through-returns-in_err-pass-clause-ends
 passing::go_through-returns-in_err-pass-clause-ends g t c =
     let policy = tree_of c.args.scene.now.checked.now in
     let ps = map seen_numbered c.args.promises.now in
     on_err (λ result. Ends g.T.Teller.teller g.T.Teller.agrees g.T.Teller.behind g.T.Teller.faults policy (passes_level c.args.scene.now.depth ps) (c.args.teller.now, (c.args.site.now, c.args.out.now)) (c.pass.new.teller, (c.pass.new.site, c.pass.new.out)) c.args.state.now c.pass.new.state c.args.activation.now c.pass.new.activation (g.P.Patterns.shown c.args.pats.now) (g.P.Patterns.shown c.pass.new.pats) result)
-    c.from_residual-in_err-pass.result c.in_err-pass.field-0.0 c.from_residual-in_err-pass.ensures.1
+    c.from_residual.result c.in_err-pass.field-0.0 c.from_residual.ensures.1
     (first_stops g.T.Teller.teller g.T.Teller.agrees g.T.Teller.behind g.T.Teller.faults policy c.args.scene.now.depth ps (c.args.teller.now, (c.args.site.now, c.args.out.now)) (c.pass.new.teller, (c.pass.new.site, c.pass.new.out)) c.args.state.now c.pass.new.state c.args.activation.now c.pass.new.activation (g.P.Patterns.shown c.args.pats.now) (g.P.Patterns.shown c.pass.new.pats) c.in_err-pass.field-0.0 c.in_err-pass.ensures.ends)
 
 pub passing::go_through-returns-in_err-pass-clause-later : goal.passing::go_through-returns-in_err-pass-clause-later
 passing::go_through-returns-in_err-pass-clause-later g t c =
-    no_answer _ c.from_residual-in_err-pass.result c.in_err-pass.field-0.0 c.from_residual-in_err-pass.ensures.1
+    no_answer _ c.from_residual.result c.in_err-pass.field-0.0 c.from_residual.ensures.1
 
 pub passing::go_through-returns-in_err-pass-2-clause-ends : goal.passing::go_through-returns-in_err-pass-2-clause-ends
 passing::go_through-returns-in_err-pass-2-clause-ends g t c =
@@ -264,56 +252,38 @@ pub visiting::visit_each-returns-clause-later : goal.visiting::visit_each-return
 visiting::visit_each-returns-clause-later g t c =
     c.loop-instance.invariant.1
 
-pub passing::reach_instances-returns-in_err-found-clause-ends : goal.passing::reach_instances-returns-in_err-found-clause-ends
-passing::reach_instances-returns-in_err-found-clause-ends g t c =
+pub passing::reach_instances-returns-in_err-count_instances-clause-ends : goal.passing::reach_instances-returns-in_err-count_instances-clause-ends
+passing::reach_instances-returns-in_err-count_instances-clause-ends g t c =
     let policy = tree_of c.args.scene.now.checked.now in
     let p = seen_numbered c.args.promise.now in
     on_err (λ result. Ends g.T.Teller.teller g.T.Teller.agrees g.T.Teller.behind g.T.Teller.faults policy (acting_level c.args.scene.now.depth p c.args.guard) (c.args.teller.now, (c.args.site.now, c.args.out.now)) (c.args.teller.now, (c.args.site.now, c.args.out.now)) c.args.state.now c.count_instances.new.state c.args.activation.now c.count_instances.new.activation (g.P.Patterns.shown c.args.pats.now) (g.P.Patterns.shown c.count_instances.new.pats) result)
-    c.from_residual.result c.in_err-found.field-0.0 c.from_residual.ensures.1
-    (count_stops g.T.Teller.teller g.T.Teller.agrees g.T.Teller.behind g.T.Teller.faults policy c.args.scene.now.depth p c.args.guard (c.args.teller.now, (c.args.site.now, c.args.out.now)) c.args.state.now c.count_instances.new.state c.args.activation.now c.count_instances.new.activation (g.P.Patterns.shown c.args.pats.now) (g.P.Patterns.shown c.count_instances.new.pats) c.in_err-found.field-0.0
-    c.in_err-found.ensures.counted c.in_err-found.ensures.patterns)
+    c.from_residual.result c.in_err-count_instances.field-0.0 c.from_residual.ensures.1
+    (count_stops g.T.Teller.teller g.T.Teller.agrees g.T.Teller.behind g.T.Teller.faults policy c.args.scene.now.depth p c.args.guard (c.args.teller.now, (c.args.site.now, c.args.out.now)) c.args.state.now c.count_instances.new.state c.args.activation.now c.count_instances.new.activation (g.P.Patterns.shown c.args.pats.now) (g.P.Patterns.shown c.count_instances.new.pats) c.in_err-count_instances.field-0.0
+    c.in_err-count_instances.ensures.counted c.in_err-count_instances.ensures.patterns)
 
-pub passing::reach_instances-returns-in_err-found-clause-later : goal.passing::reach_instances-returns-in_err-found-clause-later
-passing::reach_instances-returns-in_err-found-clause-later g t c =
-    no_answer _ c.from_residual.result c.in_err-found.field-0.0 c.from_residual.ensures.1
+pub passing::reach_instances-returns-in_err-count_instances-clause-later : goal.passing::reach_instances-returns-in_err-count_instances-clause-later
+passing::reach_instances-returns-in_err-count_instances-clause-later g t c =
+    no_answer _ c.from_residual.result c.in_err-count_instances.field-0.0 c.from_residual.ensures.1
 
-pub passing::reach_instances-returns-in_err-found-clause-kept : goal.passing::reach_instances-returns-in_err-found-clause-kept
-passing::reach_instances-returns-in_err-found-clause-kept g t c =
-    no_answer _ c.from_residual.result c.in_err-found.field-0.0 c.from_residual.ensures.1
-
-pub passing::reach_instances-returns-in_err-visit_each-clause-ends : goal.passing::reach_instances-returns-in_err-visit_each-clause-ends
-passing::reach_instances-returns-in_err-visit_each-clause-ends g t c =
-    let policy = tree_of c.args.scene.now.checked.now in
-    let p = seen_numbered c.args.promise.now in
-    on_err (λ result. Ends g.T.Teller.teller g.T.Teller.agrees g.T.Teller.behind g.T.Teller.faults policy (acting_level c.args.scene.now.depth p c.args.guard) (c.args.teller.now, (c.args.site.now, c.args.out.now)) (c.visit_each.new.teller, (c.visit_each.new.site, c.visit_each.new.out)) c.args.state.now c.visit_each.new.state c.args.activation.now c.visit_each.new.activation (g.P.Patterns.shown c.args.pats.now) (g.P.Patterns.shown c.visit_each.new.pats) result)
-    c.from_residual-in_err-visit_each.result c.in_err-visit_each.field-0.0 c.from_residual-in_err-visit_each.ensures.1
-    (acting_ends g.T.Teller.teller g.T.Teller.agrees g.T.Teller.behind g.T.Teller.faults policy c.args.scene.now.depth p c.args.guard (c.args.teller.now, (c.args.site.now, c.args.out.now)) c.args.state.now c.count_instances.new.state c.args.activation.now c.count_instances.new.activation (g.met.T.Teller.steady (c.args.teller.now, (c.args.site.now, c.args.out.now))) (c.visit_each.new.teller, (c.visit_each.new.site, c.visit_each.new.out)) c.visit_each.new.state c.visit_each.new.activation
-    c.in_ok-found.found.resolved.instances (g.P.Patterns.shown c.args.pats.now) (g.P.Patterns.shown c.count_instances.new.pats) (g.P.Patterns.shown c.visit_each.new.pats) (Err c.in_err-visit_each.field-0.0) c.in_ok-found.ensures.counted c.in_ok-found.ensures.patterns
-    (subst (λ (x : List Instance). Ends g.T.Teller.teller g.T.Teller.agrees g.T.Teller.behind g.T.Teller.faults policy (instances_level c.args.scene.now.depth c.args.guard x) (c.args.teller.now, (c.args.site.now, c.args.out.now)) (c.visit_each.new.teller, (c.visit_each.new.site, c.visit_each.new.out)) c.count_instances.new.state c.visit_each.new.state c.count_instances.new.activation c.visit_each.new.activation (g.P.Patterns.shown c.count_instances.new.pats) (g.P.Patterns.shown c.visit_each.new.pats) (Err c.in_err-visit_each.field-0.0)) c.as_slice-listed.ensures c.in_err-visit_each.ensures.ends))
-
-pub passing::reach_instances-returns-in_err-visit_each-clause-later : goal.passing::reach_instances-returns-in_err-visit_each-clause-later
-passing::reach_instances-returns-in_err-visit_each-clause-later g t c =
-    no_answer _ c.from_residual-in_err-visit_each.result c.in_err-visit_each.field-0.0 c.from_residual-in_err-visit_each.ensures.1
-
-pub passing::reach_instances-returns-in_err-visit_each-clause-kept : goal.passing::reach_instances-returns-in_err-visit_each-clause-kept
-passing::reach_instances-returns-in_err-visit_each-clause-kept g t c =
-    no_answer _ c.from_residual-in_err-visit_each.result c.in_err-visit_each.field-0.0 c.from_residual-in_err-visit_each.ensures.1
+pub passing::reach_instances-returns-in_err-count_instances-clause-kept : goal.passing::reach_instances-returns-in_err-count_instances-clause-kept
+passing::reach_instances-returns-in_err-count_instances-clause-kept g t c =
+    no_answer _ c.from_residual.result c.in_err-count_instances.field-0.0 c.from_residual.ensures.1
 
 pub passing::reach_instances-returns-clause-ends : goal.passing::reach_instances-returns-clause-ends
 passing::reach_instances-returns-clause-ends g t c =
     let policy = tree_of c.args.scene.now.checked.now in
     let p = seen_numbered c.args.promise.now in
     acting_ends g.T.Teller.teller g.T.Teller.agrees g.T.Teller.behind g.T.Teller.faults policy c.args.scene.now.depth p c.args.guard (c.args.teller.now, (c.args.site.now, c.args.out.now)) c.args.state.now c.count_instances.new.state c.args.activation.now c.count_instances.new.activation (g.met.T.Teller.steady (c.args.teller.now, (c.args.site.now, c.args.out.now))) (c.visit_each.new.teller, (c.visit_each.new.site, c.visit_each.new.out)) c.visit_each.new.state c.visit_each.new.activation
-    c.in_ok-found.found.resolved.instances (g.P.Patterns.shown c.args.pats.now) (g.P.Patterns.shown c.count_instances.new.pats) (g.P.Patterns.shown c.visit_each.new.pats) (Ok tt) c.in_ok-found.ensures.counted c.in_ok-found.ensures.patterns
-    (subst (λ (x : List Instance). Ends g.T.Teller.teller g.T.Teller.agrees g.T.Teller.behind g.T.Teller.faults policy (instances_level c.args.scene.now.depth c.args.guard x) (c.args.teller.now, (c.args.site.now, c.args.out.now)) (c.visit_each.new.teller, (c.visit_each.new.site, c.visit_each.new.out)) c.count_instances.new.state c.visit_each.new.state c.count_instances.new.activation c.visit_each.new.activation (g.P.Patterns.shown c.count_instances.new.pats) (g.P.Patterns.shown c.visit_each.new.pats) (Ok tt)) c.as_slice-listed.ensures c.in_ok-visit_each.ensures.ends)
+    (instances_of c.count_instances.new.kept) (g.P.Patterns.shown c.args.pats.now) (g.P.Patterns.shown c.count_instances.new.pats) (g.P.Patterns.shown c.visit_each.new.pats) c.visit_each.result c.in_ok-count_instances.ensures.counted c.in_ok-count_instances.ensures.patterns
+    (subst (λ (x : List Instance). Ends g.T.Teller.teller g.T.Teller.agrees g.T.Teller.behind g.T.Teller.faults policy (instances_level c.args.scene.now.depth c.args.guard x) (c.args.teller.now, (c.args.site.now, c.args.out.now)) (c.visit_each.new.teller, (c.visit_each.new.site, c.visit_each.new.out)) c.count_instances.new.state c.visit_each.new.state c.count_instances.new.activation c.visit_each.new.activation (g.P.Patterns.shown c.count_instances.new.pats) (g.P.Patterns.shown c.visit_each.new.pats) c.visit_each.result) c.instances_of-listed.ensures c.visit_each.ensures.ends)
 
 pub passing::reach_instances-returns-clause-later : goal.passing::reach_instances-returns-clause-later
 passing::reach_instances-returns-clause-later g t c =
-    are_then c.args.state.now c.count_instances.new.state c.visit_each.new.state c.args.activation.now c.count_instances.new.activation c.visit_each.new.activation c.in_ok-found.ensures.later c.in_ok-visit_each.ensures.later
+    then_are c.args.state.now c.count_instances.new.state c.visit_each.new.state c.args.activation.now c.count_instances.new.activation c.visit_each.new.activation c.visit_each.result c.in_ok-count_instances.ensures.later c.visit_each.ensures.later
 
 pub passing::reach_instances-returns-clause-kept : goal.passing::reach_instances-returns-clause-kept
 passing::reach_instances-returns-clause-kept g t c =
-    row_later (tree_of c.args.scene.now.checked.now) (seen_numbered c.args.promise.now) (Some c.in_ok-found.found) c.count_instances.new.state c.visit_each.new.state c.count_instances.new.activation c.visit_each.new.activation c.in_ok-visit_each.ensures.later c.in_ok-found.ensures.holds
+    row_ok (tree_of c.args.scene.now.checked.now) (seen_numbered c.args.promise.now) c.count_instances.new.kept c.count_instances.new.state c.visit_each.new.state c.count_instances.new.activation c.visit_each.new.activation c.visit_each.result c.visit_each.ensures.later c.in_ok-count_instances.ensures.holds
 
 pub passing::reach-returns-then-eq-clause-ends : goal.passing::reach-returns-then-eq-clause-ends
 passing::reach-returns-then-eq-clause-ends g t c =
@@ -392,29 +362,32 @@ passing::reach-returns-in_default-clause-kept g t c =
 pub visiting::visit-returns-then-eq-clause-ends : goal.visiting::visit-returns-then-eq-clause-ends
 visiting::visit-returns-then-eq-clause-ends g t c =
     let policy = tree_of c.args.scene.now.checked.now in
-    not_visited g.T.Teller.teller g.T.Teller.agrees g.T.Teller.behind g.T.Teller.faults policy c.args.scene.now.depth c.args.guard c.args.instance.now c.args.state.now c.args.activation.now c.done-mark.result c.visit_status-status.result c.done-mark.ensures c.visit_status-status.ensures (c.args.teller.now, (c.args.site.now, c.args.out.now)) (g.P.Patterns.shown c.args.pats.now) (statuses_agree c.visit_status-status.result No c.if-eq.ensures)
+    let none = statuses_agree c.in_ok-status.status No c.if-eq.ensures in
+    subst (λ (x : State). Ends g.T.Teller.teller g.T.Teller.agrees g.T.Teller.behind g.T.Teller.faults policy (visit_level c.args.scene.now.depth c.args.guard c.args.instance.now) (c.args.teller.now, (c.args.site.now, c.args.out.now)) (c.args.teller.now, (c.args.site.now, c.args.out.now)) c.args.state.now x c.args.activation.now c.args.activation.now (g.P.Patterns.shown c.args.pats.now) (g.P.Patterns.shown c.args.pats.now) (Ok tt))
+    (sym (c.in_ok-status.ensures.unlisted none))
+    (not_visited g.T.Teller.teller g.T.Teller.agrees g.T.Teller.behind g.T.Teller.faults policy c.args.scene.now.depth c.args.guard c.args.instance.now c.args.state.now c.args.activation.now (mark_of c.args.state.now.environment c.args.instance.now.path c.args.instance.now.text) c.in_ok-status.status refl c.in_ok-status.ensures.status (c.args.teller.now, (c.args.site.now, c.args.out.now)) (g.P.Patterns.shown c.args.pats.now) none)
 
 pub visiting::visit-returns-then-eq-clause-later : goal.visiting::visit-returns-then-eq-clause-later
 visiting::visit-returns-then-eq-clause-later g t c =
-    are_same c.args.state.now c.args.activation.now
+    with_state c.args.state.now c.begin_visit.new.state c.args.activation.now c.in_ok-status.ensures.later
 
-pub visiting::visit-returns-in_err-list-clause-ends : goal.visiting::visit-returns-in_err-list-clause-ends
-visiting::visit-returns-in_err-list-clause-ends g t c =
+pub visiting::visit-returns-in_err-status-clause-ends : goal.visiting::visit-returns-in_err-status-clause-ends
+visiting::visit-returns-in_err-status-clause-ends g t c =
     let policy = tree_of c.args.scene.now.checked.now in
-    on_err (λ result. Ends g.T.Teller.teller g.T.Teller.agrees g.T.Teller.behind g.T.Teller.faults policy (visit_level c.args.scene.now.depth c.args.guard c.args.instance.now) (c.args.teller.now, (c.args.site.now, c.args.out.now)) (c.args.teller.now, (c.args.site.now, c.args.out.now)) c.args.state.now c.list.new.self c.args.activation.now c.args.activation.now (g.P.Patterns.shown c.args.pats.now) (g.P.Patterns.shown c.args.pats.now) result)
+    on_err (λ result. Ends g.T.Teller.teller g.T.Teller.agrees g.T.Teller.behind g.T.Teller.faults policy (visit_level c.args.scene.now.depth c.args.guard c.args.instance.now) (c.args.teller.now, (c.args.site.now, c.args.out.now)) (c.args.teller.now, (c.args.site.now, c.args.out.now)) c.args.state.now c.begin_visit.new.state c.args.activation.now c.args.activation.now (g.P.Patterns.shown c.args.pats.now) (g.P.Patterns.shown c.args.pats.now) result)
     c.from_residual.result Memory c.from_residual.ensures.1
     ((tt, (refl, refl)))
 
-pub visiting::visit-returns-in_err-list-clause-later : goal.visiting::visit-returns-in_err-list-clause-later
-visiting::visit-returns-in_err-list-clause-later g t c =
+pub visiting::visit-returns-in_err-status-clause-later : goal.visiting::visit-returns-in_err-status-clause-later
+visiting::visit-returns-in_err-status-clause-later g t c =
     no_answer _ c.from_residual.result Memory c.from_residual.ensures.1
 
 pub visiting::visit-returns-in_err-visit-clause-ends : goal.visiting::visit-returns-in_err-visit-clause-ends
 visiting::visit-returns-in_err-visit-clause-ends g t c =
     let policy = tree_of c.args.scene.now.checked.now in
-    on_err (λ result. Ends g.T.Teller.teller g.T.Teller.agrees g.T.Teller.behind g.T.Teller.faults policy (visit_level c.args.scene.now.depth c.args.guard c.args.instance.now) (c.args.teller.now, (c.args.site.now, c.args.out.now)) (c.visit.new.self, (c.visit.new.site, c.visit.new.out)) c.args.state.now c.list.new.self c.args.activation.now c.args.activation.now (g.P.Patterns.shown c.args.pats.now) (g.P.Patterns.shown c.args.pats.now) result)
+    on_err (λ result. Ends g.T.Teller.teller g.T.Teller.agrees g.T.Teller.behind g.T.Teller.faults policy (visit_level c.args.scene.now.depth c.args.guard c.args.instance.now) (c.args.teller.now, (c.args.site.now, c.args.out.now)) (c.visit.new.self, (c.visit.new.site, c.visit.new.out)) c.args.state.now c.begin_visit.new.state c.args.activation.now c.args.activation.now (g.P.Patterns.shown c.args.pats.now) (g.P.Patterns.shown c.args.pats.now) result)
     c.from_residual-in_err-visit.result c.in_err-visit.field-0.0 c.from_residual-in_err-visit.ensures.1
-    (teller_stops g.T.Teller.teller g.T.Teller.agrees g.T.Teller.behind g.T.Teller.faults policy c.args.scene.now.depth c.args.guard c.args.instance.now c.args.state.now c.args.activation.now c.done-mark.result c.visit_status-status.result c.done-mark.ensures c.visit_status-status.ensures (c.args.teller.now, (c.args.site.now, c.args.out.now)) (c.visit.new.self, (c.visit.new.site, c.visit.new.out)) c.list.new.self c.args.activation.now (g.P.Patterns.shown c.args.pats.now) (g.P.Patterns.shown c.args.pats.now) c.in_err-visit.field-0.0 c.in_err-visit.ensures.stopped c.in_err-visit.ensures.own refl)
+    (teller_stops g.T.Teller.teller g.T.Teller.agrees g.T.Teller.behind g.T.Teller.faults policy c.args.scene.now.depth c.args.guard c.args.instance.now c.args.state.now c.args.activation.now (mark_of c.args.state.now.environment c.args.instance.now.path c.args.instance.now.text) c.in_ok-status.status refl c.in_ok-status.ensures.status (c.args.teller.now, (c.args.site.now, c.args.out.now)) (c.visit.new.self, (c.visit.new.site, c.visit.new.out)) c.begin_visit.new.state c.args.activation.now (g.P.Patterns.shown c.args.pats.now) (g.P.Patterns.shown c.args.pats.now) c.in_err-visit.field-0.0 c.in_err-visit.ensures.stopped c.in_err-visit.ensures.own refl)
 
 pub visiting::visit-returns-in_err-visit-clause-later : goal.visiting::visit-returns-in_err-visit-clause-later
 visiting::visit-returns-in_err-visit-clause-later g t c =
@@ -423,18 +396,18 @@ visiting::visit-returns-in_err-visit-clause-later g t c =
 pub visiting::visit-returns-then-branch-clause-ends : goal.visiting::visit-returns-then-branch-clause-ends
 visiting::visit-returns-then-branch-clause-ends g t c =
     let policy = tree_of c.args.scene.now.checked.now in
-    skipped g.T.Teller.teller g.T.Teller.agrees g.T.Teller.behind g.T.Teller.faults policy c.args.scene.now.depth c.args.guard c.args.instance.now c.args.state.now c.args.activation.now c.done-mark.result c.visit_status-status.result c.done-mark.ensures c.visit_status-status.ensures (c.args.teller.now, (c.args.site.now, c.args.out.now)) (statuses_differ c.visit_status-status.result No c.if-eq.ensures) c.requires.at c.list.new.self (λ s h waits. c.in_ok-list.ensures.keeps s h (c.as_ref-waits.ensures.value ∙ waits)) (c.visit.new.self, (c.visit.new.site, c.visit.new.out)) (g.P.Patterns.shown c.args.pats.now) (subst (λ (b : Bool). HasVisited g.T.Teller.teller g.T.Teller.agrees g.T.Teller.behind (c.args.teller.now, (c.args.site.now, c.args.out.now)) (c.visit.new.self, (c.visit.new.site, c.visit.new.out)) c.args.instance.now c.visit_status-status.result b) c.if-branch.true c.in_ok-visit.ensures.visited) c.in_ok-visit.ensures.later
+    skipped g.T.Teller.teller g.T.Teller.agrees g.T.Teller.behind g.T.Teller.faults policy c.args.scene.now.depth c.args.guard c.args.instance.now c.args.state.now c.args.activation.now (mark_of c.args.state.now.environment c.args.instance.now.path c.args.instance.now.text) c.in_ok-status.status refl c.in_ok-status.ensures.status (c.args.teller.now, (c.args.site.now, c.args.out.now)) (statuses_differ c.in_ok-status.status No c.if-eq.ensures) c.requires.at c.begin_visit.new.state (c.in_ok-status.ensures.listed (statuses_differ c.in_ok-status.status No c.if-eq.ensures)) (c.visit.new.self, (c.visit.new.site, c.visit.new.out)) (g.P.Patterns.shown c.args.pats.now) (subst (λ (b : Bool). HasVisited g.T.Teller.teller g.T.Teller.agrees g.T.Teller.behind (c.args.teller.now, (c.args.site.now, c.args.out.now)) (c.visit.new.self, (c.visit.new.site, c.visit.new.out)) c.args.instance.now c.in_ok-status.status b) c.if-branch.true c.in_ok-visit.ensures.visited) c.in_ok-visit.ensures.later
 
 pub visiting::visit-returns-then-branch-clause-later : goal.visiting::visit-returns-then-branch-clause-later
 visiting::visit-returns-then-branch-clause-later g t c =
-    with_state c.args.state.now c.list.new.self c.args.activation.now c.in_ok-list.ensures.later
+    with_state c.args.state.now c.begin_visit.new.state c.args.activation.now c.in_ok-status.ensures.later
 
 pub visiting::visit-returns-in_err-called-clause-ends : goal.visiting::visit-returns-in_err-called-clause-ends
 visiting::visit-returns-in_err-called-clause-ends g t c =
     let policy = tree_of c.args.scene.now.checked.now in
     on_err (λ result. Ends g.T.Teller.teller g.T.Teller.agrees g.T.Teller.behind g.T.Teller.faults policy (visit_level c.args.scene.now.depth c.args.guard c.args.instance.now) (c.args.teller.now, (c.args.site.now, c.args.out.now)) (c.call.new.teller, (c.call.new.site, c.call.new.out)) c.args.state.now c.call.new.state c.args.activation.now c.args.activation.now (g.P.Patterns.shown c.args.pats.now) (g.P.Patterns.shown c.call.new.pats) result)
     c.from_residual-in_err-called.result c.in_err-called.field-0.0 c.from_residual-in_err-called.ensures.1
-    (call_stops g.T.Teller.teller g.T.Teller.agrees g.T.Teller.behind g.T.Teller.faults policy c.args.scene.now.depth c.args.guard c.args.instance.now c.args.state.now c.args.activation.now c.done-mark.result c.visit_status-status.result c.done-mark.ensures c.visit_status-status.ensures (c.args.teller.now, (c.args.site.now, c.args.out.now)) (statuses_differ c.visit_status-status.result No c.if-eq.ensures) c.requires.at c.list.new.self (λ s h waits. c.in_ok-list.ensures.keeps s h (c.as_ref-waits.ensures.value ∙ waits)) (c.visit.new.self, (c.visit.new.site, c.visit.new.out)) (subst (λ (b : Bool). HasVisited g.T.Teller.teller g.T.Teller.agrees g.T.Teller.behind (c.args.teller.now, (c.args.site.now, c.args.out.now)) (c.visit.new.self, (c.visit.new.site, c.visit.new.out)) c.args.instance.now c.visit_status-status.result b) c.if-branch.false c.in_ok-visit.ensures.visited) c.in_ok-visit.ensures.later (c.call.new.teller, (c.call.new.site, c.call.new.out)) c.call.new.state (g.P.Patterns.shown c.args.pats.now) (g.P.Patterns.shown c.call.new.pats) c.in_err-called.field-0.0 c.in_err-called.ensures.called)
+    (call_stops g.T.Teller.teller g.T.Teller.agrees g.T.Teller.behind g.T.Teller.faults policy c.args.scene.now.depth c.args.guard c.args.instance.now c.args.state.now c.args.activation.now (mark_of c.args.state.now.environment c.args.instance.now.path c.args.instance.now.text) c.in_ok-status.status refl c.in_ok-status.ensures.status (c.args.teller.now, (c.args.site.now, c.args.out.now)) (statuses_differ c.in_ok-status.status No c.if-eq.ensures) c.requires.at c.begin_visit.new.state (c.in_ok-status.ensures.listed (statuses_differ c.in_ok-status.status No c.if-eq.ensures)) (c.visit.new.self, (c.visit.new.site, c.visit.new.out)) (subst (λ (b : Bool). HasVisited g.T.Teller.teller g.T.Teller.agrees g.T.Teller.behind (c.args.teller.now, (c.args.site.now, c.args.out.now)) (c.visit.new.self, (c.visit.new.site, c.visit.new.out)) c.args.instance.now c.in_ok-status.status b) c.if-branch.false c.in_ok-visit.ensures.visited) c.in_ok-visit.ensures.later (c.call.new.teller, (c.call.new.site, c.call.new.out)) c.call.new.state (g.P.Patterns.shown c.args.pats.now) (g.P.Patterns.shown c.call.new.pats) c.in_err-called.field-0.0 c.in_err-called.ensures.called)
 
 pub visiting::visit-returns-in_err-called-clause-later : goal.visiting::visit-returns-in_err-called-clause-later
 visiting::visit-returns-in_err-called-clause-later g t c =
@@ -445,39 +418,34 @@ visiting::visit-returns-in_err-ending-clause-ends g t c =
     let policy = tree_of c.args.scene.now.checked.now in
     on_err (λ result. Ends g.T.Teller.teller g.T.Teller.agrees g.T.Teller.behind g.T.Teller.faults policy (visit_level c.args.scene.now.depth c.args.guard c.args.instance.now) (c.args.teller.now, (c.args.site.now, c.args.out.now)) (c.tell.new.self, (c.tell.new.site, c.tell.new.out)) c.args.state.now c.call.new.state c.args.activation.now c.args.activation.now (g.P.Patterns.shown c.args.pats.now) (g.P.Patterns.shown c.call.new.pats) result)
     c.from_residual-in_err-ending.result c.in_err-ending.field-0.0 c.from_residual-in_err-ending.ensures.1
-    (tell_stops g.T.Teller.teller g.T.Teller.agrees g.T.Teller.behind g.T.Teller.faults policy c.args.scene.now.depth c.args.guard c.args.instance.now c.args.state.now c.args.activation.now c.done-mark.result c.visit_status-status.result c.done-mark.ensures c.visit_status-status.ensures (c.args.teller.now, (c.args.site.now, c.args.out.now)) (statuses_differ c.visit_status-status.result No c.if-eq.ensures) c.requires.at c.list.new.self (λ s h waits. c.in_ok-list.ensures.keeps s h (c.as_ref-waits.ensures.value ∙ waits)) (c.visit.new.self, (c.visit.new.site, c.visit.new.out)) (subst (λ (b : Bool). HasVisited g.T.Teller.teller g.T.Teller.agrees g.T.Teller.behind (c.args.teller.now, (c.args.site.now, c.args.out.now)) (c.visit.new.self, (c.visit.new.site, c.visit.new.out)) c.args.instance.now c.visit_status-status.result b) c.if-branch.false c.in_ok-visit.ensures.visited) c.in_ok-visit.ensures.later (c.call.new.teller, (c.call.new.site, c.call.new.out)) c.call.new.state (g.P.Patterns.shown c.args.pats.now) (g.P.Patterns.shown c.call.new.pats) c.in_ok-called.called c.in_ok-called.ensures.called (c.tell.new.self, (c.tell.new.site, c.tell.new.out)) c.args.activation.now c.in_err-ending.field-0.0 c.in_err-ending.ensures.stopped c.in_err-ending.ensures.own)
+    (tell_stops g.T.Teller.teller g.T.Teller.agrees g.T.Teller.behind g.T.Teller.faults policy c.args.scene.now.depth c.args.guard c.args.instance.now c.args.state.now c.args.activation.now (mark_of c.args.state.now.environment c.args.instance.now.path c.args.instance.now.text) c.in_ok-status.status refl c.in_ok-status.ensures.status (c.args.teller.now, (c.args.site.now, c.args.out.now)) (statuses_differ c.in_ok-status.status No c.if-eq.ensures) c.requires.at c.begin_visit.new.state (c.in_ok-status.ensures.listed (statuses_differ c.in_ok-status.status No c.if-eq.ensures)) (c.visit.new.self, (c.visit.new.site, c.visit.new.out)) (subst (λ (b : Bool). HasVisited g.T.Teller.teller g.T.Teller.agrees g.T.Teller.behind (c.args.teller.now, (c.args.site.now, c.args.out.now)) (c.visit.new.self, (c.visit.new.site, c.visit.new.out)) c.args.instance.now c.in_ok-status.status b) c.if-branch.false c.in_ok-visit.ensures.visited) c.in_ok-visit.ensures.later (c.call.new.teller, (c.call.new.site, c.call.new.out)) c.call.new.state (g.P.Patterns.shown c.args.pats.now) (g.P.Patterns.shown c.call.new.pats) c.in_ok-called.called c.in_ok-called.ensures.called (c.tell.new.self, (c.tell.new.site, c.tell.new.out)) c.args.activation.now c.in_err-ending.field-0.0 c.in_err-ending.ensures.stopped c.in_err-ending.ensures.own)
 
 pub visiting::visit-returns-in_err-ending-clause-later : goal.visiting::visit-returns-in_err-ending-clause-later
 visiting::visit-returns-in_err-ending-clause-later g t c =
     no_answer _ c.from_residual-in_err-ending.result c.in_err-ending.field-0.0 c.from_residual-in_err-ending.ensures.1
 
-pub visiting::visit-returns-in_err-raise_ending-clause-ends : goal.visiting::visit-returns-in_err-raise_ending-clause-ends
-visiting::visit-returns-in_err-raise_ending-clause-ends g t c =
+pub visiting::visit-returns-in_err-end_visit-clause-ends : goal.visiting::visit-returns-in_err-end_visit-clause-ends
+visiting::visit-returns-in_err-end_visit-clause-ends g t c =
     let policy = tree_of c.args.scene.now.checked.now in
-    on_err (λ result. Ends g.T.Teller.teller g.T.Teller.agrees g.T.Teller.behind g.T.Teller.faults policy (visit_level c.args.scene.now.depth c.args.guard c.args.instance.now) (c.args.teller.now, (c.args.site.now, c.args.out.now)) (c.tell.new.self, (c.tell.new.site, c.tell.new.out)) c.args.state.now c.raise_ending.new.state c.args.activation.now c.note.new.self (g.P.Patterns.shown c.args.pats.now) (g.P.Patterns.shown c.call.new.pats) result)
-    c.from_residual-in_err-raise_ending.result Memory c.from_residual-in_err-raise_ending.ensures.1
-    (raise_stops g.T.Teller.teller g.T.Teller.agrees g.T.Teller.behind g.T.Teller.faults policy c.args.scene.now.depth c.args.guard c.args.instance.now c.args.state.now c.args.activation.now c.done-mark.result c.visit_status-status.result c.done-mark.ensures c.visit_status-status.ensures (c.args.teller.now, (c.args.site.now, c.args.out.now)) (statuses_differ c.visit_status-status.result No c.if-eq.ensures) c.requires.at c.list.new.self (λ s h waits. c.in_ok-list.ensures.keeps s h (c.as_ref-waits.ensures.value ∙ waits)) (c.visit.new.self, (c.visit.new.site, c.visit.new.out)) (subst (λ (b : Bool). HasVisited g.T.Teller.teller g.T.Teller.agrees g.T.Teller.behind (c.args.teller.now, (c.args.site.now, c.args.out.now)) (c.visit.new.self, (c.visit.new.site, c.visit.new.out)) c.args.instance.now c.visit_status-status.result b) c.if-branch.false c.in_ok-visit.ensures.visited) c.in_ok-visit.ensures.later (c.call.new.teller, (c.call.new.site, c.call.new.out)) c.call.new.state (g.P.Patterns.shown c.args.pats.now) (g.P.Patterns.shown c.call.new.pats) c.in_ok-called.called c.in_ok-called.ensures.called (c.tell.new.self, (c.tell.new.site, c.tell.new.out)) c.in_ok-ending.ending c.in_ok-ending.ensures.told c.in_ok-ending.ensures.later c.raise_ending.new.state c.note.new.self)
+    on_err (λ result. Ends g.T.Teller.teller g.T.Teller.agrees g.T.Teller.behind g.T.Teller.faults policy (visit_level c.args.scene.now.depth c.args.guard c.args.instance.now) (c.args.teller.now, (c.args.site.now, c.args.out.now)) (c.tell.new.self, (c.tell.new.site, c.tell.new.out)) c.args.state.now c.end_visit.new.state c.args.activation.now c.end_visit.new.activation (g.P.Patterns.shown c.args.pats.now) (g.P.Patterns.shown c.call.new.pats) result)
+    c.from_residual-in_err-end_visit.result Memory c.from_residual-in_err-end_visit.ensures.1
+    (raise_stops g.T.Teller.teller g.T.Teller.agrees g.T.Teller.behind g.T.Teller.faults policy c.args.scene.now.depth c.args.guard c.args.instance.now c.args.state.now c.args.activation.now (mark_of c.args.state.now.environment c.args.instance.now.path c.args.instance.now.text) c.in_ok-status.status refl c.in_ok-status.ensures.status (c.args.teller.now, (c.args.site.now, c.args.out.now)) (statuses_differ c.in_ok-status.status No c.if-eq.ensures) c.requires.at c.begin_visit.new.state (c.in_ok-status.ensures.listed (statuses_differ c.in_ok-status.status No c.if-eq.ensures)) (c.visit.new.self, (c.visit.new.site, c.visit.new.out)) (subst (λ (b : Bool). HasVisited g.T.Teller.teller g.T.Teller.agrees g.T.Teller.behind (c.args.teller.now, (c.args.site.now, c.args.out.now)) (c.visit.new.self, (c.visit.new.site, c.visit.new.out)) c.args.instance.now c.in_ok-status.status b) c.if-branch.false c.in_ok-visit.ensures.visited) c.in_ok-visit.ensures.later (c.call.new.teller, (c.call.new.site, c.call.new.out)) c.call.new.state (g.P.Patterns.shown c.args.pats.now) (g.P.Patterns.shown c.call.new.pats) c.in_ok-called.called c.in_ok-called.ensures.called (c.tell.new.self, (c.tell.new.site, c.tell.new.out)) c.in_ok-ending.ending c.in_ok-ending.ensures.told c.in_ok-ending.ensures.later c.end_visit.new.state c.end_visit.new.activation)
 
-pub visiting::visit-returns-in_err-raise_ending-clause-later : goal.visiting::visit-returns-in_err-raise_ending-clause-later
-visiting::visit-returns-in_err-raise_ending-clause-later g t c =
-    no_answer _ c.from_residual-in_err-raise_ending.result Memory c.from_residual-in_err-raise_ending.ensures.1
+pub visiting::visit-returns-in_err-end_visit-clause-later : goal.visiting::visit-returns-in_err-end_visit-clause-later
+visiting::visit-returns-in_err-end_visit-clause-later g t c =
+    no_answer _ c.from_residual-in_err-end_visit.result Memory c.from_residual-in_err-end_visit.ensures.1
 
 pub visiting::visit-returns-clause-ends : goal.visiting::visit-returns-clause-ends
 visiting::visit-returns-clause-ends g t c =
     let policy = tree_of c.args.scene.now.checked.now in
-    visit_done g.T.Teller.teller g.T.Teller.agrees g.T.Teller.behind g.T.Teller.faults policy c.args.scene.now.depth c.args.guard c.args.instance.now c.args.state.now c.args.activation.now c.done-mark.result c.visit_status-status.result c.done-mark.ensures c.visit_status-status.ensures (c.args.teller.now, (c.args.site.now, c.args.out.now)) (statuses_differ c.visit_status-status.result No c.if-eq.ensures) c.requires.at c.list.new.self (λ s h waits. c.in_ok-list.ensures.keeps s h (c.as_ref-waits.ensures.value ∙ waits)) (c.visit.new.self, (c.visit.new.site, c.visit.new.out)) (subst (λ (b : Bool). HasVisited g.T.Teller.teller g.T.Teller.agrees g.T.Teller.behind (c.args.teller.now, (c.args.site.now, c.args.out.now)) (c.visit.new.self, (c.visit.new.site, c.visit.new.out)) c.args.instance.now c.visit_status-status.result b) c.if-branch.false c.in_ok-visit.ensures.visited) c.in_ok-visit.ensures.later (c.call.new.teller, (c.call.new.site, c.call.new.out)) c.call.new.state (g.P.Patterns.shown c.args.pats.now) (g.P.Patterns.shown c.call.new.pats) c.in_ok-called.called c.in_ok-called.ensures.called (c.tell.new.self, (c.tell.new.site, c.tell.new.out)) c.in_ok-ending.ending c.in_ok-ending.ensures.told c.in_ok-ending.ensures.later (g.met.T.Teller.steady (c.tell.new.self, (c.tell.new.site, c.tell.new.out))) c.raise_ending.new.state c.note.new.self c.note.ensures.same c.note.ensures.keeps c.in_ok-raise_ending.ensures.keeps
+    visit_done g.T.Teller.teller g.T.Teller.agrees g.T.Teller.behind g.T.Teller.faults policy c.args.scene.now.depth c.args.guard c.args.instance.now c.args.state.now c.args.activation.now (mark_of c.args.state.now.environment c.args.instance.now.path c.args.instance.now.text) c.in_ok-status.status refl c.in_ok-status.ensures.status (c.args.teller.now, (c.args.site.now, c.args.out.now)) (statuses_differ c.in_ok-status.status No c.if-eq.ensures) c.requires.at c.begin_visit.new.state (c.in_ok-status.ensures.listed (statuses_differ c.in_ok-status.status No c.if-eq.ensures)) (c.visit.new.self, (c.visit.new.site, c.visit.new.out)) (subst (λ (b : Bool). HasVisited g.T.Teller.teller g.T.Teller.agrees g.T.Teller.behind (c.args.teller.now, (c.args.site.now, c.args.out.now)) (c.visit.new.self, (c.visit.new.site, c.visit.new.out)) c.args.instance.now c.in_ok-status.status b) c.if-branch.false c.in_ok-visit.ensures.visited) c.in_ok-visit.ensures.later (c.call.new.teller, (c.call.new.site, c.call.new.out)) c.call.new.state (g.P.Patterns.shown c.args.pats.now) (g.P.Patterns.shown c.call.new.pats) c.in_ok-called.called c.in_ok-called.ensures.called (c.tell.new.self, (c.tell.new.site, c.tell.new.out)) c.in_ok-ending.ending c.in_ok-ending.ensures.told c.in_ok-ending.ensures.later (g.met.T.Teller.steady (c.tell.new.self, (c.tell.new.site, c.tell.new.out))) c.end_visit.new.state c.end_visit.new.activation c.in_ok-end_visit.ensures.same c.in_ok-end_visit.ensures.notes c.in_ok-end_visit.ensures.keeps
 
 pub visiting::visit-returns-clause-later : goal.visiting::visit-returns-clause-later
 visiting::visit-returns-clause-later g t c =
-    record {
-      state = later_then c.args.state.now c.call.new.state c.raise_ending.new.state
-          (later_then c.args.state.now c.list.new.self c.call.new.state c.in_ok-list.ensures.later c.in_ok-called.ensures.later) c.in_ok-raise_ending.ensures.later;
-      here = c.note.ensures.later;
-    }
-
-pub visiting::visit-list-requires : goal.visiting::visit-list-requires
-visiting::visit-list-requires g t c =
-    c.done-mark.ensures
+    are_then c.args.state.now c.call.new.state c.end_visit.new.state c.args.activation.now c.args.activation.now c.end_visit.new.activation
+    (with_state c.args.state.now c.call.new.state c.args.activation.now
+    (later_then c.args.state.now c.begin_visit.new.state c.call.new.state c.in_ok-status.ensures.later c.in_ok-called.ensures.later))
+    c.in_ok-end_visit.ensures.later
 
 pub visiting::visit-tell-requires : goal.visiting::visit-tell-requires
 visiting::visit-tell-requires g t c =
@@ -518,126 +486,13 @@ pub visiting::activate-returns-then-scene-eq0-clause-later : goal.visiting::acti
 visiting::activate-returns-then-scene-eq0-clause-later g t c =
     later_same c.args.state.now
 
-pub visiting::activate-returns-in_err-path-clause-called : goal.visiting::activate-returns-in_err-path-clause-called
-visiting::activate-returns-in_err-path-clause-called g t c =
-    let policy = tree_of c.args.scene.now.checked.now in
-    on_err (λ result. CallEnds g.T.Teller.teller g.T.Teller.agrees g.T.Teller.behind g.T.Teller.faults policy c.args.scene.now.depth c.args.instance.now c.args.status (c.args.teller.now, (c.args.site.now, c.args.out.now)) (c.args.teller.now, (c.args.site.now, c.args.out.now)) c.args.state.now c.args.state.now (g.P.Patterns.shown c.args.pats.now) (g.P.Patterns.shown c.args.pats.now) result) c.from_residual.result Memory c.from_residual.ensures.1
-    (call_memory g.T.Teller.teller g.T.Teller.agrees g.T.Teller.behind g.T.Teller.faults policy c.args.instance.now c.args.status (c.args.teller.now, (c.args.site.now, c.args.out.now)) c.args.state.now (g.P.Patterns.shown c.args.pats.now) c.args.scene.now.depth c.args.state.now)
-
-pub visiting::activate-returns-in_err-path-clause-later : goal.visiting::activate-returns-in_err-path-clause-later
-visiting::activate-returns-in_err-path-clause-later g t c =
-    no_answer _ c.from_residual.result Memory c.from_residual.ensures.1
-
-pub visiting::activate-returns-in_err-activation-clause-called : goal.visiting::activate-returns-in_err-activation-clause-called
-visiting::activate-returns-in_err-activation-clause-called g t c =
-    let policy = tree_of c.args.scene.now.checked.now in
-    on_err (λ result. CallEnds g.T.Teller.teller g.T.Teller.agrees g.T.Teller.behind g.T.Teller.faults policy c.args.scene.now.depth c.args.instance.now c.args.status (c.args.teller.now, (c.args.site.now, c.args.out.now)) (c.args.teller.now, (c.args.site.now, c.args.out.now)) c.args.state.now c.args.state.now (g.P.Patterns.shown c.args.pats.now) (g.P.Patterns.shown c.args.pats.now) result) c.from_residual-in_err-activation.result Memory c.from_residual-in_err-activation.ensures.1
-    (call_memory g.T.Teller.teller g.T.Teller.agrees g.T.Teller.behind g.T.Teller.faults policy c.args.instance.now c.args.status (c.args.teller.now, (c.args.site.now, c.args.out.now)) c.args.state.now (g.P.Patterns.shown c.args.pats.now) c.args.scene.now.depth c.args.state.now)
-
-pub visiting::activate-returns-in_err-activation-clause-later : goal.visiting::activate-returns-in_err-activation-clause-later
-visiting::activate-returns-in_err-activation-clause-later g t c =
-    no_answer _ c.from_residual-in_err-activation.result Memory c.from_residual-in_err-activation.ensures.1
-
-pub visiting::activate-returns-in_err-bind-clause-called : goal.visiting::activate-returns-in_err-bind-clause-called
-visiting::activate-returns-in_err-bind-clause-called g t c =
-    let policy = tree_of c.args.scene.now.checked.now in
-    on_err (λ result. CallEnds g.T.Teller.teller g.T.Teller.agrees g.T.Teller.behind g.T.Teller.faults policy c.args.scene.now.depth c.args.instance.now c.args.status (c.args.teller.now, (c.args.site.now, c.args.out.now)) (c.args.teller.now, (c.args.site.now, c.args.out.now)) c.args.state.now c.bind.new.state (g.P.Patterns.shown c.args.pats.now) (g.P.Patterns.shown c.args.pats.now) result) c.from_residual-in_err-bind.result Memory c.from_residual-in_err-bind.ensures.1
-    (call_memory g.T.Teller.teller g.T.Teller.agrees g.T.Teller.behind g.T.Teller.faults policy c.args.instance.now c.args.status (c.args.teller.now, (c.args.site.now, c.args.out.now)) c.args.state.now (g.P.Patterns.shown c.args.pats.now) c.args.scene.now.depth c.bind.new.state)
-
-pub visiting::activate-returns-in_err-bind-clause-later : goal.visiting::activate-returns-in_err-bind-clause-later
-visiting::activate-returns-in_err-bind-clause-later g t c =
-    no_answer _ c.from_residual-in_err-bind.result Memory c.from_residual-in_err-bind.ensures.1
-
-pub visiting::activate-returns-in_err-promises-clause-called : goal.visiting::activate-returns-in_err-promises-clause-called
-visiting::activate-returns-in_err-promises-clause-called g t c =
-    let policy = tree_of c.args.scene.now.checked.now in
-    on_err (λ result. CallEnds g.T.Teller.teller g.T.Teller.agrees g.T.Teller.behind g.T.Teller.faults policy c.args.scene.now.depth c.args.instance.now c.args.status (c.args.teller.now, (c.args.site.now, c.args.out.now)) (c.args.teller.now, (c.args.site.now, c.args.out.now)) c.args.state.now c.bind.new.state (g.P.Patterns.shown c.args.pats.now) (g.P.Patterns.shown c.args.pats.now) result) c.from_residual-in_err-promises.result Memory c.from_residual-in_err-promises.ensures.1
-    (call_memory g.T.Teller.teller g.T.Teller.agrees g.T.Teller.behind g.T.Teller.faults policy c.args.instance.now c.args.status (c.args.teller.now, (c.args.site.now, c.args.out.now)) c.args.state.now (g.P.Patterns.shown c.args.pats.now) c.args.scene.now.depth c.bind.new.state)
-
-pub visiting::activate-returns-in_err-promises-clause-later : goal.visiting::activate-returns-in_err-promises-clause-later
-visiting::activate-returns-in_err-promises-clause-later g t c =
-    no_answer _ c.from_residual-in_err-promises.result Memory c.from_residual-in_err-promises.ensures.1
-
-pub visiting::activate-returns-in_err-go_through-clause-called : goal.visiting::activate-returns-in_err-go_through-clause-called
-visiting::activate-returns-in_err-go_through-clause-called g t c =
-    let policy = tree_of c.args.scene.now.checked.now in
-    let instance = c.args.instance.now in
-    let name = c.args.name.now in
-    let n = c.args.scene.now.depth - 1 in
-    let deep : c.args.scene.now.depth ≡ suc n = omega arith in
-    let a = c.in_ok-activation.activation in
-    let of : IsOf (inner_path instance) name c.args.status a = subst (λ (x : List ℕ). IsOf x name c.args.status a) c.in_ok-path.ensures c.in_ok-activation.ensures.is_of in
-    let begins : Begins (inner_path instance) a = subst (λ (x : List ℕ). Begins x a) c.in_ok-path.ensures c.in_ok-activation.ensures.stands in
-    let block = seen_bundle c.in-Some.bundle.now in
-    let ps = map seen_numbered c.deref.result.now in
-    let found : bundle_of policy name ≡ Some block = ap (bundle_of policy) (sym c.as_str.ensures) ∙ sym {a = Some block} {b = bundle_of policy c.as_str.result.now} c.in-Some.ensures in
-    let numbered : ps ≡ numbered_in block = ap (map seen_numbered) c.deref.ensures.value ∙ c.in_ok-promises.ensures.promises in
-    let params = map plain_named c.as_slice.result.now in
-    let params_are : params ≡ params_of block = ap (map plain_named) c.as_slice.ensures in
-    let binds : (s : Setting) (h : History) → Stands s c.args.state.now a h → Stands s c.bind.new.state c.bind.new.activation (bind a.path params c.args.given.now h) =
-    subst (λ (x : List Datum). (s : Setting) (h : History) → Stands s c.args.state.now a h → Stands s c.bind.new.state c.bind.new.activation (bind a.path params x h)) c.as_slice-in-Some.ensures c.in_ok-bind.ensures.stands in
-    on_err (λ result. CallEnds g.T.Teller.teller g.T.Teller.agrees g.T.Teller.behind g.T.Teller.faults policy c.args.scene.now.depth c.args.instance.now c.args.status (c.args.teller.now, (c.args.site.now, c.args.out.now)) (c.go_through.new.teller, (c.go_through.new.site, c.go_through.new.out)) c.args.state.now c.go_through.new.state (g.P.Patterns.shown c.args.pats.now) (g.P.Patterns.shown c.go_through.new.pats) result) c.from_residual-in_err-go_through.result c.in_err-go_through.field-0.0 c.from_residual-in_err-go_through.ensures.1
-    (bundle_stops g.T.Teller.teller g.T.Teller.agrees g.T.Teller.behind g.T.Teller.faults policy c.args.instance.now c.args.status (c.args.teller.now, (c.args.site.now, c.args.out.now)) c.args.state.now (g.P.Patterns.shown c.args.pats.now) c.args.name.now c.args.given.now c.requires.is_call c.requires.names (g.met.T.Teller.steady (c.args.teller.now, (c.args.site.now, c.args.out.now))) c.args.scene.now.depth n deep a of begins block params ps found (found_name policy name block found) params_are numbered c.bind.new.state c.bind.new.activation c.in_ok-bind.ensures.same binds (c.go_through.new.teller, (c.go_through.new.site, c.go_through.new.out)) c.go_through.new.state c.go_through.new.activation (g.P.Patterns.shown c.go_through.new.pats) c.in_err-go_through.field-0.0 c.in_err-go_through.ensures.ends)
-
-pub visiting::activate-returns-in_err-go_through-clause-later : goal.visiting::activate-returns-in_err-go_through-clause-later
-visiting::activate-returns-in_err-go_through-clause-later g t c =
-    no_answer _ c.from_residual-in_err-go_through.result c.in_err-go_through.field-0.0 c.from_residual-in_err-go_through.ensures.1
-
-pub visiting::activate-returns-clause-called : goal.visiting::activate-returns-clause-called
-visiting::activate-returns-clause-called g t c =
-    let policy = tree_of c.args.scene.now.checked.now in
-    let instance = c.args.instance.now in
-    let name = c.args.name.now in
-    let n = c.args.scene.now.depth - 1 in
-    let deep : c.args.scene.now.depth ≡ suc n = omega arith in
-    let a = c.in_ok-activation.activation in
-    let of : IsOf (inner_path instance) name c.args.status a = subst (λ (x : List ℕ). IsOf x name c.args.status a) c.in_ok-path.ensures c.in_ok-activation.ensures.is_of in
-    let begins : Begins (inner_path instance) a = subst (λ (x : List ℕ). Begins x a) c.in_ok-path.ensures c.in_ok-activation.ensures.stands in
-    elim c.match-bundle.branch [
-      | visiting::activate-in-Some+in_ok-bind+in_ok-promises+in_ok-go_through w ↦
-          let block = seen_bundle w.in-Some.bundle.now in
-          let ps = map seen_numbered w.deref.result.now in
-          let found : bundle_of policy name ≡ Some block = ap (bundle_of policy) (sym c.as_str.ensures) ∙ sym {a = Some block} {b = bundle_of policy c.as_str.result.now} w.in-Some.ensures in
-          let numbered : ps ≡ numbered_in block = ap (map seen_numbered) w.deref.ensures.value ∙ w.in_ok-promises.ensures.promises in
-          let params = map plain_named w.as_slice.result.now in
-          let params_are : params ≡ params_of block = ap (map plain_named) w.as_slice.ensures in
-          let binds : (s : Setting) (h : History) → Stands s c.args.state.now a h → Stands s w.bind.new.state w.bind.new.activation (bind a.path params c.args.given.now h) =
-          subst (λ (x : List Datum). (s : Setting) (h : History) → Stands s c.args.state.now a h → Stands s w.bind.new.state w.bind.new.activation (bind a.path params x h)) w.as_slice-in-Some.ensures w.in_ok-bind.ensures.stands in
-          joined g.T.Teller.teller g.T.Teller.agrees g.T.Teller.behind g.T.Teller.faults policy c.args.instance.now c.args.status (c.args.teller.now, (c.args.site.now, c.args.out.now)) c.args.state.now (g.P.Patterns.shown c.args.pats.now) c.args.scene.now.depth g.P.Patterns.shown c.match-bundle.teller w.go_through.new.teller c.match-bundle.site w.go_through.new.site c.match-bundle.out w.go_through.new.out c.match-bundle.state w.go_through.new.state c.match-bundle.pats w.go_through.new.pats c.match-bundle.activation w.go_through.new.activation w.teller-is w.site-is w.out-is w.state-is w.pats-is w.activation-is
-          (call_done g.T.Teller.teller g.T.Teller.agrees g.T.Teller.behind g.T.Teller.faults policy c.args.instance.now c.args.status (c.args.teller.now, (c.args.site.now, c.args.out.now)) c.args.state.now (g.P.Patterns.shown c.args.pats.now) c.args.name.now c.args.given.now c.requires.is_call c.requires.names (g.met.T.Teller.steady (c.args.teller.now, (c.args.site.now, c.args.out.now))) c.args.scene.now.depth n deep a of begins block params ps found (found_name policy name block found) params_are numbered w.bind.new.state w.bind.new.activation w.in_ok-bind.ensures.same binds (w.go_through.new.teller, (w.go_through.new.site, w.go_through.new.out)) w.go_through.new.state w.go_through.new.activation (g.P.Patterns.shown w.go_through.new.pats) w.in_ok-go_through.ensures.ends)
-      | visiting::activate-in_default w ↦
-          let missing : bundle_of policy name ≡ None = ap (bundle_of policy) (sym c.as_str.ensures) ∙ sym {a = None} {b = bundle_of policy c.as_str.result.now} w.in_default.ensures in
-          joined g.T.Teller.teller g.T.Teller.agrees g.T.Teller.behind g.T.Teller.faults policy c.args.instance.now c.args.status (c.args.teller.now, (c.args.site.now, c.args.out.now)) c.args.state.now (g.P.Patterns.shown c.args.pats.now) c.args.scene.now.depth g.P.Patterns.shown c.match-bundle.teller c.args.teller.now c.match-bundle.site c.args.site.now c.match-bundle.out c.args.out.now c.match-bundle.state c.args.state.now c.match-bundle.pats c.args.pats.now c.match-bundle.activation a w.teller-is w.site-is w.out-is w.state-is w.pats-is w.activation-is
-          (call_missing g.T.Teller.teller g.T.Teller.agrees g.T.Teller.behind g.T.Teller.faults policy c.args.instance.now c.args.status (c.args.teller.now, (c.args.site.now, c.args.out.now)) c.args.state.now (g.P.Patterns.shown c.args.pats.now) c.args.name.now c.args.given.now c.requires.is_call c.requires.names (g.met.T.Teller.steady (c.args.teller.now, (c.args.site.now, c.args.out.now))) c.args.scene.now.depth n deep a of begins missing)
-    ]
-
-pub visiting::activate-returns-clause-later : goal.visiting::activate-returns-clause-later
-visiting::activate-returns-clause-later g t c =
-    elim c.match-bundle.branch [
-      | visiting::activate-in-Some+in_ok-bind+in_ok-promises+in_ok-go_through w ↦
-          rw (w.state-is) (later_then c.args.state.now w.bind.new.state w.go_through.new.state w.in_ok-bind.ensures.later.state w.in_ok-go_through.ensures.later.state)
-      | visiting::activate-in_default w ↦ rw (w.state-is) (later_same c.args.state.now)
-    ]
-
-pub visiting::activate-go_through-requires : goal.visiting::activate-go_through-requires
-visiting::activate-go_through-requires g t c κs within =
-    let policy = tree_of c.args.scene.now.checked.now in
-    let instance = c.args.instance.now in
-    let name = c.args.name.now in
-    let block = seen_bundle c.in-Some.bundle.now in
-    let ps = map seen_numbered c.deref.result.now in
-    let found : bundle_of policy name ≡ Some block = ap (bundle_of policy) (sym c.as_str.ensures) ∙ sym {a = Some block} {b = bundle_of policy c.as_str.result.now} c.in-Some.ensures in
-    let numbered : ps ≡ numbered_in block = ap (map seen_numbered) c.deref.ensures.value ∙ c.in_ok-promises.ensures.promises in
-    (search rules, (within.0, (within.1.0, (within.1.1.0, (within.1.1.1, (c.requires.names, (subst AreCounted (sym numbered) (c.ids_are_counted.ensures name block found), subst GuardsRepeat (sym c.deref.ensures.value) c.in_ok-promises.ensures.guards)))))))
-
 pub visiting::call-activate-requires : goal.visiting::call-activate-requires
 visiting::call-activate-requires g t c κs within =
     (search rules, (within.0, (within.1.0, (within.1.1.0, (within.1.1.1, (c.requires.names, c.in-Call.is))))))
 
 pub passing::go_through-pass-requires : goal.passing::go_through-pass-requires
 passing::go_through-pass-requires g t c κs within =
-    let rows = c.in_ok-found.ensures (tree_of c.args.scene.now.checked.now) (map seen_numbered c.args.promises.now) (length-map c.args.promises.now seen_numbered) c.args.state.now c.args.activation.now in
-    (search rules, (within.0, (within.1.0, (within.1.1.0, (within.1.1.1, (c.requires.names, (c.requires.ids, (c.requires.guards, rows))))))))
+    (search rules, (within.0, (within.1.0, (within.1.1.0, (within.1.1.1, (c.requires.names, (c.requires.ids, (c.requires.guards, c.requires.rows))))))))
 
 pub passing::go_through-pass-requires-2 : goal.passing::go_through-pass-requires-2
 passing::go_through-pass-requires-2 g t c κs within =
@@ -657,7 +512,7 @@ passing::reach-reach_instances-requires g t c κs within =
 
 pub passing::reach_instances-visit_each-requires : goal.passing::reach_instances-visit_each-requires
 passing::reach_instances-visit_each-requires g t c κs within =
-    (search rules, (within.0, (within.1.0, (within.1.1.0, (within.1.1.1, (c.requires.names, subst (λ (x : List ℕ). All (IsAt x) c.as_slice-listed.result.now) (sym c.in_ok-found.ensures.later.here.path) (subst (λ (x : List Instance). All (IsAt c.args.activation.now.path) x) (sym c.as_slice-listed.ensures) c.in_ok-found.ensures.at)))))))
+    (search rules, (within.0, (within.1.0, (within.1.1.0, (within.1.1.1, (c.requires.names, subst (λ (x : List ℕ). All (IsAt x) c.instances_of-listed.result.now) (sym c.in_ok-count_instances.ensures.later.here.path) (subst (λ (x : List Instance). All (IsAt c.args.activation.now.path) x) (sym c.instances_of-listed.ensures) c.in_ok-count_instances.ensures.at)))))))
 
 pub passing::reach_type-reach-requires : goal.passing::reach_type-reach-requires
 passing::reach_type-reach-requires g t c κs within =
@@ -749,5 +604,95 @@ passing::reach_type-guard_known-known-requires g t c =
 
 pub passing::reach_instances-count_instances-requires-clause-kept : goal.passing::reach_instances-count_instances-requires-clause-kept
 passing::reach_instances-count_instances-requires-clause-kept g t c =
-    subst (λ (x : Option Found). RowHolds (tree_of c.args.scene.now.checked.now) (seen_numbered c.args.promise.now) x c.args.state.now c.args.activation.now)
-    (sym c.take-before.ensures.value) c.requires.kept
+    c.requires.kept
+
+pub visiting::activate-returns-in-None-clause-called : goal.visiting::activate-returns-in-None-clause-called
+visiting::activate-returns-in-None-clause-called g t c =
+    let policy = tree_of c.args.scene.now.checked.now in
+    let name = c.args.name.now in
+    let n = c.args.scene.now.depth - 1 in
+    let deep : c.args.scene.now.depth ≡ suc n = omega arith in
+    let missing : bundle_of policy name ≡ None = ap (bundle_of policy) (sym c.as_str.ensures) ∙ sym {a = None} {b = bundle_of policy c.as_str.result.now} c.in-None.ensures in
+    call_missing g.T.Teller.teller g.T.Teller.agrees g.T.Teller.behind g.T.Teller.faults policy c.args.instance.now c.args.status (c.args.teller.now, (c.args.site.now, c.args.out.now)) c.args.state.now (g.P.Patterns.shown c.args.pats.now) c.args.name.now c.args.given.now c.requires.is_call c.requires.names (g.met.T.Teller.steady (c.args.teller.now, (c.args.site.now, c.args.out.now))) c.args.scene.now.depth n deep missing
+
+pub visiting::activate-returns-in-None-clause-later : goal.visiting::activate-returns-in-None-clause-later
+visiting::activate-returns-in-None-clause-later g t c =
+    later_same c.args.state.now
+
+pub visiting::activate-returns-in_err-made-in-Some-clause-called : goal.visiting::activate-returns-in_err-made-in-Some-clause-called
+visiting::activate-returns-in_err-made-in-Some-clause-called g t c =
+    let policy = tree_of c.args.scene.now.checked.now in
+    on_err (λ result. CallEnds g.T.Teller.teller g.T.Teller.agrees g.T.Teller.behind g.T.Teller.faults policy c.args.scene.now.depth c.args.instance.now c.args.status (c.args.teller.now, (c.args.site.now, c.args.out.now)) (c.args.teller.now, (c.args.site.now, c.args.out.now)) c.args.state.now c.args.state.now (g.P.Patterns.shown c.args.pats.now) (g.P.Patterns.shown c.args.pats.now) result)
+    c.from_residual.result Memory c.from_residual.ensures.1
+    (call_memory g.T.Teller.teller g.T.Teller.agrees g.T.Teller.behind g.T.Teller.faults policy c.args.instance.now c.args.status (c.args.teller.now, (c.args.site.now, c.args.out.now)) c.args.state.now (g.P.Patterns.shown c.args.pats.now) c.args.scene.now.depth c.args.state.now)
+
+pub visiting::activate-returns-in_err-made-in-Some-clause-later : goal.visiting::activate-returns-in_err-made-in-Some-clause-later
+visiting::activate-returns-in_err-made-in-Some-clause-later g t c =
+    no_answer _ c.from_residual.result Memory c.from_residual.ensures.1
+
+pub visiting::activate-returns-in_err-activation-in-Some-clause-called : goal.visiting::activate-returns-in_err-activation-in-Some-clause-called
+visiting::activate-returns-in_err-activation-in-Some-clause-called g t c =
+    let policy = tree_of c.args.scene.now.checked.now in
+    on_err (λ result. CallEnds g.T.Teller.teller g.T.Teller.agrees g.T.Teller.behind g.T.Teller.faults policy c.args.scene.now.depth c.args.instance.now c.args.status (c.args.teller.now, (c.args.site.now, c.args.out.now)) (c.args.teller.now, (c.args.site.now, c.args.out.now)) c.args.state.now c.begin_call.new.state (g.P.Patterns.shown c.args.pats.now) (g.P.Patterns.shown c.args.pats.now) result)
+    c.from_residual-in_err-activation-in-Some.result Memory c.from_residual-in_err-activation-in-Some.ensures.1
+    (call_memory g.T.Teller.teller g.T.Teller.agrees g.T.Teller.behind g.T.Teller.faults policy c.args.instance.now c.args.status (c.args.teller.now, (c.args.site.now, c.args.out.now)) c.args.state.now (g.P.Patterns.shown c.args.pats.now) c.args.scene.now.depth c.begin_call.new.state)
+
+pub visiting::activate-returns-in_err-activation-in-Some-clause-later : goal.visiting::activate-returns-in_err-activation-in-Some-clause-later
+visiting::activate-returns-in_err-activation-in-Some-clause-later g t c =
+    no_answer _ c.from_residual-in_err-activation-in-Some.result Memory c.from_residual-in_err-activation-in-Some.ensures.1
+
+pub visiting::activate-returns-in_err-ended-in-Some-clause-called : goal.visiting::activate-returns-in_err-ended-in-Some-clause-called
+visiting::activate-returns-in_err-ended-in-Some-clause-called g t c =
+    let policy = tree_of c.args.scene.now.checked.now in
+    let path = inner_path c.args.instance.now in
+    let name = c.args.name.now in
+    let n = c.args.scene.now.depth - 1 in
+    let deep : c.args.scene.now.depth ≡ suc n = omega arith in
+    let block = seen_bundle c.in-Some.bundle.now in
+    let ps = map seen_numbered c.deref.result.now in
+    let numbered : ps ≡ numbered_in block = ap (map seen_numbered) c.deref.ensures.value ∙ c.in_ok-made-in-Some.ensures.promises in
+    let found : bundle_of policy name ≡ Some block = ap (bundle_of policy) (sym c.as_str.ensures) ∙ sym {a = Some block} {b = bundle_of policy c.as_str.result.now} c.in-Some.ensures in
+    let begins : BeginsCall path (params_of block) c.args.given.now c.args.state.now c.begin_call.new.state c.in_ok-activation-in-Some.activation =
+    subst (λ (xs : List NamedTree). BeginsCall path xs c.args.given.now c.args.state.now c.begin_call.new.state c.in_ok-activation-in-Some.activation) (ap (map plain_named) c.as_slice-params.ensures)
+    c.in_ok-activation-in-Some.ensures.stands in
+    let stop = c.in_err-ended-in-Some.field-0.0 in
+    on_err (λ result. CallEnds g.T.Teller.teller g.T.Teller.agrees g.T.Teller.behind g.T.Teller.faults policy c.args.scene.now.depth c.args.instance.now c.args.status (c.args.teller.now, (c.args.site.now, c.args.out.now)) (c.go_through-ended.new.teller, (c.go_through-ended.new.site, c.go_through-ended.new.out)) c.args.state.now c.go_through-ended.new.state (g.P.Patterns.shown c.args.pats.now) (g.P.Patterns.shown c.go_through-ended.new.pats) result)
+    c.from_residual-in_err-ended-in-Some.result stop c.from_residual-in_err-ended-in-Some.ensures.1
+    (bundle_stops g.T.Teller.teller g.T.Teller.agrees g.T.Teller.behind g.T.Teller.faults policy c.args.instance.now c.args.status (c.args.teller.now, (c.args.site.now, c.args.out.now)) c.args.state.now (g.P.Patterns.shown c.args.pats.now) c.args.name.now c.args.given.now c.requires.is_call c.requires.names (g.met.T.Teller.steady (c.args.teller.now, (c.args.site.now, c.args.out.now))) c.args.scene.now.depth n deep block ps found (found_name policy name block found) numbered c.begin_call.new.state c.in_ok-activation-in-Some.activation c.in_ok-activation-in-Some.ensures.is_of begins (c.go_through-ended.new.teller, (c.go_through-ended.new.site, c.go_through-ended.new.out)) c.go_through-ended.new.state c.go_through-ended.new.activation (g.P.Patterns.shown c.go_through-ended.new.pats) stop c.in_err-ended-in-Some.ensures.ends)
+
+pub visiting::activate-returns-in_err-ended-in-Some-clause-later : goal.visiting::activate-returns-in_err-ended-in-Some-clause-later
+visiting::activate-returns-in_err-ended-in-Some-clause-later g t c =
+    no_answer _ c.from_residual-in_err-ended-in-Some.result c.in_err-ended-in-Some.field-0.0 c.from_residual-in_err-ended-in-Some.ensures.1
+
+pub visiting::activate-returns-in_ok-ended-in-Some-clause-called : goal.visiting::activate-returns-in_ok-ended-in-Some-clause-called
+visiting::activate-returns-in_ok-ended-in-Some-clause-called g t c =
+    let policy = tree_of c.args.scene.now.checked.now in
+    let path = inner_path c.args.instance.now in
+    let name = c.args.name.now in
+    let n = c.args.scene.now.depth - 1 in
+    let deep : c.args.scene.now.depth ≡ suc n = omega arith in
+    let block = seen_bundle c.in-Some.bundle.now in
+    let ps = map seen_numbered c.deref.result.now in
+    let numbered : ps ≡ numbered_in block = ap (map seen_numbered) c.deref.ensures.value ∙ c.in_ok-made-in-Some.ensures.promises in
+    let found : bundle_of policy name ≡ Some block = ap (bundle_of policy) (sym c.as_str.ensures) ∙ sym {a = Some block} {b = bundle_of policy c.as_str.result.now} c.in-Some.ensures in
+    let begins : BeginsCall path (params_of block) c.args.given.now c.args.state.now c.begin_call.new.state c.in_ok-activation-in-Some.activation =
+    subst (λ (xs : List NamedTree). BeginsCall path xs c.args.given.now c.args.state.now c.begin_call.new.state c.in_ok-activation-in-Some.activation) (ap (map plain_named) c.as_slice-params.ensures)
+    c.in_ok-activation-in-Some.ensures.stands in
+    call_done g.T.Teller.teller g.T.Teller.agrees g.T.Teller.behind g.T.Teller.faults policy c.args.instance.now c.args.status (c.args.teller.now, (c.args.site.now, c.args.out.now)) c.args.state.now (g.P.Patterns.shown c.args.pats.now) c.args.name.now c.args.given.now c.requires.is_call c.requires.names (g.met.T.Teller.steady (c.args.teller.now, (c.args.site.now, c.args.out.now))) c.args.scene.now.depth n deep block ps found (found_name policy name block found) numbered c.begin_call.new.state c.in_ok-activation-in-Some.activation c.in_ok-activation-in-Some.ensures.is_of begins (c.go_through-ended.new.teller, (c.go_through-ended.new.site, c.go_through-ended.new.out)) c.go_through-ended.new.state c.go_through-ended.new.activation (g.P.Patterns.shown c.go_through-ended.new.pats) c.in_ok-ended-in-Some.ensures.ends
+
+pub visiting::activate-returns-in_ok-ended-in-Some-clause-later : goal.visiting::activate-returns-in_ok-ended-in-Some-clause-later
+visiting::activate-returns-in_ok-ended-in-Some-clause-later g t c =
+    later_then c.args.state.now c.begin_call.new.state c.go_through-ended.new.state c.in_ok-activation-in-Some.ensures.later c.in_ok-ended-in-Some.ensures.later.state
+
+pub visiting::activate-go_through-ended-requires : goal.visiting::activate-go_through-ended-requires
+visiting::activate-go_through-ended-requires g t c κs within =
+    let policy = tree_of c.args.scene.now.checked.now in
+    let name = c.args.name.now in
+    let made = c.in_ok-made-in-Some in
+    let activation = c.in_ok-activation-in-Some.activation in
+    let block = seen_bundle c.in-Some.bundle.now in
+    let ps = map seen_numbered c.deref.result.now in
+    let found : bundle_of policy name ≡ Some block = ap (bundle_of policy) (sym c.as_str.ensures) ∙ sym {a = Some block} {b = bundle_of policy c.as_str.result.now} c.in-Some.ensures in
+    let numbered : ps ≡ numbered_in block = ap (map seen_numbered) c.deref.ensures.value ∙ made.ensures.promises in
+    let rows = subst (λ (xs : List Held). RowsHold policy (map seen_numbered xs) made.made.rows.items c.begin_call.new.state activation) (sym c.deref.ensures.value) (made.ensures.rows policy c.begin_call.new.state activation) in
+    (search rules, (within.0, (within.1.0, (within.1.1.0, (within.1.1.1, (c.requires.names, (subst AreCounted (sym numbered) (c.ids_are_counted.ensures name block found), (subst GuardsRepeat (sym c.deref.ensures.value) made.ensures.guards, rows))))))))
