@@ -5,6 +5,7 @@ ghost use Rattle.cfa_schema.specs.Laws.{IsCounted};
 ghost use Rattle.cfa_schema.specs.Seen.{tree_of};
 ghost use Rattle.cfa_states.specs.Kept.{AreLater, GuardsRepeat, RowHolds, RowsHold, guard_now, seen_numbered};
 ghost use Rattle.cfa_states.specs.Levels.{Ends, HasPlainNames};
+ghost use Rattle.cfa_states.specs.Numbered.{agent_types};
 ghost use Rattle.cfa_walk.specs.Steps.{AreCounted, acting_level, reach_level, type_level, pass_level, passes_level};
 
 use crate::counting::{count_instances, instances_of};
@@ -149,6 +150,20 @@ fn reach_type<S, O, T: Teller<S, O>, P: Patterns>(
     Ok(())
 }
 
+// The types whose promises a pass reaches, one after the other.
+fn types_in_pass() -> [PromiseType; 6]
+    ensures { result ≡ agent_types }
+{
+    [
+        PromiseType::Vars,
+        PromiseType::Classes,
+        PromiseType::Files,
+        PromiseType::Methods,
+        PromiseType::Services,
+        PromiseType::Reports,
+    ]
+}
+
 // Goes through the promises of a bundle once, type by type.
 #[cycle(passes)]
 #[tactic(none)]
@@ -176,15 +191,7 @@ fn pass<S, O, T: Teller<S, O>, P: Patterns>(
     ensures rows { OnOk result (RowsHold (tree_of scene.now.checked.now)
         (map seen_numbered promises.now) rows.new.items state.new activation.new) }
 {
-    let types = [
-        PromiseType::Vars,
-        PromiseType::Classes,
-        PromiseType::Files,
-        PromiseType::Methods,
-        PromiseType::Services,
-        PromiseType::Reports,
-    ];
-    for kind in types {
+    for kind in types_in_pass() {
         reach_type(
             scene, promises, kind, rows, state, activation, teller, site, out, pats,
         )?;

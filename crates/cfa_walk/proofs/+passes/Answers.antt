@@ -1,4 +1,4 @@
-use Rattle.std.proofs.Common.{◌≡◌, ◌∙◌, ℕ, All, suc, ◌+◌, ◌-◌, ◌<◌, List, length, Option, Some, None, get_or, [], ◌∷◌, ◌++◌, map, take, drop, refl, sym, ap, subst, Bool, false, rules, arith}
+use Rattle.std.proofs.Common.{◌≡◌, ◌∙◌, ℕ, All, suc, ◌+◌, ◌-◌, ◌<◌, ◌≤◌, List, length, Option, Some, None, get_or, [], ◌∷◌, ◌++◌, map, take, drop, refl, sym, ap, subst, Bool, false, rules, arith}
 use Rattle.std.specs.Prelude.{Ok, Err}
 use Rattle.std.proofs.lemmas.List.{get_or_default, length-map, take_all, take_more, take-append-drop}
 use Rattle.cfa_base.specs.lemmas.Results.{on_err}
@@ -77,16 +77,16 @@ pub passing::pass-loop-kind-init : goal.passing::pass-loop-kind-init
 passing::pass-loop-kind-init g t c =
     let policy = tree_of c.args.scene.now.checked.now in
     let ps = map seen_numbered c.args.promises.now in
-    (loop_begins g.T.Teller.teller g.T.Teller.agrees g.T.Teller.behind g.T.Teller.faults policy (λ (x : PromiseType). type_level c.args.scene.now.depth ps x) (c.args.teller.now, (c.args.site.now, c.args.out.now)) c.args.state.now c.args.activation.now (g.P.Patterns.shown c.args.pats.now), (are_same c.args.state.now c.args.activation.now, (c.requires.rows, refl)))
+    (loop_begins g.T.Teller.teller g.T.Teller.agrees g.T.Teller.behind g.T.Teller.faults policy (λ (x : PromiseType). type_level c.args.scene.now.depth ps x) (c.args.teller.now, (c.args.site.now, c.args.out.now)) c.args.state.now c.args.activation.now (g.P.Patterns.shown c.args.pats.now), (are_same c.args.state.now c.args.activation.now, (c.requires.rows, c.types_in_pass-kind-items.ensures)))
 
 pub passing::pass-loop-kind-preserved : goal.passing::pass-loop-kind-preserved
 passing::pass-loop-kind-preserved g t c =
     let policy = tree_of c.args.scene.now.checked.now in
     let ps = map seen_numbered c.args.promises.now in
-    let types = agent_types in
+    let types = c.types_in_pass-kind-items.result in
     let i = c.loop-kind.kind-index in
     let type = get_or types i Vars in
-    let one : take (i + 1) types ≡ take i types ++ type ∷ [] = take_more types i Vars c.loop-kind-test.true in (
+    let one : take (i + 1) types ≡ take i types ++ type ∷ [] = take_more types i Vars (subst (λ (n : ℕ). i < n) (sym (ap length c.types_in_pass-kind-items.ensures)) c.loop-kind-test.true) in (
       loop_goes_on g.T.Teller.teller g.T.Teller.agrees g.T.Teller.behind g.T.Teller.faults policy (λ (x : PromiseType). type_level c.args.scene.now.depth ps x) (take (i + 1) types) (take i types) type (c.args.teller.now, (c.args.site.now, c.args.out.now)) (c.loop-kind.teller, (c.loop-kind.site, c.loop-kind.out)) (c.reach_type.new.teller, (c.reach_type.new.site, c.reach_type.new.out)) c.args.state.now c.loop-kind.state c.reach_type.new.state c.args.activation.now c.loop-kind.activation c.reach_type.new.activation (g.P.Patterns.shown c.args.pats.now) (g.P.Patterns.shown c.loop-kind.pats) (g.P.Patterns.shown c.reach_type.new.pats) (Ok tt)
           one c.loop-kind.invariant.0 c.in_ok-reach_type.ensures.ends,
       (
@@ -99,17 +99,18 @@ pub passing::pass-returns-in_err-reach_type-clause-ends : goal.passing::pass-ret
 passing::pass-returns-in_err-reach_type-clause-ends g t c =
     let policy = tree_of c.args.scene.now.checked.now in
     let ps = map seen_numbered c.args.promises.now in
-    let types = agent_types in
+    let types = c.types_in_pass-kind-items.result in
     let i = c.loop-kind.kind-index in
     let type = get_or types i Vars in
-    let one : take (i + 1) types ≡ take i types ++ type ∷ [] = take_more types i Vars c.loop-kind-test.true in
+    let one : take (i + 1) types ≡ take i types ++ type ∷ [] = take_more types i Vars (subst (λ (n : ℕ). i < n) (sym (ap length c.types_in_pass-kind-items.ensures)) c.loop-kind-test.true) in
     let stop = c.in_err-reach_type.field-0.0 in
     on_err (λ result. Ends g.T.Teller.teller g.T.Teller.agrees g.T.Teller.behind g.T.Teller.faults policy (pass_level c.args.scene.now.depth ps) (c.args.teller.now, (c.args.site.now, c.args.out.now)) (c.reach_type.new.teller, (c.reach_type.new.site, c.reach_type.new.out)) c.args.state.now c.reach_type.new.state c.args.activation.now c.reach_type.new.activation (g.P.Patterns.shown c.args.pats.now) (g.P.Patterns.shown c.reach_type.new.pats) result)
     c.from_residual.result c.in_err-reach_type.field-0.0 c.from_residual.ensures.1
-    (loop_stops g.T.Teller.teller g.T.Teller.agrees g.T.Teller.behind g.T.Teller.faults policy (λ (x : PromiseType). type_level c.args.scene.now.depth ps x) (type_keeps c.args.scene.now.depth ps) agent_types (take (i + 1) types) (drop (i + 1) types) (c.args.teller.now, (c.args.site.now, c.args.out.now)) (c.reach_type.new.teller, (c.reach_type.new.site, c.reach_type.new.out)) c.args.state.now c.reach_type.new.state c.args.activation.now c.reach_type.new.activation (g.P.Patterns.shown c.args.pats.now) (g.P.Patterns.shown c.reach_type.new.pats) stop
+    (subst (λ (x : List PromiseType). Ends g.T.Teller.teller g.T.Teller.agrees g.T.Teller.behind g.T.Teller.faults policy (types_level c.args.scene.now.depth ps x) (c.args.teller.now, (c.args.site.now, c.args.out.now)) (c.reach_type.new.teller, (c.reach_type.new.site, c.reach_type.new.out)) c.args.state.now c.reach_type.new.state c.args.activation.now c.reach_type.new.activation (g.P.Patterns.shown c.args.pats.now) (g.P.Patterns.shown c.reach_type.new.pats) (Err stop)) c.types_in_pass-kind-items.ensures
+    (loop_stops g.T.Teller.teller g.T.Teller.agrees g.T.Teller.behind g.T.Teller.faults policy (λ (x : PromiseType). type_level c.args.scene.now.depth ps x) (type_keeps c.args.scene.now.depth ps) types (take (i + 1) types) (drop (i + 1) types) (c.args.teller.now, (c.args.site.now, c.args.out.now)) (c.reach_type.new.teller, (c.reach_type.new.site, c.reach_type.new.out)) c.args.state.now c.reach_type.new.state c.args.activation.now c.reach_type.new.activation (g.P.Patterns.shown c.args.pats.now) (g.P.Patterns.shown c.reach_type.new.pats) stop
     (sym (take-append-drop (i + 1) types))
     (loop_goes_on g.T.Teller.teller g.T.Teller.agrees g.T.Teller.behind g.T.Teller.faults policy (λ (x : PromiseType). type_level c.args.scene.now.depth ps x) (take (i + 1) types) (take i types) type (c.args.teller.now, (c.args.site.now, c.args.out.now)) (c.loop-kind.teller, (c.loop-kind.site, c.loop-kind.out)) (c.reach_type.new.teller, (c.reach_type.new.site, c.reach_type.new.out)) c.args.state.now c.loop-kind.state c.reach_type.new.state c.args.activation.now c.loop-kind.activation c.reach_type.new.activation (g.P.Patterns.shown c.args.pats.now) (g.P.Patterns.shown c.loop-kind.pats) (g.P.Patterns.shown c.reach_type.new.pats) (Err stop)
-    one c.loop-kind.invariant.0 c.in_err-reach_type.ensures.ends))
+    one c.loop-kind.invariant.0 c.in_err-reach_type.ensures.ends)))
 
 pub passing::pass-returns-in_err-reach_type-clause-later : goal.passing::pass-returns-in_err-reach_type-clause-later
 passing::pass-returns-in_err-reach_type-clause-later g t c =
@@ -124,7 +125,7 @@ passing::pass-returns-clause-ends g t c =
     let policy = tree_of c.args.scene.now.checked.now in
     let ps = map seen_numbered c.args.promises.now in
     subst (λ (x : List PromiseType). Ends g.T.Teller.teller g.T.Teller.agrees g.T.Teller.behind g.T.Teller.faults policy (types_level c.args.scene.now.depth ps x) (c.args.teller.now, (c.args.site.now, c.args.out.now)) (c.loop-kind.teller, (c.loop-kind.site, c.loop-kind.out)) c.args.state.now c.loop-kind.state c.args.activation.now c.loop-kind.activation (g.P.Patterns.shown c.args.pats.now) (g.P.Patterns.shown c.loop-kind.pats) (Ok tt))
-    (take_all c.loop-kind.kind-index agent_types c.loop-kind-test.false) c.loop-kind.invariant.0
+    (take_all c.loop-kind.kind-index c.types_in_pass-kind-items.result (subst (λ (n : ℕ). n ≤ c.loop-kind.kind-index) (sym (ap length c.types_in_pass-kind-items.ensures)) c.loop-kind-test.false) ∙ c.types_in_pass-kind-items.ensures) c.loop-kind.invariant.0
 
 pub passing::pass-returns-clause-later : goal.passing::pass-returns-clause-later
 passing::pass-returns-clause-later g t c =
