@@ -57,5 +57,5 @@ pub fn set_lock<S: Site>(
         return Ok(());
     }
     let key = key(alloc, &instance.text)?;
-    put(alloc, &Change::PutLock(key, moment), site)
+    put(alloc, Change::PutLock(key, moment), site)
 }

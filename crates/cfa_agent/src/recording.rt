@@ -90,11 +90,11 @@ fn fail_of(
 }
 
 /// Makes a change that no act asks for, and that fits every world: a record or a lock.
-pub fn put<S: Site>(alloc: Global, change: &Change, site: &mut S) -> Result<(), Stop>
-    requires { (world : World) → IsTrue (fits change.now world) }
-    ensures { Writes (Did change.now ∷ []) (S.shown site.old) (S.shown site.new) result }
+pub fn put<S: Site>(alloc: Global, change: Change, site: &mut S) -> Result<(), Stop>
+    requires { (world : World) → IsTrue (fits change world) }
+    ensures { Writes (Did change ∷ []) (S.shown site.old) (S.shown site.new) result }
 {
-    match site.change(alloc, change) {
+    match site.change(alloc, &change) {
         Ok(()) => Ok(()),
         Err(OutsideErr::Failed) => Err(Stop::Outside(Object::Site)),
         Err(OutsideErr::NoMemory) => Err(Stop::Memory),
@@ -106,7 +106,7 @@ fn put_record<S: Site>(alloc: Global, item: &Record, site: &mut S) -> Result<(),
     ensures { Writes (appended item.now ∷ []) (S.shown site.old) (S.shown site.new) result }
 {
     let change = append_of(alloc, item)?;
-    put(alloc, &change, site)
+    put(alloc, change, site)
 }
 
 // Writes that the run begins, unless it has a record already.
@@ -131,9 +131,9 @@ fn open<S: Site>(
     ensures { Writes (opening heading instance.now)
         (S.shown site.old) (S.shown site.new) result }
 {
-    let record = open_of(alloc, heading, instance)?;
     put_run(alloc, heading, site)?;
-    put(alloc, &record, site)
+    let record = open_of(alloc, heading, instance)?;
+    put(alloc, record, site)
 }
 
 /// Writes that the first change of an instance comes next, where none was made so far.
@@ -166,9 +166,9 @@ fn put_fail<S: Site>(
     ensures { Writes (failing heading instance.now reason)
         (S.shown site.old) (S.shown site.new) result }
 {
-    let record = fail_of(alloc, heading, instance, reason)?;
     put_run(alloc, heading, site)?;
-    put(alloc, &record, site)
+    let record = fail_of(alloc, heading, instance, reason)?;
+    put(alloc, record, site)
 }
 
 // Whether a change was made, or one was begun and refused.
