@@ -30,7 +30,7 @@ use Rattle.cfa_main.specs.Calls as calls
 use Rattle.cfa_main.specs.declared.work.PolicyRun.{PolicyRun}
 use Rattle.cfa_main.specs.Calls.{IsAnalysedIn, runs, judges, Does, RefusesRequest, TakesRequest, AsksTask, AsksUnaccepted, IsUnaccepted, TakenIsNotRefused, ran}
 use Rattle.cfa_main.specs.Done.{IsDone, IsPut, Stands, Puts, HasFault, refused_with, status_of}
-use Rattle.cfa_main.specs.Ends.{IsEnd, IsStop, IsNotDone, IsRun, IsAnalysed, IsObeying, AsksRun, AsksNoRun, AsksAnalysis, AsksToObey, AsksRefused, RefusesCall, of_words, of_moment, of_request, PutsRefusal, IsUnread, ReadsInTurn, PutsLast, StopsReading, StopsAtSite, AnalysisBuilt, RunBuilt, RefusesBefore, RefusesInRun, RefusesText, before_work, in_run, StopsAtPattern, stops_before, stops_in_run, StopsAtVisits, by_analysis, by_run}
+use Rattle.cfa_main.specs.Ends.{IsEnd, IsStop, IsNotDone, IsRun, IsAnalysed, IsObeying, AsksRun, AsksNoRun, AsksAnalysis, AsksToObey, AsksTaken, AsksRefused, RefusesCall, of_words, of_moment, of_request, PutsRefusal, IsUnread, ReadsInTurn, PutsLast, StopsReading, StopsAtSite, AnalysisBuilt, RunBuilt, RefusesBefore, RefusesInRun, RefusesText, before_work, in_run, StopsAtPattern, stops_before, stops_in_run, StopsAtVisits, by_analysis, by_run}
 use Rattle.cfa_main.specs.Stages.{RunPerformed, RunsPolicy, Obeys, setting_in, task_of, IsAsked, OnlyRefused, Prepared, OneSetting, MayRun, PolicyRan, not_made, made, Performed, PutsEnd, PutsStop, status_of_stop, Called, not_prepared, ended, stopped_at_work}
 use Rattle.cfa_agent.specs.lemmas.Hosts.{adds_none}
 use Rattle.cfa_main.proofs.Told.{untouched_both, both_weaker, both, along, fault_along, fault_before}
@@ -447,10 +447,18 @@ module _ (words : List (List ℕ)) (moment : ℕ) (inputs inputs' : Shown Librar
   abbrev StopsHere : Work → Stop → Shown (List ℕ) → Type 0
   StopsHere work stop mid = Performed work moment site site' out mid pats pats' (Err stop)
 
+  -- the words ask for what is done, and in time
+  taken_run : (order : PolicyRun) (a : IsAsked words moment inputs.told (Run order)) (lib : Library) → TakesRequest lib.texts moment a.request (task_of (Run order)) → AsksTaken words moment lib.texts
+  taken_run order a lib taken = (a.in_time, (task_of (Run order), asked_task words moment inputs.told (Run order) a lib taken))
+
   limit_of_visits : OneSetting → (work : Work) (mid : Shown (List ℕ)) → Prepared words moment inputs inputs' pats pats (Ok work) → StopsHere work Visits mid → Follows (adds_bytes visits_line) mid out' →
       StopsAtVisits words moment inputs.told site site' out out' pats pats'
   limit_of_visits one (Run order) mid p (made may q) put = by_run (asks_run words moment inputs.told (Run order) p.work tt)
-      (some_weaker inputs.told _ _ (λ lib told taken. (asks_run words moment inputs.told (Run order) p.work tt, unaccepted_not_made one order p.work may lib taken)) p.work.is_work.taken)
+      (some_weaker inputs.told _ _ (λ lib told taken. (
+        asks_run words moment inputs.told (Run order) p.work tt,
+        taken_run order p.work lib taken,
+        unaccepted_not_made one order p.work may lib taken,
+      )) p.work.is_work.taken)
       (some_weaker inputs.told _ _ (λ lib told taken. both_weaker _ _ site site' (λ before after cut. record {
         setting = setting_in order.policy;
         has_locks = order.locks;
@@ -506,13 +514,13 @@ module _ (words : List (List ℕ)) (moment : ℕ) (inputs inputs' : Shown Librar
       RunPerformed (setting_in order.policy) moment order.locks site site' out mid pats pats' (Err (Pattern text)) → RunBuilt words moment inputs.told site site' text
   built_by_run order text mid a q = (
     asks_run words moment inputs.told (Run order) a tt,
-    some_weaker inputs.told _ _ (λ lib told taken. both_weaker _ _ site site' (λ before after built. record {
+    some_weaker inputs.told _ _ (λ lib told taken. (taken_run order a lib taken, both_weaker _ _ site site' (λ before after built. record {
       setting = setting_in order.policy;
       has_locks = order.locks;
       is_strict = order.strict;
       asks = asked_task words moment inputs.told (Run order) a lib taken;
       built = built;
-    }) q.built) a.is_work.taken,
+    }) q.built)) a.is_work.taken,
   )
 
   -- before a run, with nothing put, or in it

@@ -81,9 +81,11 @@ AsksTaken words moment texts = (moment ≤ LAST_MOMENT) × ((task : Task) × Ask
 abbrev pub AsksRefused : (words : List (List ℕ)) → Texts → Type 0
 AsksRefused words texts = Asks (λ request. (line : List ℕ) × RefusesRequest texts request line) words
 
--- the words ask for a run that is made, as far as the analysis goes: not for a strict run of a policy that isn't accepted
+-- the words ask in time for a run of a policy that is taken, and that is made as far as the analysis goes: it isn't a strict one of a policy
+-- that isn't accepted
 abbrev pub AsksMadeRun : (words : List (List ℕ)) → (moment : ℕ) → Texts → Type 0
-AsksMadeRun words moment texts = AsksRun words × (AsksUnaccepted words moment texts → ⊥)
+AsksMadeRun words moment texts =
+    AsksRun words × AsksTaken words moment texts × (AsksUnaccepted words moment texts → ⊥)
 
 -- the status is that of a refusal or of a pattern that is too big
 abbrev pub IsNotDone : (status : ℕ) → Type 0
@@ -165,11 +167,12 @@ abbrev pub AnalysisBuilt : (words : List (List ℕ)) → (moment : ℕ) → (tol
 AnalysisBuilt words moment told text =
     AsksAnalysis words × IfSome told (λ library. AnalysisBuildsText words moment library.texts text)
 
--- the text is one that the run builds, by its definition under the marks of the entries so far, as far as is told
+-- the text is one that the run builds, of a policy that is taken, by its definition under the marks of the entries so far, as far as is
+-- told
 abbrev pub RunBuilt :
     (words : List (List ℕ)) → (moment : ℕ) → (told : Option Library) → (site site' : Shown Told) → (text : List ℕ) → Type 0
 RunBuilt words moment told site site' text =
-    AsksRun words × IfSome told (λ library. IfBothTold (λ before after.
+    AsksRun words × IfSome told (λ library. AsksTaken words moment library.texts × IfBothTold (λ before after.
     RunBuildsText words moment library.texts before.world (marks_of (added before after)) text) site site')
 
 -- a text was refused for its size before anything was done on the site: one of the patterns of the policy that is checked or run, or one
@@ -202,8 +205,8 @@ pub data StopsAtPattern (words : List (List ℕ)) (moment : ℕ) (told : Option 
   stops_in_run : RefusesInRun words moment told site site' pats pats' → PutsLast pattern_line out' →
       StopsAtPattern words moment told site site' out out' pats pats'
 
--- a call was stopped by too many visits, of the analysis that it obeys, so that the stop's line is all that was done; or of its run, which
--- was made, by the run's definition under the marks of the entries so far
+-- a call was stopped by too many visits, of the analysis that it obeys, so that the stop's line is all that was done; or of its run, of a
+-- policy that was taken, which was made, by the run's definition under the marks of the entries so far
 pub data StopsAtVisits (words : List (List ℕ)) (moment : ℕ) (told : Option Library)
     (site site' : Shown Told) (out out' : Shown (List ℕ))
     (pats pats' : Shown (List (List ℕ))) : Type 0 where

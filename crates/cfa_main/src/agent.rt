@@ -99,9 +99,9 @@ pub fn agent_main<I: Inputs, S: Site, O: Sink, P: Patterns>(
     ensures site_untouched { AsksNoRun words.now → Untouched (S.shown site.old) (S.shown site.new) }
     ensures range { IsEnd result ⊎ IsStop result }
 
-    // Status 1 comes exactly for refused words, a refused moment and a refused policy or journal, unless a pattern is too
-    // big. Then the line of the refusal was put and nothing was done on the site, nor anything read where the words or the
-    // moment are refused.
+    // Status 1 comes exactly for refused words, a refused moment and a refused policy or journal, unless a put fails, memory
+    // ends or a pattern is too big. Then the line of the refusal was put and nothing was done on the site, nor anything read
+    // where the words or the moment are refused.
     ensures refused { result ≡ 1 →
         PutsRefusal words.now moment (I.shown inputs.old).told (O.shown out.old) (O.shown out.new) }
     ensures refused_untouched { result ≡ 1 → Untouched (S.shown site.old) (S.shown site.new) }
@@ -164,7 +164,8 @@ pub fn agent_main<I: Inputs, S: Site, O: Sink, P: Patterns>(
     // Status 6 has two causes, which the last line tells apart. A pattern of a policy that is checked or run was refused for
     // its size, after all its files were read and nothing else was refused, or one that its analysis builds, before anything else was
     // done; or one that a run builds. Or the analysis that a check or a strict run obeys needs more visits than it may make, before
-    // anything was done; or a run does, by its definition under the marks of the entries so far.
+    // anything was done; or a run does, by its definition under the marks of the entries so far. A run of a policy that is refused
+    // is none of these, whatever the site tells.
     ensures pattern_or_visits { result ≡ 6 →
         StopsAtPattern words.now moment (I.shown inputs.old).told
         (S.shown site.old) (S.shown site.new)
