@@ -514,13 +514,16 @@ module _ (words : List (List ℕ)) (moment : ℕ) (inputs inputs' : Shown Librar
       RunPerformed (setting_in order.policy) moment order.locks site site' out mid pats pats' (Err (Pattern text)) → RunBuilt words moment inputs.told site site' text
   built_by_run order text mid a q = (
     asks_run words moment inputs.told (Run order) a tt,
-    some_weaker inputs.told _ _ (λ lib told taken. (taken_run order a lib taken, both_weaker _ _ site site' (λ before after built. record {
-      setting = setting_in order.policy;
-      has_locks = order.locks;
-      is_strict = order.strict;
-      asks = asked_task words moment inputs.told (Run order) a lib taken;
-      built = built;
-    }) q.built)) a.is_work.taken,
+    some_weaker inputs.told _ _ (λ lib told taken. (
+      taken_run order a lib taken,
+      both_weaker _ _ site site' (λ before after built. record {
+        setting = setting_in order.policy;
+        has_locks = order.locks;
+        is_strict = order.strict;
+        asks = asked_task words moment inputs.told (Run order) a lib taken;
+        built = built;
+      }) q.built,
+    )) a.is_work.taken,
   )
 
   -- before a run, with nothing put, or in it
