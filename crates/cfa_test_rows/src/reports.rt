@@ -84,6 +84,11 @@ impl Report {
         }
     }
 
+    // A text with another one in the places of a mark.
+    pub fn replaced(&mut self, text: &str, mark: &str, other: &str) -> String {
+        self.made(text.replace(self.alloc, mark, other))
+    }
+
     // The digits of a number.
     pub fn digits(&mut self, number: u64) -> String {
         self.made(format!(in self.alloc; "{number}"))

@@ -1,18 +1,22 @@
 // What a run adds to the log of its host, as lines.
 use crate::reports::Report;
-use cfa_base::{Bytes, Name, escape_bytes};
+use cfa_base::{Bytes, Key, Name, escape_bytes};
 use cfa_locks::key;
 use cfa_outside::{Call, Change, Entry, Perms, ServiceRow};
+use std::alloc::Global;
 use std::str;
+
+// The key of a text. None comes for want of memory alone.
+fn key_of(alloc: Global, text: &str) -> Option<Key> {
+    let text = Name::from_text(alloc, text).ok()?;
+    key(alloc, &text).ok()
+}
 
 // Adds the key of a text.
 fn add_key(whole: &mut String, text: &str, report: &mut Report) {
-    let Ok(text) = Name::from_text(report.alloc, text) else {
-        return report.require(false, text);
-    };
-    match key(report.alloc, &text) {
-        Ok(key) => report.add(whole, &[key.text()]),
-        Err(_) => report.require(false, text.as_str()),
+    match key_of(report.alloc, text) {
+        Some(key) => report.add(whole, &[key.text()]),
+        None => report.require(false, text),
     }
 }
 

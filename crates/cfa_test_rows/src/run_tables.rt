@@ -104,8 +104,8 @@ pub fn compare_row<T: Top>(frame: &str, row: &str, report: &mut Report) {
 // A text with a field in the places of the mark of its number.
 fn with_field(text: &str, place: u64, field: &str, report: &mut Report) -> String {
     let mark = report.made(format!(in report.alloc; "<{place}>"));
-    let field = report.made(field.replace(report.alloc, "¶", "\n"));
-    report.made(text.replace(report.alloc, mark.as_str(), field.as_str()))
+    let field = report.replaced(field, "¶", "\n");
+    report.replaced(text, mark.as_str(), field.as_str())
 }
 
 // A row with the fields of a line in the places of `<0>`, `<1>` ..

@@ -44,12 +44,9 @@ fn compare_rows<T: Top>(reader: &str, name: &str, front: &str, rows: &str, repor
     }
 }
 
-// The text has rows. Only lines with fields and the text of a frame stand in front of them.
-fn is_table(reader: &str, text: &str) -> bool {
-    match reader {
-        "filled" | "framed" => text.contains("\n== "),
-        _ => text.starts_with("== "),
-    }
+// There are rows, and nothing in front of them but where the reader wants lines with fields, or the text of a frame.
+fn is_table(reader: &str, front: &str, rows: &str) -> bool {
+    !rows.is_empty() && (front.is_empty() || matches!(reader, "filled" | "framed"))
 }
 
 // Compares the rows of a table, which is told by the word of its reader and its name, and prints their number and that of their calls.
@@ -58,7 +55,7 @@ fn run_table<T: Top>(told: &str, report: &mut Report) {
     let text = report.read(name, ".rows");
     let (_, text) = parts(text.as_str(), "\n\n");
     let (front, rows) = parts(text, "== ");
-    if is_table(reader, text) {
+    if is_table(reader, front, rows) {
         compare_rows::<T>(reader, name, front, rows, report);
     } else {
         report.require(false, "rows");

@@ -8,10 +8,7 @@ pub type Files = Vec<(Name, Bytes)>;
 
 // The two parts of a text round what stands first between them, or the text and nothing.
 pub fn parts<'a>(text: &'a str, between: &str) -> (&'a str, &'a str) {
-    match text.split_once(between) {
-        Some(sides) => sides,
-        None => (text, ""),
-    }
+    text.split_once(between).unwrap_or((text, ""))
 }
 
 // Adds the line behind `* FROM TO ` for each number from the first on that is below the second, with the next number in the place of
@@ -22,8 +19,8 @@ fn add_repeated(text: &mut String, repeated: &str, report: &mut Report) {
     for number in report.number(from)..report.number(to) {
         let next = report.digits(number.saturating_add(1));
         let number = report.digits(number);
-        let line = report.made(line.replace(report.alloc, "##", next.as_str()));
-        let line = report.made(line.replace(report.alloc, "#", number.as_str()));
+        let line = report.replaced(line, "##", next.as_str());
+        let line = report.replaced(line.as_str(), "#", number.as_str());
         report.add(text, &[line.as_str(), "\n"]);
     }
 }

@@ -97,14 +97,11 @@ fn add_host(world: &mut World, heading: &str, report: &mut Report) {
     }
 }
 
-// The line behind a mark.
-fn behind<'a>(heading: &'a str, mark: &str) -> Option<&'a str> {
-    for line in heading.lines() {
-        if let Some(behind) = line.strip_prefix(mark) {
-            return Some(behind);
-        }
-    }
-    None
+// What stands behind a mark in its line.
+fn behind<'a>(heading: &'a str, mark: &str) -> &'a str {
+    let (_, behind) = parts(heading, mark);
+    let (told, _) = parts(behind, "\n");
+    told
 }
 
 // The site in memory of a heading: `+ dir PATH`, `+ file PATH BYTES` with the bytes as an escaped field, `+ raw PATH` of one byte
@@ -112,11 +109,14 @@ fn behind<'a>(heading: &'a str, mark: &str) -> Option<&'a str> {
 // `+ lock |KEY TEXT| MOMENT`. Its call of the number behind `! ` fails, and each call once as many changes were made as stand
 // behind `!! `. None comes for want of memory alone.
 pub fn site_of(heading: &str, report: &mut Report) -> Option<MemorySite> {
-    let stop = match behind(heading, "!! ") {
-        Some(changes) => Some(report.count(changes)),
-        None => None,
+    let stop = match behind(heading, "\n!! ") {
+        "" => None,
+        changes => Some(report.count(changes)),
     };
-    let failing = report.failing(behind(heading, "! ").unwrap_or("0"));
+    let failing = match behind(heading, "\n! ") {
+        "" => report.failing("0"),
+        call => report.failing(call),
+    };
     let mut world = World::new(report.alloc);
     add_host(&mut world, heading, report);
     MemorySite::new(report.alloc, world, failing, stop).ok()
