@@ -3,13 +3,9 @@
 #![tactic(auto)]
 
 mod calls;
-mod folders;
-mod reports;
 mod run_logs;
 mod run_tables;
 mod tables;
-mod texts;
-mod worlds;
 
 pub use calls::Top;
 pub use tables::run_all;

@@ -1,39 +1,8 @@
 // What a run adds to the log of its host, as lines.
-use crate::reports::Report;
-use cfa_base::{Bytes, Key, Name, escape_bytes};
-use cfa_locks::key;
+use cfa_base::{Bytes, escape_bytes};
 use cfa_outside::{Call, Change, Entry, Perms, ServiceRow};
-use std::alloc::Global;
+use cfa_test_hosts::{Report, with_keys};
 use std::str;
-
-// The key of a text. None comes for want of memory alone.
-fn key_of(alloc: Global, text: &str) -> Option<Key> {
-    let text = Name::from_text(alloc, text).ok()?;
-    key(alloc, &text).ok()
-}
-
-// Adds the key of a text.
-fn add_key(whole: &mut String, text: &str, report: &mut Report) {
-    match key_of(report.alloc, text) {
-        Some(key) => report.add(whole, &[key.text()]),
-        None => report.require(false, text),
-    }
-}
-
-// A text with the key of each text that stands between two bars in its place.
-pub fn with_keys(text: &str, report: &mut Report) -> String {
-    let mut whole = String::new(report.alloc);
-    let mut is_key = false;
-    for part in text.split("|") {
-        if is_key {
-            add_key(&mut whole, part, report);
-        } else {
-            report.add(&mut whole, &[part]);
-        }
-        is_key = !is_key;
-    }
-    whole
-}
 
 fn text_of(bytes: &Bytes) -> &str {
     str::from_utf8(bytes.as_slice()).unwrap_or("no text")

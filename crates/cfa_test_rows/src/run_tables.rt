@@ -1,17 +1,16 @@
-// Rows of runs. Behind the title of a row stand the lines of the host as it is before (`worlds`), and the policy `a.cf`, to which the
-// blocks below are added. Files behind it are as they stand (`texts`), and one of the name `a.cf` stands for the policy. Then come
+// Rows of runs. Behind the title of a row stand the lines of the host as it is before (`site_of`), and the policy `a.cf`, to which the
+// blocks below are added. Files behind it are as they stand (`files_of`), and one of the name `a.cf` stands for the policy. Then come
 // runs on this host, one after the other: `$ ` and the call (`calls`); the entries that it adds to the host's log, each behind `> `,
 // or their number alone, `> N entries`; and the lines that it puts, or `valid` for those of any verdict. A run that tells lines of a
 // host itself is made on that host, as are those behind it. A line of a text that is much repeated is told once, `* FROM TO LINE`
-// (`texts`).
+// (`add_line`).
 use crate::calls::{Top, compare_answer, make};
-use crate::folders::host_in;
-use crate::reports::Report;
 use crate::run_logs::compare_log;
-use crate::texts::{Files, add_file, add_line, files_of, parts};
-use crate::worlds::{host_behind, site_of};
 use cfa_hostdir::HostSite;
 use cfa_outside::{MemorySite, Site};
+use cfa_test_hosts::{
+    Files, Report, add_file, add_line, files_of, host_behind, host_in, parts, site_of,
+};
 
 fn add_blocks(policy: &mut String, name: &str, report: &mut Report) {
     let blocks = report.read(name, ".cf");

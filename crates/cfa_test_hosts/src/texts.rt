@@ -3,10 +3,10 @@ use crate::reports::Report;
 use cfa_base::{Bytes, Name};
 use std::alloc::Global;
 
-// The first of each name stands.
+/// The first of each name stands.
 pub type Files = Vec<(Name, Bytes)>;
 
-// The two parts of a text round what stands first between them, or the text and nothing.
+/// The two parts of a text round what stands first between them, or the text and nothing.
 pub fn parts<'a>(text: &'a str, between: &str) -> (&'a str, &'a str) {
     text.split_once(between).unwrap_or((text, ""))
 }
@@ -25,7 +25,7 @@ fn add_repeated(text: &mut String, repeated: &str, report: &mut Report) {
     }
 }
 
-// Adds a line of a text, which may stand for many lines.
+/// Adds a line of a text, which may stand for many lines.
 pub fn add_line(text: &mut String, line: &str, report: &mut Report) {
     match line.strip_prefix("* ") {
         Some(repeated) => add_repeated(text, repeated, report),
@@ -39,7 +39,7 @@ fn push_file(alloc: Global, files: &mut Files, name: &str, bytes: &[u8]) -> Opti
     files.push((name, bytes)).ok()
 }
 
-// Adds a file of these bytes.
+/// Adds a file of these bytes.
 pub fn add_file(files: &mut Files, name: &str, bytes: &[u8], report: &mut Report) {
     let is_added = push_file(report.alloc, files, name, bytes).is_some();
     report.require(is_added, name);
@@ -71,7 +71,7 @@ fn add_told(files: &mut Files, file: &str, report: &mut Report) {
     }
 }
 
-// The files that stand in a heading behind its policy, each behind `& `.
+/// The files that stand in a heading behind its policy, each behind `& `.
 pub fn files_of(heading: &str, report: &mut Report) -> Files {
     let mut files = Vec::new(report.alloc);
     if let Some((_, behind)) = heading.split_once("\n& ") {

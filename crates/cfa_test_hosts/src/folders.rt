@@ -59,8 +59,8 @@ fn put_host(host: &str, report: &mut Report) {
     report.require(is_put, SERVICES);
 }
 
-// The host in a new folder, by its lines (`worlds`), which are of directories, files of text and services. None comes for want of
-// memory alone.
+/// The host in a new folder, by its lines (`site_of`), which are of directories, files of text and services. None comes for want of
+/// memory alone.
 pub fn host_in(host: &str, report: &mut Report) -> Option<HostSite<HostRuntime>> {
     make_folder(report);
     put_host(host, report);

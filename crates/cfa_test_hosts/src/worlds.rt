@@ -1,6 +1,6 @@
 // Hosts in memory by the lines of a table, each of which begins with a plus sign.
+use crate::keys::with_keys;
 use crate::reports::Report;
-use crate::run_logs::with_keys;
 use crate::texts::parts;
 use cfa_base::{Bytes, Name, unescape_bytes};
 use cfa_outside::{MemorySite, Node, Path, ServiceRow, World, root_perms};
@@ -104,10 +104,10 @@ fn behind<'a>(heading: &'a str, mark: &str) -> &'a str {
     told
 }
 
-// The site in memory of a heading: `+ dir PATH`, `+ file PATH BYTES` with the bytes as an escaped field, `+ raw PATH` of one byte
-// that begins no text, `+ long PATH SIZE`, `+ service NAME running|stopped enabled|disabled RESTARTS` and
-// `+ lock |KEY TEXT| MOMENT`. Its call of the number behind `! ` fails, and each call once as many changes were made as stand
-// behind `!! `. None comes for want of memory alone.
+/// The site in memory of a heading: `+ dir PATH`, `+ file PATH BYTES` with the bytes as an escaped field, `+ raw PATH` of one byte
+/// that begins no text, `+ long PATH SIZE`, `+ service NAME running|stopped enabled|disabled RESTARTS` and
+/// `+ lock |KEY TEXT| MOMENT`. Its call of the number behind `! ` fails, and each call once as many changes were made as stand
+/// behind `!! `. None comes for want of memory alone.
 pub fn site_of(heading: &str, report: &mut Report) -> Option<MemorySite> {
     let stop = match behind(heading, "\n!! ") {
         "" => None,
@@ -122,8 +122,8 @@ pub fn site_of(heading: &str, report: &mut Report) -> Option<MemorySite> {
     MemorySite::new(report.alloc, world, failing, stop).ok()
 }
 
-// The host of a run: what the run before left, or a new one of the lines that it tells, which are none behind `+ new`. Behind
-// `+ left` it is what was left, and no call on it fails any more.
+/// The host of a run: what the run before left, or a new one of the lines that it tells, which are none behind `+ new`. Behind
+/// `+ left` it is what was left, and no call on it fails any more.
 pub fn host_behind(left: Option<MemorySite>, run: &str, report: &mut Report) -> Option<MemorySite> {
     if run.contains("\n+ left") {
         let world = left?.into_world();
