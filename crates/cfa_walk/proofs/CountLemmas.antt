@@ -1,5 +1,5 @@
 -- A promise that has instances: its visits are counted, and its instances visited.
-use Rattle.std.proofs.Common.{◌≡◌, ℕ, Bool, true, List, ◌∷◌, refl, ap, ◌∙◌, ◌+◌, ◌-◌, ◌≤◌, ◌<◌, false, ◌++◌, length, filter_map, Option, Some, All, IsTrue, inl, inr, sym, subst, arith}
+use Rattle.std.proofs.Common.{◌≡◌, ℕ, Bool, true, List, ◌∷◌, refl, ap, ◌∙◌, ◌+◌, ◌≤◌, ◌<◌, false, ◌++◌, length, filter_map, Option, Some, All, IsTrue, inl, inr, sym, subst, arith}
 use Rattle.std.specs.Prelude.{◌&&◌, nat_le, Result, Ok, Err, IsErrOf}
 use Rattle.std.specs.Str.{bytes_eq}
 use Rattle.cfa_statuses.specs.declared.levels.Status.{Status}
@@ -40,7 +40,7 @@ use Rattle.cfa_states.specs.Kept.{Stands, SpareShorter, home_of, scope_at, AreLa
 use Rattle.cfa_states.specs.Levels.{GoesTo, IsTooLarge, is_quiet, Faults, StandsAt, LevelDone, PatternsAre, Ends}
 use Rattle.cfa_states.specs.Builds.{BuiltOn, BuiltWhere}
 use Rattle.cfa_states.specs.Passes.{Course, within_limit, most_visits, calls_of, instances_from}
-use Rattle.cfa_walk.specs.Steps.{acting_level, instances_level, resolution_at, reached_event, Counts, IsAt, stop_of}
+use Rattle.cfa_walk.specs.Steps.{acting_level, counted_in, instances_level, resolution_at, reached_event, Counts, IsAt, stop_of}
 use Rattle.cfa_states.specs.Tellers.{Teller}
 use Rattle.cfa_base.specs.Patterns.{SizeRefusal}
 use Rattle.cfa_states.specs.lemmas.Built.{size_refused, built_where, calls_kept, instances_kept, limited_kept}
@@ -188,20 +188,17 @@ module _ (policy : PolicyTree) (p : Numbered) (scopes : InScope) (statuses : Sta
       size_refused (IsBuiltFor (seen_at policy p scopes statuses a.path)) refused text pats pats' is refusal in
       built_where s text guard h home p set (inr (subst (λ (r : ReachedAt). IsBuiltFor r text) (reached_is s home status h stands) built))
 
-  pub counted : (guard : Status) → (guard ≡ No → ⊥) → IsTrue (is_acting p.type) → (resolved : Resolved) (waits : Option Wait) (st1 st' : State) →
+  pub counted : (guard : Status) → (guard ≡ No → ⊥) → IsTrue (is_acting p.type) → (resolved : Resolved) (waits : Option Wait) (st' : State) →
       resolved ≡ resolution (seen_at policy p scopes statuses a.path) → resolved.visits ≤ st.left →
       ((s : Setting) (h : History) → Stands s st a h → waits ≡ waits_by s h a.path guard p.promise.guard) →
-      st1 ≡ record st { left = st.left - resolved.visits } →
-      st' ≡ record st1 { log = logged_blames (filter_map (blame_edit (source_of st1.environment)) resolved.unsettled) st1.log } →
+      st' ≡ counted_in resolved st →
       Counts policy p guard st st' a (record a { waits = waits }) (Ok resolved.instances)
-  counted guard set acting resolved waits st1 st' is enough waiting counts notes = λ s home status h stands.
+  counted guard set acting resolved waits st' is enough waiting counts = λ s home status h stands.
       let r : Resolved = resolution_at s home p h in
       let same : resolved ≡ r = is ∙ seen_is s home status h stands in
       let fit : r.visits + visits_in h ≤ most_visits =
       subst (λ (x : Resolved). x.visits + visits_in h ≤ most_visits) same (fits st.left resolved.visits (visits_in h) enough stands.1.1.1.0.1.1.1.1.0) in
       let blames : List Blame = filter_map (blame_edit (source_of st.environment)) resolved.unsettled in
-      let both : st' ≡ record st { left = st.left - resolved.visits; log = logged_blames blames st.log } =
-      notes ∙ ap (λ (x : State). record x { log = logged_blames (filter_map (blame_edit (source_of x.environment)) resolved.unsettled) x.log }) counts in
       let unsettled : blames ≡ own_unsettled s h home p guard false ++ edits_unsettled s h home p guard =
       ap (λ (x : List ℕ → Option PromiseId). filter_map (blame_edit x) resolved.unsettled) (fun_ext stands.1.1.1.0.1.0)
       ∙ (ap (λ (x : Resolved). filter_map (blame_edit (global_source h)) x.unsettled) same
@@ -212,7 +209,7 @@ module _ (policy : PolicyTree) (p : Numbered) (scopes : InScope) (statuses : Sta
       ∙ (sym (waits_here s home p false resolved.visits h guard set acting)
       ∙ ap (λ (x : Home). waits_in s (Reached home p guard false resolved.visits ∷ h) x.path) (sym stands.1.0))) in
       let stood : Stands s st' (record a { waits = waits }) (Reached home p guard false resolved.visits ∷ h) =
-      subst (λ (x : State). Stands s x (record a { waits = waits }) (Reached home p guard false resolved.visits ∷ h)) (sym both) (
+      subst (λ (x : State). Stands s x (record a { waits = waits }) (Reached home p guard false resolved.visits ∷ h)) (sym counts) (
         keeps_reached s st h home p guard false resolved.visits blames enough unsettled stands.1.1.1.0,
         local_waits s a h home p guard false resolved.visits waits here stands.1.1.1.1,
       ) in (
@@ -267,10 +264,10 @@ pub scopes_stand : (st : State) (a : Activation) → (s : Setting) (h : History)
 scopes_stand st a = λ s h stands. scopes_are s st a h (scope_at st.shared a.place a.own) st.shared stands refl refl
 
 -- counting changes nothing that is read of a state
-pub counted_later : (st st' : State) (a : Activation) (waits : Option Wait) (left : ℕ) (unsettled : List Unsettled) →
-    st' ≡ record st { left = left; log = logged_blames (filter_map (blame_edit (source_of st.environment)) unsettled) st.log } → AreLater st st' a (record a { waits = waits })
-counted_later st st' a waits left unsettled notes = record {
-  state = later_by st st' (ap (λ (x : State). x.changes) notes) (ap (λ (x : State). x.environment.statuses) notes) (ap (λ (x : State). x.shared) notes);
+pub counted_later : (st st' : State) (a : Activation) (waits : Option Wait) (resolved : Resolved) →
+    st' ≡ counted_in resolved st → AreLater st st' a (record a { waits = waits })
+counted_later st st' a waits resolved counts = record {
+  state = later_by st st' (ap (λ (x : State). x.changes) counts) (ap (λ (x : State). x.environment.statuses) counts) (ap (λ (x : State). x.shared) counts);
   here = here_by a (record a { waits = waits }) refl refl refl refl refl refl;
 }
 

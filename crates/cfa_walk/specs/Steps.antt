@@ -1,5 +1,5 @@
 -- Of the code alone: the levels of the passes, by what each is about.
-use Rattle.std.specs.Prelude.{◌≡◌, ℕ, ◌+◌, nat_le, Bool, true, false, All, IsTrue, List, ◌∷◌, length, ⊤, Result, Ok, Err, [], Option, Some, None}
+use Rattle.std.specs.Prelude.{◌≡◌, ℕ, ◌+◌, ◌-◌, filter_map, nat_le, Bool, true, false, All, IsTrue, List, ◌∷◌, length, ⊤, Result, Ok, Err, [], Option, Some, None}
 use Rattle.cfa_base.specs.Shown.{Shown}
 use Rattle.cfa_schema.specs.Laws.{IsCounted}
 use Rattle.cfa_resolve.specs.declared.instances.Resolved.{Resolved}
@@ -14,6 +14,7 @@ use Rattle.cfa_statuses.specs.declared.levels.Status.{Status}
 use Rattle.cfa_statuses.specs.declared.levels.Status.TheVariants.{No, Yes}
 use Rattle.cfa_kinds.specs.declared.kinds.PromiseType.{PromiseType}
 use Rattle.cfa_outcomes.specs.declared.outcomes.Outcome.{Outcome}
+use Rattle.cfa_outcomes.specs.Environments.{source_of}
 use Rattle.cfa_resolve.specs.declared.instances.Instance.{Instance}
 use Rattle.cfa_resolve.specs.declared.instances.Work.{Work}
 use Rattle.cfa_resolve.specs.declared.instances.Work.TheVariants.{Acts, Call, Report}
@@ -22,6 +23,8 @@ use Rattle.cfa_vars.specs.declared.scoping.Datum.{Datum}
 use Rattle.cfa_states.specs.declared.states.State.{State}
 use Rattle.cfa_states.specs.History.{History, Begun, everywhere, within, Reached, visits_in, locally, local_source}
 use Rattle.cfa_states.specs.Kept.{Keeps, SpareShorter, Stands}
+use Rattle.cfa_states.specs.Logs.{logged_blames}
+use Rattle.cfa_states.specs.Walks.{blame_edit}
 use Rattle.cfa_states.specs.Levels.{Level, QuietLevel, GoesTo, IsTooLarge, EndedAs, StandsAt, Faults, FaultsAre, PatternsAre, done_of, Quietly}
 use Rattle.cfa_states.specs.Numbered.{Numbered, of_type, agent_types, common_types, name_of, numbered_in}
 use Rattle.cfa_states.specs.Builds.{BuiltOn, BuiltWhere}
@@ -114,6 +117,13 @@ abbrev pub stop_of : ResolveErr → Stop
 stop_of TooLarge = Visits
 stop_of (PatternTooBig text) = Pattern text
 stop_of NoMemory = Memory
+
+-- the visits of a promise are counted, and what is unsettled in its edits is noted
+abbrev pub counted_in : Resolved → State → State
+counted_in resolved st = record st {
+  left = st.left - resolved.visits;
+  log = logged_blames (filter_map (blame_edit (source_of st.environment)) resolved.unsettled) st.log;
+}
 
 -- the visits of a promise were counted, and these are its instances
 module _ (policy : PolicyTree) (p : Numbered) (guard : Status) where

@@ -1,5 +1,5 @@
 // The instances of a promise that is reached.
-ghost use Rattle.std.specs.Prelude.{◌≡◌, ◌≢◌, ◌≤◌, ◌<◌, All, IfOk, IsErrOf, IsTrue, OnOk};
+ghost use Rattle.std.specs.Prelude.{◌≡◌, ◌≢◌, ◌≤◌, ◌<◌, All, IfOk, IsErrOf, IsTrue, OnOk, Some};
 ghost use Rattle.cfa_base.specs.Patterns.{SizeRefusal};
 ghost use Rattle.cfa_resolve.specs.Resolution.{is_acting, IsBuiltFor};
 ghost use Rattle.cfa_resolve.specs.Viewed.{too_big_in};
@@ -7,9 +7,9 @@ ghost use Rattle.cfa_schema.specs.Laws.{IsCounted};
 ghost use Rattle.cfa_schema.specs.Seen.{tree_of};
 ghost use Rattle.cfa_states.specs.Kept.{AreLater, RowHolds, reached_now, resolution_now, seen_numbered};
 ghost use Rattle.cfa_states.specs.Levels.{PatternsAre};
-ghost use Rattle.cfa_walk.specs.Steps.{IsAt, Counts, found_by, instances_of, stop_of};
+ghost use Rattle.cfa_walk.specs.Steps.{IsAt, Counts, counted_in, found_by, instances_of, stop_of};
 
-use cfa_base::Patterns;
+use cfa_base::{NoMemory, Patterns};
 use cfa_output::Stop;
 use cfa_resolve::{
     FoundPromise, Instance, ResolveErr, Resolved, View, instances_are_named, resolve_promise,
@@ -74,6 +74,23 @@ fn stop_of(error: ResolveErr) -> Stop
     }
 }
 
+// Counts the visits of a promise, notes what is unsettled in its edits, and keeps what was found out of it.
+fn keep_found(
+    alloc: Global,
+    found: Found,
+    kept: &mut Option<Found>,
+    state: &mut State,
+) -> Result<(), NoMemory>
+    requires { found.resolved.visits ≤ state.old.left }
+    ensures kept { kept.new ≡ Some found }
+    ensures state { OnOk result (state.new ≡ counted_in found.resolved state.old) }
+{
+    state.left -= found.resolved.visits;
+    let noted = state.log_edits(alloc, found.resolved.unsettled.as_slice());
+    *kept = Some(found);
+    noted
+}
+
 /// Finds out what a promise resolves to that is reached with this status of its guard, and counts its visits. It isn't
 /// resolved again where it was before and nothing has changed since.
 pub(crate) fn count_instances<P: Patterns>(
@@ -113,10 +130,8 @@ pub(crate) fn count_instances<P: Patterns>(
         pats,
     ) {
         Ok(resolved) => {
-            state.left -= resolved.visits;
-            let noted = state.log_edits(alloc, resolved.unsettled.as_slice());
-            *kept = Some(Found { moment, resolved });
-            noted?;
+            let found = Found { moment, resolved };
+            keep_found(alloc, found, kept, state)?;
             Ok(())
         }
         Err(error) => Err(stop_of(error)),

@@ -20,7 +20,7 @@ use Rattle.cfa_states.specs.declared.remembering.Found.{Found}
 use Rattle.cfa_states.specs.declared.states.State.{State}
 use Rattle.cfa_output.specs.declared.ends.Stop.TheVariants.{Memory}
 use Rattle.cfa_states.specs.Levels.{Ends, HasVisited}
-use Rattle.cfa_states.specs.Numbered.{Numbered, agent_types, numbered_in, params_of}
+use Rattle.cfa_states.specs.Numbered.{Numbered, numbered_in, params_of}
 use Rattle.cfa_states.specs.Tellers.{inner_path}
 use Rattle.cfa_tree.specs.Plain.{plain_named}
 use Rattle.cfa_tree.specs.Tree.{NamedTree}
