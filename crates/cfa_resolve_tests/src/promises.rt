@@ -95,18 +95,19 @@ fn tell_error(error: ResolveErr, told: &mut Told) {
 }
 
 // What is told of an id that has no instances.
-fn unresolved(checked: &Checked, id: &PromiseId) -> &'static str {
-    match (checked.promise(id).is_none(), is_acting(checked, id)) {
-        (true, true) => " acts, and is no promise",
-        (true, false) => " is no promise",
-        (false, _) => " has no instances",
+fn unresolved(is_promise: bool) -> &'static str {
+    if is_promise {
+        " has no instances"
+    } else {
+        " is no promise"
     }
 }
 
 // Tells what a promise resolves to, with three visits left.
 fn tell_promise(checked: &Checked, id: &PromiseId, told: &mut Told) {
-    if checked.promise(id).is_none() || !is_acting(checked, id) {
-        return told.push(&[unresolved(checked, id)]);
+    if !is_acting(checked, id) {
+        let is_promise = checked.promise(id).is_some();
+        return told.push(&[unresolved(is_promise)]);
     }
     let own = scope_of(told);
     let shared = SharedScopes::new(told.alloc);
