@@ -28,7 +28,8 @@ pub(crate) fn acts_of(work: &Work) -> &[Act]
 {
     match work {
         Work::Acts(acts) => acts.as_slice(),
-        Work::Call(_, _) | Work::Report(_) => &[],
+        Work::Call(_, _) => &[],
+        Work::Report(_) => &[],
     }
 }
 

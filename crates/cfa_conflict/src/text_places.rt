@@ -27,7 +27,7 @@ fn is_near(key: &str, beneath: bool, text: &str) -> bool
     if beneath {
         return text.as_bytes().starts_with(key.as_bytes());
     }
-    text == key
+    key == text
 }
 
 // Of rows in the order of their texts those of a key, or those whose texts begin with it, which stand together.
