@@ -1,13 +1,12 @@
 -- One step over the lines of a deck: what stands before the place, and what is still to come.
 use Rattle.std.proofs.Common.{◌≡◌, ℕ, ◌+◌, ◌<◌, ◌≤◌, Bool, true, false, List, [], ◌∷◌, ◌++◌, length, map, take, drop, Option, Some, None, suc, refl, sym, ap, ◌∙◌, arith, IfSome, ⊎_elim, add-one}
-use Rattle.std.specs.Prelude.{slice_get}
-use Rattle.std.specs.List.{remove, insert, position_from}
+use Rattle.std.specs.Prelude.{slice_get, slice_set}
+use Rattle.std.specs.List.{remove, position_from}
 use Rattle.std.specs.Option.{option_map, option_or}
-use Rattle.std.proofs.lemmas.List.{take_more, drop_more, take_at, drop_at, take_all, drop_all, append_assoc, length-take-le, length-append, length-drop, take-append-drop}
+use Rattle.std.proofs.lemmas.List.{take_more, drop_more, take_at, drop_at, take_all, drop_all, append_assoc, length-take-le, length-append, length-set, set_at, drop-set-lt, take-append-drop}
 use Rattle.std.proofs.lemmas.Option.{slice_get_within, get_or_from_slice_get, slice_get_cases}
 use Rattle.cfa_base.specs.Patterns.{PatternText, matches_in}
 use Rattle.cfa_base.specs.lemmas.Lists.{option_or-assoc}
-use Rattle.cfa_lines.specs.lemmas.Removed.{remove_at}
 use Rattle.cfa_edits.specs.Edits.{Lines, unmatched, led_by, each_becomes, last_from}
 
 -- a line stands at the place
@@ -53,36 +52,26 @@ removed_length lines place line t = omega (arith, length-append (take place line
 
 -- the lines with another one in its place
 pub exchanged : (lines : Lines) (place : ℕ) (line new : List ℕ) → Turn lines place line
-    → remove (insert lines place new) (place + 1) ≡ (take place lines ++ new ∷ []) ++ drop (place + 1) lines
+    → slice_set lines place new ≡ (take place lines ++ new ∷ []) ++ drop (place + 1) lines
 exchanged lines place line new t =
-    let front = take place lines ++ new ∷ [] in
-    let count : length front ≡ place + 1 = omega (arith, length-append (take place lines) (new ∷ []), length_before lines place line t) in
-    let whole : insert lines place new ≡ front ++ line ∷ drop (place + 1) lines = rw t.rest (sym (append_assoc (take place lines) (new ∷ []) (line ∷ drop (place + 1) lines))) in
-    ap (λ ls. remove ls (place + 1)) whole ∙ ap (λ n. remove (front ++ line ∷ drop (place + 1) lines) n) (sym count)
-    ∙ remove_at front line (drop (place + 1) lines)
+    ap (λ ls. slice_set ls place new) (sym (take-append-drop place lines) ∙ ap (λ ls. take place lines ++ ls) t.rest)
+    ∙ set_at (take place lines) line (drop (place + 1) lines) new place (length_before lines place line t)
+    ∙ sym (append_assoc (take place lines) (new ∷ []) (drop (place + 1) lines))
 
 pub exchanged_before : (lines : Lines) (place : ℕ) (line new : List ℕ) → Turn lines place line
-    → take (place + 1) (remove (insert lines place new) (place + 1)) ≡ take place lines ++ new ∷ []
+    → take (place + 1) (slice_set lines place new) ≡ take place lines ++ new ∷ []
 exchanged_before lines place line new t =
     let front = take place lines ++ new ∷ [] in
     ap (λ ls. take (place + 1) ls) (exchanged lines place line new t)
     ∙ take_at front (drop (place + 1) lines) (place + 1) (omega (arith, length-append (take place lines) (new ∷ []), length_before lines place line t))
 
 pub exchanged_rest : (lines : Lines) (place : ℕ) (line new : List ℕ) → Turn lines place line
-    → drop (place + 1) (remove (insert lines place new) (place + 1)) ≡ drop (place + 1) lines
-exchanged_rest lines place line new t =
-    let front = take place lines ++ new ∷ [] in
-    ap (λ ls. drop (place + 1) ls) (exchanged lines place line new t)
-    ∙ drop_at front (drop (place + 1) lines) (place + 1) (omega (arith, length-append (take place lines) (new ∷ []), length_before lines place line t))
+    → drop (place + 1) (slice_set lines place new) ≡ drop (place + 1) lines
+exchanged_rest lines place line new t = drop-set-lt (place + 1) lines place new (omega arith)
 
 pub exchanged_length : (lines : Lines) (place : ℕ) (line new : List ℕ) → Turn lines place line
-    → place + 1 ≤ length (remove (insert lines place new) (place + 1))
-exchanged_length lines place line new t =
-    rw (exchanged lines place line new t) (omega (arith, length-append (take place lines ++ new ∷ []) (drop (place + 1) lines), length-append (take place lines) (new ∷ []), length_before lines place line t))
-
-pub inserted_length : (lines : Lines) (place : ℕ) (new : List ℕ) → place < length lines → place + 1 < length (insert lines place new)
-inserted_length lines place new lt =
-    omega (arith, length-append (take place lines) (new ∷ drop place lines), length-take-le place lines (omega arith), length-append (take place lines) (drop place lines), ap length (take-append-drop place lines))
+    → place + 1 ≤ length (slice_set lines place new)
+exchanged_length lines place line new t = omega (arith, length-set lines place new, t.within)
 
 -- deletes
 pub delete_keeps : (pattern : PatternText) (lines all : Lines) (place : ℕ) (line : List ℕ) → Turn lines place line → matches_in pattern line ≡ false
@@ -98,9 +87,14 @@ delete_takes pattern lines all place line t hit so_far =
 -- replaces
 pub map_steps : (f : List ℕ → List ℕ) (lines all : Lines) (place : ℕ) (line : List ℕ) → Turn lines place line
     → take place lines ++ map f (drop place lines) ≡ all
-    → take (place + 1) (remove (insert lines place (f line)) (place + 1)) ++ map f (drop (place + 1) (remove (insert lines place (f line)) (place + 1))) ≡ all
+    → take (place + 1) (slice_set lines place (f line)) ++ map f (drop (place + 1) (slice_set lines place (f line))) ≡ all
 map_steps f lines all place line t so_far =
     rw (exchanged_before lines place line (f line) t, exchanged_rest lines place line (f line) t, append_assoc) (rw t.rest at so_far)
+
+pub map_keeps : (f : List ℕ → List ℕ) (lines all : Lines) (place : ℕ) (line : List ℕ) → Turn lines place line → f line ≡ line
+    → take place lines ++ map f (drop place lines) ≡ all → take (place + 1) lines ++ map f (drop (place + 1) lines) ≡ all
+map_keeps f lines all place line t kept so_far =
+    rw (t.before, append_assoc) (rw (t.rest, kept) at so_far)
 
 -- field edits
 abbrev pub put_before : Lines → Option Lines → Option Lines
@@ -117,7 +111,7 @@ fields_keep f lines all place line t kept so_far =
 
 pub fields_step : (f : List ℕ → Option (List ℕ)) (lines : Lines) (all : Option Lines) (place : ℕ) (line new : List ℕ) → Turn lines place line → f line ≡ Some new
     → put_before (take place lines) (each_becomes f (drop place lines)) ≡ all
-    → put_before (take (place + 1) (remove (insert lines place new) (place + 1))) (each_becomes f (drop (place + 1) (remove (insert lines place new) (place + 1)))) ≡ all
+    → put_before (take (place + 1) (slice_set lines place new)) (each_becomes f (drop (place + 1) (slice_set lines place new))) ≡ all
 fields_step f lines all place line new t changed so_far =
     rw (exchanged_before lines place line new t, exchanged_rest lines place line new t)
     (sym (led_before (take place lines) new (each_becomes f (drop (place + 1) lines))) ∙ (rw (t.rest, changed) at so_far))
@@ -149,8 +143,5 @@ pub found_before : (found : Option ℕ) (place : ℕ) → IfSome found (λ n. n 
 found_before None place h = h
 found_before (Some n) place h = omega arith
 
-pub exchanged_same_length : (lines : Lines) (place : ℕ) (line new : List ℕ) → Turn lines place line
-    → length (remove (insert lines place new) (place + 1)) ≡ length lines
-exchanged_same_length lines place line new t =
-    let made = ap length (exchanged lines place line new t) in
-    omega (arith, made, length-append (take place lines ++ new ∷ []) (drop (place + 1) lines), length-append (take place lines) (new ∷ []), length_before lines place line t, length-drop (place + 1) lines, t.within)
+pub exchanged_same_length : (lines : Lines) (place : ℕ) (line new : List ℕ) → length (slice_set lines place new) ≡ length lines
+exchanged_same_length lines place line new = length-set lines place new

@@ -1,41 +1,14 @@
 // Edits line by line: deletes, replaces and field edits, over a deck.
-ghost use Rattle.std.specs.Prelude.{◌≡◌, ℕ, ◌+◌, ◌<◌, ◌≤◌, List, map, length, insert, remove, Ok, Err, IfOk, IfErr, OnOk};
+ghost use Rattle.std.specs.Prelude.{◌≡◌, ℕ, ◌≤◌, map, Ok, IfErr, OnOk};
 ghost use Rattle.cfa_base.specs.Patterns.{replaced};
-ghost use Rattle.cfa_lines.specs.Decks.{lines_at};
 ghost use Rattle.cfa_edits.specs.Edits.{unmatched, field_edited, each_becomes, or_field_count};
 ghost use Rattle.cfa_edits.specs.Answers.{IsRefusalOf};
 
 use crate::EditErr;
 use crate::fields::with_field;
-use cfa_base::{Matcher, Name, Names, Pattern};
+use cfa_base::{Matcher, Name, Pattern};
 use cfa_lines::Deck;
 use std::alloc::Global;
-
-/// A deck of the lines, at the end.
-pub fn deck_of(alloc: Global, lines: &Names) -> Result<Deck, EditErr>
-    ensures ok { IfOk result (λ deck. deck ≡ lines_at lines.now (length lines.now)) }
-    ensures memory { IfErr result (λ error. error ≡ EditErr.NoMemory) }
-{
-    let mut deck = Deck::from_text(alloc, "")?;
-    for line in lines.as_slice() {
-        deck.insert(line.as_str())?;
-    }
-    Ok(deck)
-}
-
-/// The lines of a deck.
-pub fn lines_of(alloc: Global, deck: &mut Deck) -> Result<Names, EditErr>
-    ensures ok { IfOk result (λ lines. lines ≡ deck.old.lines) }
-    ensures memory { IfErr result (λ error. error ≡ EditErr.NoMemory) }
-{
-    let mut lines = Names::new(alloc);
-    deck.rewind();
-    while let Some(line) = deck.at() {
-        lines.push(Name::from_text(alloc, line)?)?;
-        deck.step();
-    }
-    Ok(lines)
-}
 
 // Takes out each line that the matcher matches.
 fn take_out(deck: &mut Deck, matcher: &mut Matcher<'_>)
@@ -61,18 +34,6 @@ pub fn delete(alloc: Global, deck: &mut Deck, pattern: &Pattern) -> Result<(), E
     Ok(())
 }
 
-// Puts a line in the place of the one at the deck's place, which goes one further.
-fn put_over(deck: &mut Deck, line: Name) -> Result<(), EditErr>
-    requires { deck.old.place < length deck.old.lines }
-    ensures ok { OnOk result (deck.new ≡ lines_at (remove
-        (insert deck.old.lines deck.old.place line) (deck.old.place + 1)) (deck.old.place + 1)) }
-    ensures memory { IfErr result (λ error. error ≡ EditErr.NoMemory) }
-{
-    deck.insert(line.as_str())?;
-    deck.remove();
-    Ok(())
-}
-
 // Writes the value in the place of what the matcher finds in each line.
 fn write_over(
     alloc: Global,
@@ -87,8 +48,12 @@ fn write_over(
 {
     deck.rewind();
     while let Some(line) = deck.at() {
+        if !matcher.matches(line) {
+            deck.step();
+            continue;
+        }
         let changed = matcher.replace(alloc, line, value, all)?;
-        put_over(deck, changed)?;
+        deck.put(changed);
     }
     Ok(())
 }
@@ -134,7 +99,7 @@ fn give_fields(
         let Some(changed) = with_field(alloc, line, separator, number, value)? else {
             return Err(EditErr::FieldCount);
         };
-        put_over(deck, changed)?;
+        deck.put(changed);
     }
     Ok(())
 }

@@ -6,7 +6,7 @@ ghost use Rattle.cfa_edits.specs.Answers.{IsRefusalOf};
 ghost use Rattle.cfa_edits.specs.Laws.{TextsTellScripts};
 
 use crate::inserting::insert;
-use crate::lining::{deck_of, delete, edit_fields, lines_of, replace};
+use crate::lining::{delete, edit_fields, replace};
 use crate::writing::write_edits;
 use crate::{Edit, EditErr};
 use cfa_base::{Name, Names, NoMemory, Parts};
@@ -75,9 +75,9 @@ impl Script {
         ensures lines { IfOk result (λ left. edited self.now lines.now ≡ Ok left) }
         ensures refused { IfErr result (IsRefusalOf (edited self.now lines.now)) }
     {
-        let mut deck = deck_of(alloc, lines)?;
+        let mut deck = Deck::from_names(alloc, lines)?;
         edit_deck(alloc, &mut deck, self.edits())?;
-        Ok(lines_of(alloc, &mut deck)?)
+        Ok(deck.into_names())
     }
 
     /// Whether the edits leave the lines as they are.

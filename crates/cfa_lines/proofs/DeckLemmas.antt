@@ -2,7 +2,8 @@
 use Rattle.std.specs.Prelude.{◌==◌, if◌then◌else◌}
 use Rattle.std.proofs.Common.{◌≡◌, ℕ, ◌+◌, ◌-◌, ◌<◌, List, [], ◌∷◌, ◌++◌, length, map, reverse, refl, sym, ap, ap₂, ◌∙◌, arith, true, Bool, false}
 use Rattle.std.specs.List.{remove, flat_map}
-use Rattle.std.proofs.lemmas.List.{reverse-append, append_assoc, append-nil}
+use Rattle.std.specs.Prelude.{slice_set}
+use Rattle.std.proofs.lemmas.List.{reverse-append, append_assoc, append-nil, set_at}
 use Rattle.std.proofs.lemmas.Grind.{common_steps, flat_map-append}
 use Rattle.cfa_lines.specs.Decks.{lines_of_parts, lines_of, text_of}
 use Rattle.cfa_lines.specs.lemmas.Removed.{remove_at}
@@ -10,6 +11,11 @@ use Rattle.cfa_lines.specs.lemmas.Removed.{remove_at}
 -- the last of the lines behind the place is the one at it
 pub remove_top : {X : Type 0} (xs ys : List X) (y : X) (n : ℕ) → n ≡ length xs → remove (xs ++ reverse (ys ++ y ∷ [])) n ≡ xs ++ reverse ys
 remove_top xs ys y n e = rw (e, reverse-append) (remove_at xs y (reverse ys))
+
+-- another line stands in its place, before the place
+pub put_top : {X : Type 0} (xs ys : List X) (y new : X) (n : ℕ) → n ≡ length xs
+    → slice_set (xs ++ reverse (ys ++ y ∷ [])) n new ≡ (xs ++ new ∷ []) ++ reverse ys
+put_top xs ys y new n e = rw reverse-append (set_at xs y (reverse ys) new n (sym e) ∙ sym (append_assoc xs (new ∷ []) (reverse ys)))
 
 -- one line goes from the stack before the place to that behind it
 pub moved_back : {X : Type 0} (xs ys : List X) (x : X) → xs ++ reverse (ys ++ x ∷ []) ≡ (xs ++ x ∷ []) ++ reverse ys

@@ -1,8 +1,8 @@
 // The deck: two stacks of lines, those before the place and those from it on.
-ghost use Rattle.std.specs.Prelude.{◌≡◌, ℕ, List, [], ◌∷◌, ◌++◌, ◌+◌, ◌<◌, ◌≤◌, ◌^◌, length, map, IfOk, OnOk, OnErr, option_copied, slice_get, remove, insert, string_bytes, vec_len, vec_capacity};
+ghost use Rattle.std.specs.Prelude.{◌≡◌, ℕ, List, [], ◌∷◌, ◌++◌, ◌+◌, ◌-◌, ◌<◌, ◌≤◌, ◌^◌, length, map, IfOk, OnOk, OnErr, option_copied, slice_get, slice_set, remove, insert, string_bytes, vec_len, vec_capacity};
 ghost use Rattle.cfa_lines.specs.Decks.{lines_of, parts_of, lines_of_parts, text_of, ended, lines_at};
 
-use cfa_base::{Name, NoMemory};
+use cfa_base::{Name, Names, NoMemory};
 use std::alloc::Global;
 use std::marker::Model;
 
@@ -39,6 +39,37 @@ impl Deck {
         after.reverse();
         let before = Vec::with_capacity(alloc, after.len())?;
         Ok(Deck { before, after })
+    }
+
+    /// The lines of a list, at the first. Their bytes aren't copied.
+    pub fn from_names(alloc: Global, names: &Names) -> Result<Deck, NoMemory>
+        ensures { IfOk result (λ deck. deck ≡ lines_at names.now 0) }
+    {
+        let mut after = shared(alloc, names.as_slice())?;
+        after.reverse();
+        let before = Vec::with_capacity(alloc, after.len())?;
+        Ok(Deck { before, after })
+    }
+
+    /// The lines, without taking memory.
+    pub fn into_names(self) -> Names
+        ensures { result ≡ self.lines }
+    {
+        let Deck {
+            mut before,
+            mut after,
+        } = self;
+        while let Some(line) = after.pop() {
+            before.push(line).unwrap();
+        }
+        Names::from_vec(before)
+    }
+
+    /// How many lines there are, without taking memory.
+    pub fn count(&self) -> usize
+        ensures { result ≡ length self.now.lines }
+    {
+        self.before.len() + self.after.len()
     }
 
     /// The text of the lines.
@@ -83,6 +114,48 @@ impl Deck {
         self.before.push(line).unwrap();
     }
 
+    // Goes one line back.
+    fn step_back(&mut self)
+        requires { 0 < self.old.place }
+        ensures { self.new ≡ lines_at self.old.lines (self.old.place - 1) }
+    {
+        let line = self.before.pop().unwrap();
+        self.after.push(line).unwrap();
+    }
+
+    /// Goes to a place over the lines between, without taking memory.
+    pub fn go_to(&mut self, place: usize)
+        requires { place ≤ length self.old.lines }
+        ensures { self.new ≡ lines_at self.old.lines place }
+    {
+        let here = self.before.len();
+        if place < here {
+            self.go_back(here - place);
+        } else {
+            self.go_on(place - here);
+        }
+    }
+
+    // Goes so many lines back.
+    fn go_back(&mut self, count: usize)
+        requires { count ≤ self.old.place }
+        ensures { self.new ≡ lines_at self.old.lines (self.old.place - count) }
+    {
+        for _passed in 0..count {
+            self.step_back();
+        }
+    }
+
+    // Goes so many lines on.
+    fn go_on(&mut self, count: usize)
+        requires { self.old.place + count ≤ length self.old.lines }
+        ensures { self.new ≡ lines_at self.old.lines (self.old.place + count) }
+    {
+        for _passed in 0..count {
+            self.step();
+        }
+    }
+
     /// Goes back to the first line, without taking memory.
     pub fn rewind(&mut self)
         ensures { self.new ≡ lines_at self.old.lines 0 }
@@ -100,6 +173,16 @@ impl Deck {
         let _line = self.after.pop().unwrap();
     }
 
+    /// Puts a line in the place of the one at the place, which goes one further, without taking memory.
+    pub fn put(&mut self, line: Name)
+        requires { self.old.place < length self.old.lines }
+        ensures { self.new
+            ≡ lines_at (slice_set self.old.lines self.old.place line) (self.old.place + 1) }
+    {
+        let _replaced = self.after.pop().unwrap();
+        self.before.push(line).unwrap();
+    }
+
     /// Puts a line in before the place, which goes one further. After want of memory the deck is as it was.
     pub fn insert(&mut self, line: &str) -> Result<(), NoMemory>
         ensures ok { OnOk result (self.new
@@ -112,6 +195,13 @@ impl Deck {
         self.before.push(added).unwrap();
         Ok(())
     }
+}
+
+/// The lines of a text, in order.
+pub fn split_lines(alloc: Global, text: &str) -> Result<Names, NoMemory>
+    ensures { IfOk result (λ names. names ≡ lines_of text.now) }
+{
+    Ok(Names::from_vec(lines(alloc, text)?))
 }
 
 // Writes lines at the end of a text.
@@ -158,6 +248,17 @@ fn without_empty_last<'p, 't>(parts: &'p [&'t str]) -> &'p [&'t str]
         }
     }
     parts
+}
+
+// The same texts, without a copy of their bytes.
+fn shared(alloc: Global, names: &[Name]) -> Result<Vec<Name>, NoMemory>
+    ensures { IfOk result (λ shared. shared.items ≡ names.now) }
+{
+    let mut shared = Vec::with_capacity(alloc, names.len())?;
+    for name in names {
+        shared.push(name.copy(alloc)?)?;
+    }
+    Ok(shared)
 }
 
 // A copy of each part.

@@ -3,4 +3,4 @@
 
 mod deck;
 
-pub use deck::Deck;
+pub use deck::{Deck, split_lines};

@@ -24,8 +24,8 @@ returns-in_default-2-clause-refused c =
 pub loop-line-smaller : goal.loop-line-smaller
 loop-line-smaller c =
     let t = turn c.loop-line.deck.lines c.loop-line.deck.place c.in-Some.line.now c.in-Some.ensures.line in
-    let same = exchanged_same_length c.loop-line.deck.lines c.loop-line.deck.place c.in-Some.line.now c.in-Some-2.changed t in
-    rw (c.in_ok-put_over.ensures.ok, same) (omega (arith, t.within))
+    let same = exchanged_same_length c.loop-line.deck.lines c.loop-line.deck.place c.in-Some.line.now c.in-Some-2.changed in
+    rw (c.put.ensures, same) (omega (arith, t.within))
 
 pub loop-line-preserved : goal.loop-line-preserved
 loop-line-preserved c =
@@ -33,7 +33,7 @@ loop-line-preserved c =
     let hit : matches_in c.args.matcher.now c.in-Some.line.now ≡ true = ap (λ (m : PatternText). matches_in m c.in-Some.line.now) (sym c.loop-line.invariant.0) ∙ sym c.if-not-matches.ensures.found in
     let changed : field_edited c.args.matcher.now c.args.separator c.args.number c.args.value.now c.in-Some.line.now ≡ Some c.in-Some-2.changed =
     rw hit (sym c.in_ok-changed.ensures.ok ∙ c.in-Some-2.is) in
-    rw (c.in_ok-put_over.ensures.ok)
+    rw c.put.ensures
     (c.matches.ensures.same ∙ c.loop-line.invariant.0, exchanged_length c.loop-line.deck.lines c.loop-line.deck.place c.in-Some.line.now c.in-Some-2.changed t, fields_step (λ line. field_edited c.args.matcher.now c.args.separator c.args.number c.args.value.now line) c.loop-line.deck.lines _ c.loop-line.deck.place c.in-Some.line.now c.in-Some-2.changed t changed c.loop-line.invariant.2)
 
 pub returns-clause-ok : goal.returns-clause-ok
