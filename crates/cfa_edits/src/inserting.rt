@@ -1,45 +1,75 @@
 // Inserts: which lines of a block aren't there, and where they go.
-ghost use Rattle.std.specs.Prelude.{◌≡◌, ℕ, ◌+◌, ◌^◌, ◌<◌, ◌≤◌, ◌&&◌, ◌++◌, [], Bool, false, not, List, take, drop, length, Ok, Err, IfOk, IfErr, IfSome, OnOk};
+ghost use Rattle.std.specs.Prelude.{◌≡◌, ℕ, ◌+◌, ◌^◌, ◌<◌, ◌≤◌, ◌&&◌, ◌||◌, ◌++◌, [], false, not, List, take, drop, length, reverse, Ok, IfOk, IfErr, IfSome, OnOk};
 ghost use Rattle.std.specs.List.{position_from};
 ghost use Rattle.cfa_base.specs.Patterns.{matches_in};
-ghost use Rattle.cfa_lines.specs.Decks.{lines_at};
-ghost use Rattle.cfa_edits.specs.Edits.{is_among, lacking, anchor, last_from, spot_in, put_at, inserted};
+ghost use Rattle.cfa_edits.specs.Edits.{Lines, is_among, lacking, anchor, last_from, spot_in, put_at, inserted};
 ghost use Rattle.cfa_edits.specs.Answers.{IsRefusalOf};
-ghost use Rattle.cfa_edits.specs.Steps.{lines_lent, has_line, HasLacking};
+ghost use Rattle.cfa_edits.specs.Steps.{lines_lent, has_line, HasLacking, block_of, blocks_of, AreAmong};
 
-use crate::{EditErr, Spot};
+use crate::{Edit, EditErr, Spot};
 use cfa_base::{Matcher, Names, Pattern};
 use cfa_lines::Deck;
 use std::alloc::Global;
 use std::collections::HashSet;
 
-/// Puts the lines of a block that aren't there in at the spot.
-pub fn insert(alloc: Global, deck: &mut Deck, block: &Names, spot: &Spot) -> Result<(), EditErr>
-    ensures ok { OnOk result (inserted spot.now (lacking deck.old.lines block.now) deck.old.lines
+/// Puts the lines of a block that aren't there in at the spot. What is wanted is which lines of all blocks aren't there.
+pub fn insert<'a>(
+    alloc: Global,
+    deck: &mut Deck,
+    wanted: &mut HashSet<&'a str>,
+    block: &'a Names,
+    spot: &Spot,
+) -> Result<(), EditErr>
+    ensures ok { (all : Lines) → AreAmong block.now all → HasLacking wanted.old all deck.old.lines
+        → OnOk result (inserted spot.now (lacking deck.old.lines block.now) deck.old.lines
         ≡ Ok deck.new.lines) }
-    ensures refused { IfErr result (IsRefusalOf
+    ensures wanted { (all : Lines) → AreAmong block.now all
+        → HasLacking wanted.old all deck.old.lines
+        → OnOk result (HasLacking wanted.new all deck.new.lines) }
+    ensures refused { (all : Lines) → AreAmong block.now all
+        → HasLacking wanted.old all deck.old.lines → IfErr result (IsRefusalOf
         (inserted spot.now (lacking deck.old.lines block.now) deck.old.lines)) }
 {
-    let lines = missing(alloc, deck, block)?;
+    let mut lines = Vec::new(alloc);
+    gather(&mut lines, wanted, block)?;
     if lines.is_empty() {
         return Ok(());
     }
     put_at_spot(alloc, deck, &lines, spot)
 }
 
-// The lines of a block that the deck hasn't, in order, each once.
-fn missing<'a>(alloc: Global, deck: &mut Deck, block: &'a Names) -> Result<Vec<&'a str>, EditErr>
-    ensures ok { IfOk result
-        (λ lines. lines_lent lines.items ≡ lacking deck.old.lines block.now) }
+/// Which lines of all blocks of the edits the deck hasn't, where they aren't known yet.
+pub fn wanted_lines<'a>(
+    alloc: Global,
+    deck: &mut Deck,
+    edits: &'a [Edit],
+    known: Option<HashSet<&'a str>>,
+) -> Result<HashSet<&'a str>, EditErr>
+    requires { IfSome known (λ set. HasLacking set (blocks_of edits.now) deck.old.lines) }
+    ensures ok { IfOk result (λ set. HasLacking set (blocks_of edits.now) deck.old.lines) }
+    ensures memory { IfErr result (λ error. error ≡ EditErr.NoMemory) }
+    ensures deck { deck.new.lines ≡ deck.old.lines }
+{
+    match known {
+        Some(lines) => Ok(lines),
+        None => lacking_lines(alloc, deck, edits),
+    }
+}
+
+// Which lines of all blocks of the edits the deck hasn't.
+fn lacking_lines<'a>(
+    alloc: Global,
+    deck: &mut Deck,
+    edits: &'a [Edit],
+) -> Result<HashSet<&'a str>, EditErr>
+    ensures ok { IfOk result (λ set. HasLacking set (blocks_of edits.now) deck.old.lines) }
     ensures memory { IfErr result (λ error. error ≡ EditErr.NoMemory) }
     ensures deck { deck.new.lines ≡ deck.old.lines }
 {
     let mut wanted = HashSet::new(alloc);
-    add_lines(&mut wanted, block)?;
+    add_blocks(&mut wanted, edits)?;
     take_out(&mut wanted, deck);
-    let mut lines = Vec::new(alloc);
-    gather(&mut lines, &mut wanted, block)?;
-    Ok(lines)
+    Ok(wanted)
 }
 
 // Puts the lines in at the spot.
@@ -52,14 +82,41 @@ fn put_at_spot(alloc: Global, deck: &mut Deck, lines: &[&str], spot: &Spot) -> R
     let Some(place) = place_in(alloc, deck, spot)? else {
         return Err(EditErr::NoAnchor);
     };
-    go_to(deck, place);
+    deck.go_to(place);
     put_in(deck, lines)
 }
 
-// Adds the lines of a block to an empty set.
-fn add_lines<'a>(lines: &mut HashSet<&'a str>, block: &'a Names) -> Result<(), EditErr>
+// Adds the lines of all blocks of the edits to an empty set.
+fn add_blocks<'a>(lines: &mut HashSet<&'a str>, edits: &'a [Edit]) -> Result<(), EditErr>
     requires { (line : List ℕ) → has_line lines.old line ≡ false }
-    ensures ok { OnOk result ((line : List ℕ) → has_line lines.new line ≡ is_among block.now line) }
+    ensures ok { OnOk result
+        ((line : List ℕ) → has_line lines.new line ≡ is_among (blocks_of edits.now) line) }
+    ensures memory { IfErr result (λ error. error ≡ EditErr.NoMemory) }
+{
+    for edit in edits {
+        add_block(lines, edit)?;
+    }
+    Ok(())
+}
+
+// Adds the lines that an edit may insert.
+fn add_block<'a>(lines: &mut HashSet<&'a str>, edit: &'a Edit) -> Result<(), EditErr>
+    ensures ok { OnOk result ((line : List ℕ) → has_line lines.new line
+        ≡ (has_line lines.old line || is_among (block_of edit.now) line)) }
+    ensures memory { IfErr result (λ error. error ≡ EditErr.NoMemory) }
+{
+    match edit {
+        Edit::Delete(_) => Ok(()),
+        Edit::Field(_, _, _, _) => Ok(()),
+        Edit::Insert(block, _) => add_lines(lines, block),
+        Edit::Replace(_, _, _) => Ok(()),
+    }
+}
+
+// Adds the lines of a block.
+fn add_lines<'a>(lines: &mut HashSet<&'a str>, block: &'a Names) -> Result<(), EditErr>
+    ensures ok { OnOk result ((line : List ℕ) → has_line lines.new line
+        ≡ (has_line lines.old line || is_among block.now line)) }
     ensures memory { IfErr result (λ error. error ≡ EditErr.NoMemory) }
 {
     for line in block.as_slice() {
@@ -88,8 +145,10 @@ fn gather<'a>(
     block: &'a Names,
 ) -> Result<(), EditErr>
     requires { lines.old.items ≡ [] }
-    ensures ok { (there : List (List ℕ)) → HasLacking wanted.old block.now there
+    ensures ok { (all there : Lines) → AreAmong block.now all → HasLacking wanted.old all there
         → OnOk result (lines_lent lines.new.items ≡ lacking there block.now) }
+    ensures left { (all there : Lines) → AreAmong block.now all → HasLacking wanted.old all there
+        → OnOk result (HasLacking wanted.new all (reverse block.now ++ there)) }
     ensures memory { IfErr result (λ error. error ≡ EditErr.NoMemory) }
 {
     for line in block.as_slice() {
@@ -109,27 +168,13 @@ fn place_in(alloc: Global, deck: &mut Deck, spot: &Spot) -> Result<Option<usize>
 {
     match spot {
         Spot::Start => Ok(Some(0)),
-        Spot::End => Ok(Some(count(deck))),
+        Spot::End => Ok(Some(deck.count())),
         Spot::Before(pattern, is_first) => anchor_in(alloc, deck, pattern, *is_first),
         Spot::After(pattern, is_first) => match anchor_in(alloc, deck, pattern, *is_first)? {
             Some(place) => Ok(Some(place + 1)),
             None => Ok(None),
         },
     }
-}
-
-// How many lines the deck has.
-fn count(deck: &mut Deck) -> usize
-    ensures count { result ≡ length deck.old.lines }
-    ensures deck { deck.new.lines ≡ deck.old.lines }
-{
-    let mut place = 0usize;
-    deck.rewind();
-    while deck.at().is_some() {
-        place += 1;
-        deck.step();
-    }
-    place
 }
 
 // The place of the first or of the last line that the pattern matches.
@@ -200,17 +245,6 @@ fn last_in(deck: &mut Deck, matcher: &mut Matcher<'_>) -> Option<usize>
         deck.step();
     }
     found
-}
-
-// Goes to the line of this place.
-fn go_to(deck: &mut Deck, place: usize)
-    requires { place ≤ length deck.old.lines }
-    ensures { deck.new ≡ lines_at deck.old.lines place }
-{
-    deck.rewind();
-    for _passed in 0..place {
-        deck.step();
-    }
 }
 
 // Puts the lines in before the place.

@@ -1,17 +1,19 @@
 // Scripts.
-ghost use Rattle.std.specs.Prelude.{◌≡◌, ◌↔◌, ◌≤◌, Ok, IsTrue, IfOk, IfErr, OnOk};
+ghost use Rattle.std.specs.Prelude.{◌≡◌, ◌↔◌, ◌≤◌, Ok, IsTrue, IfOk, IfErr, IfSome, OnOk};
 ghost use Rattle.cfa_edits.specs.Edits.{edited, edited_by};
 ghost use Rattle.cfa_edits.specs.Scripts.{AreEdits, IsEdit, script_text};
 ghost use Rattle.cfa_edits.specs.Answers.{IsRefusalOf};
 ghost use Rattle.cfa_edits.specs.Laws.{TextsTellScripts};
+ghost use Rattle.cfa_edits.specs.Steps.{block_of, blocks_of, AreAmong, HasLacking};
 
-use crate::inserting::insert;
+use crate::inserting::{insert, wanted_lines};
 use crate::lining::{delete, edit_fields, replace};
 use crate::writing::write_edits;
 use crate::{Edit, EditErr};
 use cfa_base::{Name, Names, NoMemory, Parts};
 use cfa_lines::Deck;
 use std::alloc::Global;
+use std::collections::HashSet;
 use std::fmt;
 use std::marker::Model;
 
@@ -104,23 +106,48 @@ fn edit_deck(alloc: Global, deck: &mut Deck, edits: &[Edit]) -> Result<(), EditE
     ensures ok { OnOk result (edited edits.now deck.old.lines ≡ Ok deck.new.lines) }
     ensures refused { IfErr result (IsRefusalOf (edited edits.now deck.old.lines)) }
 {
+    let mut wanted = None;
     for edit in edits {
-        edit_once(alloc, deck, edit)?;
+        wanted = edit_once(alloc, deck, edits, edit, wanted)?;
     }
     Ok(())
 }
 
-fn edit_once(alloc: Global, deck: &mut Deck, edit: &Edit) -> Result<(), EditErr>
-    requires { IsEdit edit.now }
+// Makes one of the edits. An insert hands on which lines of all blocks the deck still lacks, so that the next insert doesn't
+// look for them again.
+fn edit_once<'a>(
+    alloc: Global,
+    deck: &mut Deck,
+    edits: &'a [Edit],
+    edit: &'a Edit,
+    wanted: Option<HashSet<&'a str>>,
+) -> Result<Option<HashSet<&'a str>>, EditErr>
+    requires edit { IsEdit edit.now }
+    requires block { AreAmong (block_of edit.now) (blocks_of edits.now) }
+    requires wanted { IfSome wanted
+        (λ set. HasLacking set (blocks_of edits.now) deck.old.lines) }
     ensures ok { OnOk result (edited_by edit.now deck.old.lines ≡ Ok deck.new.lines) }
+    ensures wanted { IfOk result (λ left. IfSome left
+        (λ set. HasLacking set (blocks_of edits.now) deck.new.lines)) }
     ensures refused { IfErr result (IsRefusalOf (edited_by edit.now deck.old.lines)) }
 {
     match edit {
-        Edit::Delete(pattern) => delete(alloc, deck, pattern),
-        Edit::Field(pattern, separator, number, value) => {
-            edit_fields(alloc, deck, pattern, *separator, *number, value)
+        Edit::Delete(pattern) => {
+            delete(alloc, deck, pattern)?;
+            Ok(None)
         }
-        Edit::Insert(block, spot) => insert(alloc, deck, block, spot),
-        Edit::Replace(pattern, value, all) => replace(alloc, deck, pattern, value, *all),
+        Edit::Field(pattern, separator, number, value) => {
+            edit_fields(alloc, deck, pattern, *separator, *number, value)?;
+            Ok(None)
+        }
+        Edit::Insert(block, spot) => {
+            let mut lines = wanted_lines(alloc, deck, edits, wanted)?;
+            insert(alloc, deck, &mut lines, block, spot)?;
+            Ok(Some(lines))
+        }
+        Edit::Replace(pattern, value, all) => {
+            replace(alloc, deck, pattern, value, *all)?;
+            Ok(None)
+        }
     }
 }
