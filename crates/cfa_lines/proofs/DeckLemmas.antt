@@ -1,11 +1,10 @@
 -- Lists of lines cut at the place.
 use Rattle.std.specs.Prelude.{◌==◌, if◌then◌else◌}
-use Rattle.std.proofs.Common.{◌≡◌, ℕ, ◌+◌, ◌-◌, ◌<◌, List, [], ◌∷◌, ◌++◌, length, map, reverse, refl, sym, ap, ap₂, ◌∙◌, arith, true, Bool, false}
-use Rattle.std.specs.List.{remove, flat_map}
+use Rattle.std.proofs.Common.{◌≡◌, ℕ, List, [], ◌∷◌, ◌++◌, length, reverse, refl, sym, ap, ◌∙◌, true, false}
+use Rattle.std.specs.List.{remove}
 use Rattle.std.specs.Prelude.{slice_set}
 use Rattle.std.proofs.lemmas.List.{reverse-append, append_assoc, append-nil, set_at}
-use Rattle.std.proofs.lemmas.Grind.{common_steps, flat_map-append}
-use Rattle.cfa_lines.specs.Decks.{lines_of_parts, lines_of, text_of}
+use Rattle.cfa_lines.specs.Decks.{lines_of_parts, text_of}
 use Rattle.cfa_lines.specs.lemmas.Removed.{remove_at}
 
 -- the last of the lines behind the place is the one at it

@@ -1,4 +1,4 @@
-use Rattle.std.proofs.Common.{rules, ◌≡◌, ◌∷◌, ◌++◌, [], sym, ap, ◌∙◌, length, vec_len, reverse}
+use Rattle.std.proofs.Common.{rules, ◌≡◌, ◌∷◌, ◌++◌, [], sym, ap, ◌∙◌, length, vec_len}
 use Rattle.std.specs.Option.{option_to_list}
 use Rattle.cfa_lines.specs.Decks.{lines_at}
 use Rattle.cfa_lines.proofs.DeckLemmas.{remove_top}
