@@ -1,6 +1,6 @@
-use Rattle.std.proofs.Common.{◌≡◌, ◌||◌, sym, ap, ◌∙◌}
+use Rattle.std.proofs.Common.{◌||◌, ap, ◌∙◌}
 use Rattle.cfa_edits.specs.Edits.{is_among}
-use Rattle.cfa_edits.specs.Steps.{has_line, block_of}
+use Rattle.cfa_edits.specs.Steps.{block_of}
 use Rattle.cfa_edits.proofs.InsertSteps.{blocks_more}
 use Rattle.cfa_edits.proofs.inserting.add_blocks.Goals as goal
 

@@ -1,4 +1,4 @@
-use Rattle.std.proofs.Common.{rules, ◌≡◌, ◌<◌, List, ℕ, [], Ok, length, sym, subst, ap, ◌∙◌, arith, Bor, IfErr, Result}
+use Rattle.std.proofs.Common.{rules, ◌≡◌, ◌<◌, List, ℕ, [], length, sym, subst, ap, ◌∙◌, arith, Bor, IfErr, Result}
 use Rattle.std.proofs.lemmas.List.{length-map, nil_from_length}
 use Rattle.std.proofs.lemmas.Result.{on_ok_weaker}
 use Rattle.cfa_edits.specs.declared.edits.EditErr.{EditErr}

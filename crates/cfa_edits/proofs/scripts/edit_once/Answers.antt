@@ -1,4 +1,4 @@
-use Rattle.std.proofs.Common.{rules, ◌≡◌}
+use Rattle.std.proofs.Common.{rules}
 use Rattle.cfa_edits.specs.Steps.{HasLacking, AreAmong, blocks_of}
 use Rattle.cfa_edits.proofs.scripts.edit_once.Goals as goal
 
