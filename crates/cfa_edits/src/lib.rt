@@ -10,5 +10,6 @@ mod texts;
 mod writing;
 
 pub use edits::{Edit, EditErr, Spot};
+pub use fields::with_field;
 pub use scripts::{Script, texts_tell_scripts};
 pub use texts::{join_lines, split_lines};
