@@ -1,9 +1,11 @@
 -- A journal is a line for each record, each in its place, and then a last piece without a newline, if it was torn.
-use Rattle.std.specs.Prelude.{◌≡◌, ℕ, List, ◌++◌, length, None}
-use Rattle.cfa_rows.specs.Rows.{written, InOrder, HasBadLine}
+use Rattle.std.specs.Prelude.{◌≡◌, ℕ, ◌+◌, List, ◌∷◌, ◌++◌, length, None}
+use Rattle.cfa_rows.specs.Rows.{written, Reads}
 use Rattle.cfa_base.specs.Lacking.{Lacks}
 use Rattle.cfa_journal.specs.declared.records.Record.{Record}
-use Rattle.cfa_journal.specs.Records.{record_text, Follows}
+use Rattle.cfa_journal.specs.declared.positions.Position.TheVariants.{Start}
+use Rattle.cfa_journal.specs.Records.{record_text}
+use Rattle.cfa_journal.specs.Positions.{MayStand, InPlaceFrom, behind_all}
 
 -- the text of some records
 abbrev pub journal_text : List Record → List ℕ
@@ -11,7 +13,7 @@ journal_text records = written record_text records
 
 -- each record stands in its place
 abbrev pub InPlace : List Record → Type 0
-InPlace records = InOrder Follows None records
+InPlace records = InPlaceFrom Start records
 
 -- the bytes are records in their places, and a torn tail of so many bytes
 pub record IsJournal (bytes : List ℕ) (records : List Record) (torn : ℕ) : Type 0 where
@@ -22,8 +24,15 @@ pub record IsJournal (bytes : List ℕ) (records : List Record) (torn : ℕ) : T
   pub counted : length tail ≡ torn
 
 -- the first line that is no record in its place has this number, from 1
-abbrev pub HasBadRecord : List ℕ → ℕ → Type 0
-HasBadRecord bytes line = HasBadLine record_text Follows bytes line
+pub record HasBadRecord (bytes : List ℕ) (number : ℕ) : Type 0 where
+  pub before : List Record
+  pub line : List ℕ
+  pub rest : List ℕ
+  pub whole : journal_text before ++ (line ++ 10 ∷ rest) ≡ bytes
+  pub in_place : InPlace before
+  pub a_line : Lacks 10 line
+  pub no_record : Reads record_text (MayStand (behind_all Start before)) line None
+  pub counted : number ≡ length before + 1
 
 -- bytes are records in one way, and where they are some no line of them is bad
 abbrev pub OneJournal : Type 0

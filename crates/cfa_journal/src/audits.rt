@@ -1,6 +1,6 @@
 // Audits of journals: what a journal tells of each of its runs.
 ghost use Rattle.std.specs.Prelude.{◌≡◌, ◌<◌, ◌^◌, ◌-◌, IfOk, option_copied};
-ghost use Rattle.cfa_journal.specs.Audits.{audited, counted, is_done, runs_of, up_to_run};
+ghost use Rattle.cfa_journal.specs.Audits.{audited, counted, is_done, past_files, runs_of, up_to_run};
 
 use crate::{Journal, Record};
 use cfa_base::{NoMemory, Parts};
@@ -29,17 +29,31 @@ fn is_done(number: u32, item: Option<&Record>) -> bool
     }
 }
 
-// Counts one record more of a run, by the one behind it.
-fn count(run: &mut AuditedRun, item: &Record, next: Option<&Record>)
+// The first record that is no `file`.
+fn past_files(records: &[Record]) -> Option<&Record>
+    ensures { option_copied result ≡ past_files records.now }
+{
+    for i in 0..records.len() {
+        let item = &records[i];
+        match item {
+            Record::File(_, _, _, _) => {}
+            _ => return Some(item),
+        }
+    }
+    None
+}
+
+// Counts one record more of a run, by those behind it.
+fn count(run: &mut AuditedRun, item: &Record, behind: &[Record])
     requires repaired { run.old.repaired < 2 ^ 64 - 1 }
     requires failed { run.old.failed < 2 ^ 64 - 1 }
     requires opened { run.old.opened < 2 ^ 64 - 1 }
-    ensures { run.new ≡ counted run.old item.now (option_copied next.entry) }
+    ensures { run.new ≡ counted run.old item.now (past_files behind.now) }
 {
     match item {
-        Record::Run(_) => {}
+        Record::Run(_) | Record::Run2(_) | Record::File(_, _, _, _) => {}
         Record::Open(number, _, _) => {
-            if !is_done(*number, next) {
+            if !is_done(*number, past_files(behind)) {
                 run.opened += 1;
             }
         }
@@ -60,22 +74,22 @@ fn audited_run(moment: u64, behind: &[Record]) -> AuditedRun
     };
     for i in 0..behind.len() {
         let item = &behind[i];
-        if let Record::Run(_) = item {
+        if let Record::Run(_) | Record::Run2(_) = item {
             return run;
         }
-        count(&mut run, item, behind.get(i + 1));
+        count(&mut run, item, &behind[i + 1..]);
     }
     run
 }
 
-/// What a journal tells of each of its runs. Each record is looked at twice at most.
+/// What a journal tells of each of its runs. Each record is looked at three times at most.
 pub fn audit(alloc: Global, journal: &Journal) -> Result<Parts<AuditedRun>, NoMemory>
     ensures { IfOk result (λ runs. runs ≡ runs_of journal.now.records) }
 {
     let records = journal.records.as_slice();
     let mut runs = Vec::new(alloc);
     for i in 0..records.len() {
-        if let Record::Run(moment) = &records[i] {
+        if let Record::Run(moment) | Record::Run2(moment) = &records[i] {
             runs.push(audited_run(*moment, &records[i + 1..]))?;
         }
     }

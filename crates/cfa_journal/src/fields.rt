@@ -1,11 +1,16 @@
 // The fields of records, read and written.
 ghost use Rattle.std.specs.Prelude.{◌≡◌, ◌++◌, IfOk, OnOk};
 ghost use Rattle.std.specs.Fmt.{decimal};
+ghost use Rattle.std.specs.Str.{IsUtf8};
+ghost use Rattle.cfa_base.specs.Escapes.{escaped};
 ghost use Rattle.cfa_rows.specs.Rows.{Reads};
-ghost use Rattle.cfa_journal.specs.Records.{IsCount, IsMoment, IsReason, IsId, id_text, reason_text};
+ghost use Rattle.cfa_journal.specs.Records.{IsCount, IsDigest, IsFilled, IsId, IsMoment, IsReason, digest_text, id_text, reason_text};
 
-use cfa_base::{Bytes, LAST_MOMENT, Name, NoMemory, PromiseId, is_word};
-use cfa_rows::{append_number, cut, read_number};
+use crate::Digest;
+use cfa_base::{
+    Bytes, FieldErr, Key, LAST_MOMENT, Name, NoMemory, PromiseId, escape, is_word, unescape_bytes,
+};
+use cfa_rows::{append_number, cut, is_text, read_number};
 use std::alloc::Global;
 use std::str;
 
@@ -74,6 +79,47 @@ pub fn read_id(alloc: Global, text: &[u8]) -> Result<Option<PromiseId>, NoMemory
     }))
 }
 
+// The text whose escaped field this is.
+fn read_text(alloc: Global, field: &[u8]) -> Result<Option<Name>, NoMemory>
+    ensures { IfOk result (Reads escaped IsUtf8 field.now) }
+{
+    match unescape_bytes(alloc, field) {
+        Ok(text) => {
+            let _ = text.as_str();
+            Ok(Some(text))
+        }
+        Err(FieldErr::BadField) => Ok(None),
+        Err(FieldErr::NoMemory) => Err(NoMemory),
+    }
+}
+
+pub fn read_path(alloc: Global, field: &[u8]) -> Result<Option<Name>, NoMemory>
+    ensures { IfOk result (Reads escaped IsFilled field.now) }
+{
+    let Some(path) = read_text(alloc, field)? else {
+        return Ok(None);
+    };
+    if path.as_str().is_empty() {
+        return Ok(None);
+    }
+    Ok(Some(path))
+}
+
+pub fn read_digest(field: &[u8]) -> Option<Digest>
+    ensures { Reads digest_text IsDigest field.now result }
+{
+    if is_text(field, "-") {
+        return Some(Digest::Nothing);
+    }
+    if is_text(field, "*") {
+        return Some(Digest::Over);
+    }
+    match Key::read(field) {
+        Some(key) => Some(Digest::Sha(key)),
+        None => None,
+    }
+}
+
 pub fn append_id(alloc: Global, bytes: &mut Bytes, id: &PromiseId) -> Result<(), NoMemory>
     ensures { OnOk result (bytes.new ≡ bytes.old ++ id_text id.now) }
 {
@@ -89,4 +135,20 @@ pub fn append_reason(alloc: Global, bytes: &mut Bytes, reason: u8) -> Result<(),
 {
     bytes.append(b"F")?;
     append_number(alloc, bytes, u64::from(reason))
+}
+
+pub fn append_path(alloc: Global, bytes: &mut Bytes, path: &Name) -> Result<(), NoMemory>
+    ensures { OnOk result (bytes.new ≡ bytes.old ++ escaped path.now) }
+{
+    bytes.append(escape(alloc, path)?.as_str().as_bytes())
+}
+
+pub fn append_digest(bytes: &mut Bytes, digest: &Digest) -> Result<(), NoMemory>
+    ensures { OnOk result (bytes.new ≡ bytes.old ++ digest_text digest.now) }
+{
+    match digest {
+        Digest::Nothing => bytes.append(b"-"),
+        Digest::Over => bytes.append(b"*"),
+        Digest::Sha(key) => bytes.append(key.digits()),
+    }
 }

@@ -1,17 +1,18 @@
 // Journals.
-ghost use Rattle.std.specs.Prelude.{◌≡◌, ◌++◌, ◌<◌, ◌≤◌, ◌↔◌, [], ◌∷◌, ℕ, length, IfErr, IfOk};
+ghost use Rattle.std.specs.Prelude.{◌≡◌, ◌≢◌, ◌++◌, ◌<◌, ◌≤◌, ◌↔◌, [], ◌∷◌, ℕ, length, IfErr, IfOk};
 ghost use Rattle.cfa_rows.specs.Rows.{Reads};
-ghost use Rattle.cfa_journal.specs.Records.{record_text, IsRecord, Follows};
+ghost use Rattle.cfa_journal.specs.Records.{record_text, IsRecord};
+ghost use Rattle.cfa_journal.specs.Positions.{MayStand};
 ghost use Rattle.cfa_journal.specs.Journals.{IsJournal, HasBadRecord};
 ghost use Rattle.cfa_journal.specs.declared.journals.JournalErr.TheVariants.{NoMemory};
 
 use crate::Record;
+use crate::positions::{Position, behind, is_in_place};
 use crate::reading::{append_record, read_record};
-use crate::records::is_in_place;
 use cfa_base as base;
 use cfa_base::{Bytes, Parts};
-use cfa_rows::{Format, RowsErr, read_rows};
-use std::alloc::Global;
+use cfa_rows::cut;
+use std::alloc::{AllocFailed, Global};
 use thiserror::Error;
 
 /// The most bytes of a journal.
@@ -37,33 +38,19 @@ pub enum JournalErr {
     NoMemory,
 }
 
-// How records are written as lines.
-struct Lines;
+impl From<base::NoMemory> for JournalErr {
+    ghost from_gives = { λ _ e. e ≡ NoMemory };
 
-impl Format for Lines {
-    type Row = Record;
-
-    ghost form = { record_text };
-
-    ghost follows = { Follows };
-
-    fn append(alloc: Global, bytes: &mut Bytes, row: &Record) -> Result<(), base::NoMemory> {
-        append_record(alloc, bytes, row)
+    fn from(_: base::NoMemory) -> Self {
+        JournalErr::NoMemory
     }
+}
 
-    fn read(
-        alloc: Global,
-        last: Option<&Record>,
-        line: &[u8],
-    ) -> Result<Option<Record>, base::NoMemory> {
-        let Some(record) = read_record(alloc, line)? else {
-            return Ok(None);
-        };
-        if is_in_place(last, &record) {
-            Ok(Some(record))
-        } else {
-            Ok(None)
-        }
+impl<T: Drop> From<AllocFailed<T>> for JournalErr {
+    ghost from_gives = { λ _ e. e ≡ NoMemory };
+
+    fn from(_: AllocFailed<T>) -> Self {
+        JournalErr::NoMemory
     }
 }
 
@@ -78,6 +65,44 @@ pub fn write(alloc: Global, item: &Record) -> Result<Bytes, base::NoMemory>
     Ok(bytes)
 }
 
+// The record that a line is at this position. `None` where the line is no record that may stand there.
+fn read_at(alloc: Global, position: Position, line: &[u8]) -> Result<Option<Record>, base::NoMemory>
+    ensures { IfOk result (Reads record_text (MayStand position) line.now) }
+{
+    let Some(record) = read_record(alloc, line)? else {
+        return Ok(None);
+    };
+    if is_in_place(position, &record) {
+        Ok(Some(record))
+    } else {
+        Ok(None)
+    }
+}
+
+// The records that bytes are, and what stands behind the last newline.
+fn read_lines(alloc: Global, bytes: &[u8]) -> Result<(Vec<Record>, &[u8]), JournalErr>
+    requires { length bytes.now ≤ MOST_JOURNAL_BYTES }
+    ensures ok { IfOk result (λ r. IsJournal bytes.now r.0.items (length r.1.now)) }
+    ensures bad { IfErr result (λ e. (line : ℕ) → e ≡ JournalErr.BadRecord line
+        → HasBadRecord bytes.now line) }
+    ensures short { result ≢ Err JournalErr.TooLong }
+{
+    let mut records = Vec::new(alloc);
+    let mut position = Position::Start;
+    let mut rest = bytes;
+    let mut number = 1;
+    'lines: while let Some((line, behind_line)) = cut(rest, b'\n') {
+        let Some(record) = read_at(alloc, position, line)? else {
+            return Err(JournalErr::BadRecord(number));
+        };
+        position = behind(position, &record);
+        records.push(record)?;
+        rest = behind_line;
+        number += 1;
+    }
+    Ok((records, rest))
+}
+
 /// The records of a journal. A last line without a newline is told as torn.
 pub fn read(alloc: Global, bytes: &Bytes) -> Result<Journal, JournalErr>
     ensures ok { IfOk result (λ journal. IsJournal bytes.now journal.records journal.torn) }
@@ -90,12 +115,9 @@ pub fn read(alloc: Global, bytes: &Bytes) -> Result<Journal, JournalErr>
     if bytes.len() > MOST_JOURNAL_BYTES {
         return Err(JournalErr::TooLong);
     }
-    match read_rows::<Lines>(alloc, bytes) {
-        Ok((records, rest)) => Ok(Journal {
-            records: Parts::from_vec(records),
-            torn: rest.len() as u64,
-        }),
-        Err(RowsErr::BadLine(line)) => Err(JournalErr::BadRecord(line as u32)),
-        Err(RowsErr::NoMemory) => Err(JournalErr::NoMemory),
-    }
+    let (records, rest) = read_lines(alloc, bytes)?;
+    Ok(Journal {
+        records: Parts::from_vec(records),
+        torn: rest.len() as u64,
+    })
 }

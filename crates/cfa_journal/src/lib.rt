@@ -5,10 +5,11 @@ mod audits;
 mod fields;
 mod journals;
 mod laws;
+mod positions;
 mod reading;
 mod records;
 
 pub use audits::{AuditedRun, audit};
 pub use journals::{Journal, JournalErr, MOST_JOURNAL_BYTES, read, write};
 pub use laws::one_journal;
-pub use records::Record;
+pub use records::{Digest, Record};

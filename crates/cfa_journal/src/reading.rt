@@ -1,20 +1,35 @@
 // Records, read and written as lines without their newline.
-ghost use Rattle.std.specs.Prelude.{◌≡◌, ◌++◌, IfOk, OnOk, [], codes};
+ghost use Rattle.std.specs.Prelude.{◌≡◌, ◌++◌, IfOk, OnOk, [], codes, false};
 ghost use Rattle.std.specs.Fmt.{decimal};
+ghost use Rattle.std.specs.Str.{bytes_eq};
+ghost use Rattle.cfa_base.specs.Escapes.{escaped};
+ghost use Rattle.cfa_base.specs.Lacking.{Lacks};
 ghost use Rattle.cfa_rows.specs.Rows.{Reads, ◌then◌};
-ghost use Rattle.cfa_journal.specs.Records.{IsRecord, IsCount, record_text};
+ghost use Rattle.cfa_journal.specs.Records.{IsRecord, IsCount, digest_text, record_text};
 
-use crate::Record;
-use crate::fields::{append_id, append_reason, read_count, read_id, read_moment, read_reason};
-use cfa_base::{Bytes, Key, NoMemory};
+use crate::fields::{
+    append_digest, append_id, append_path, append_reason, read_count, read_digest, read_id,
+    read_moment, read_path, read_reason,
+};
+use crate::{Digest, Record};
+use cfa_base::{Bytes, Key, Name, NoMemory};
 use cfa_rows::{append_number, cut, is_text};
 use std::alloc::Global;
 
 fn read_run(fields: &[u8]) -> Option<Record>
     ensures { Reads record_text IsRecord (codes "run" then fields.now) result }
 {
-    match read_moment(fields) {
-        Some(moment) => Some(Record::Run(moment)),
+    let Some((moment, version)) = cut(fields, b' ') else {
+        return match read_moment(fields) {
+            Some(moment) => Some(Record::Run(moment)),
+            None => None,
+        };
+    };
+    if !is_text(version, "2") {
+        return None;
+    }
+    match read_moment(moment) {
+        Some(moment) => Some(Record::Run2(moment)),
         None => None,
     }
 }
@@ -32,6 +47,29 @@ fn read_open(alloc: Global, number: u32, rest: &[u8]) -> Result<Option<Record>, 
     };
     match Key::read(key) {
         Some(key) => Ok(Some(Record::Open(number, id, key))),
+        None => Ok(None),
+    }
+}
+
+fn read_file(alloc: Global, number: u32, rest: &[u8]) -> Result<Option<Record>, NoMemory>
+    requires { IsCount number }
+    ensures { IfOk result
+        (Reads record_text IsRecord (codes "file" then decimal number then rest.now)) }
+{
+    let Some((path, rest)) = cut(rest, b' ') else {
+        return Ok(None);
+    };
+    let Some((before, after)) = cut(rest, b' ') else {
+        return Ok(None);
+    };
+    let Some(before) = read_digest(before) else {
+        return Ok(None);
+    };
+    let Some(after) = read_digest(after) else {
+        return Ok(None);
+    };
+    match read_path(alloc, path)? {
+        Some(path) => Ok(Some(Record::File(number, path, before, after))),
         None => Ok(None),
     }
 }
@@ -81,6 +119,32 @@ fn read_fail(alloc: Global, number: u32, rest: &[u8]) -> Result<Option<Record>, 
     }
 }
 
+// The record of this word and number, by its other fields.
+fn read_numbered(
+    alloc: Global,
+    word: &[u8],
+    number: u32,
+    rest: &[u8],
+) -> Result<Option<Record>, NoMemory>
+    requires count { IsCount number }
+    requires no_space { Lacks 32 word.now }
+    requires no_run { bytes_eq word.now (codes "run") ≡ false }
+    ensures { IfOk result
+        (Reads record_text IsRecord (word.now then decimal number then rest.now)) }
+{
+    if is_text(word, "open") {
+        read_open(alloc, number, rest)
+    } else if is_text(word, "file") {
+        read_file(alloc, number, rest)
+    } else if is_text(word, "done") {
+        Ok(read_done(number, rest))
+    } else if is_text(word, "fail") {
+        read_fail(alloc, number, rest)
+    } else {
+        Ok(None)
+    }
+}
+
 /// The record that a line is.
 pub fn read_record(alloc: Global, line: &[u8]) -> Result<Option<Record>, NoMemory>
     ensures { IfOk result (Reads record_text IsRecord line.now) }
@@ -97,15 +161,7 @@ pub fn read_record(alloc: Global, line: &[u8]) -> Result<Option<Record>, NoMemor
     let Some(number) = read_count(number) else {
         return Ok(None);
     };
-    if is_text(word, "open") {
-        read_open(alloc, number, rest)
-    } else if is_text(word, "done") {
-        Ok(read_done(number, rest))
-    } else if is_text(word, "fail") {
-        read_fail(alloc, number, rest)
-    } else {
-        Ok(None)
-    }
+    read_numbered(alloc, word, number, rest)
 }
 
 fn append_numbered(
@@ -122,21 +178,50 @@ fn append_numbered(
     bytes.append(b" ")
 }
 
+fn append_run(alloc: Global, bytes: &mut Bytes, moment: u64) -> Result<(), NoMemory>
+    ensures { OnOk result (bytes.new ≡ bytes.old ++ (codes "run" then decimal moment)) }
+{
+    bytes.append(b"run ")?;
+    append_number(alloc, bytes, moment)
+}
+
+fn append_file(
+    alloc: Global,
+    bytes: &mut Bytes,
+    path: &Name,
+    before: &Digest,
+    after: &Digest,
+) -> Result<(), NoMemory>
+    ensures { OnOk result (bytes.new ≡ bytes.old
+        ++ (escaped path.now then digest_text before.now then digest_text after.now)) }
+{
+    append_path(alloc, bytes, path)?;
+    bytes.append(b" ")?;
+    append_digest(bytes, before)?;
+    bytes.append(b" ")?;
+    append_digest(bytes, after)
+}
+
 /// Adds a record's line, without its newline.
 #[tactic(auto, unfolding(crate::specs::Records::record_text))]
 pub fn append_record(alloc: Global, bytes: &mut Bytes, item: &Record) -> Result<(), NoMemory>
     ensures { OnOk result (bytes.new ≡ bytes.old ++ record_text item.now) }
 {
     match item {
-        Record::Run(moment) => {
-            bytes.append(b"run ")?;
-            append_number(alloc, bytes, *moment)
+        Record::Run(moment) => append_run(alloc, bytes, *moment),
+        Record::Run2(moment) => {
+            append_run(alloc, bytes, *moment)?;
+            bytes.append(b" 2")
         }
         Record::Open(number, id, key) => {
             append_numbered(alloc, bytes, "open", *number)?;
             append_id(alloc, bytes, id)?;
             bytes.append(b" ")?;
             bytes.append(key.digits())
+        }
+        Record::File(number, path, before, after) => {
+            append_numbered(alloc, bytes, "file", *number)?;
+            append_file(alloc, bytes, path, before, after)
         }
         Record::Repaired(number, changes) => {
             append_numbered(alloc, bytes, "done", *number)?;

@@ -1,5 +1,5 @@
 use Rattle.std.proofs.Common.{◌≡◌, arith}
-use Rattle.cfa_journal.proofs.RecordLemmas.{same_number, count_small}
+use Rattle.cfa_journal.proofs.FieldLemmas.{same_number, count_small}
 use Rattle.cfa_journal.proofs.fields.read_count.Goals as goal
 use Rattle.cfa_journal.proofs.fields.read_count.Goals.{else-number-ge1-via-then-number-ge1+else-number-from, else-number-ge1-via-else-number-ge1}
 

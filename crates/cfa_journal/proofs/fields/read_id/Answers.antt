@@ -2,7 +2,7 @@ use Rattle.std.proofs.Common.{ap, sym, ◌∙◌}
 use Rattle.std.proofs.lemmas.Bool.{both_ways}
 use Rattle.cfa_base.specs.Lexing.{is_word}
 use Rattle.cfa_rows.specs.lemmas.Cuts.{no_cut}
-use Rattle.cfa_journal.proofs.RecordLemmas.{id_cut, numbers_cut, word_utf8}
+use Rattle.cfa_journal.proofs.FieldLemmas.{id_cut, numbers_cut, word_utf8}
 use Rattle.cfa_journal.proofs.fields.read_id.Goals as goal
 
 pub returns-in_default : goal.returns-in_default

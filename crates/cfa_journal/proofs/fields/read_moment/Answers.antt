@@ -1,5 +1,5 @@
 use Rattle.std.proofs.Common.{◌≡◌, arith}
-use Rattle.cfa_journal.proofs.RecordLemmas.{same_number, moment_small}
+use Rattle.cfa_journal.proofs.FieldLemmas.{same_number, moment_small}
 use Rattle.cfa_journal.proofs.fields.read_moment.Goals as goal
 
 pub returns-else-moment-le-LAST_MOMENT : goal.returns-else-moment-le-LAST_MOMENT

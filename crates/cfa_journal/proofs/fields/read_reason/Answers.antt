@@ -1,5 +1,5 @@
 use Rattle.std.proofs.Common.{◌≡◌, sym, ⊎_elim, arith}
-use Rattle.cfa_journal.proofs.RecordLemmas.{same_number, reason_small, tail_of}
+use Rattle.cfa_journal.proofs.FieldLemmas.{same_number, reason_small, tail_of}
 use Rattle.cfa_journal.proofs.fields.read_reason.Goals as goal
 
 pub returns-else-reason-ge1 : goal.returns-else-reason-ge1

@@ -1,5 +1,6 @@
 use Rattle.std.proofs.Common.{sym, ◌∙◌}
-use Rattle.cfa_journal.proofs.RecordLemmas.{done_only, done_has_space, done_repaired, done_failed, done_neither, repaired_text, failed_text}
+use Rattle.cfa_journal.proofs.LineLemmas.{repaired_text, failed_text}
+use Rattle.cfa_journal.proofs.RecordLemmas.{done_only, done_has_space, done_repaired, done_failed, done_neither}
 use Rattle.cfa_journal.proofs.reading.read_done.Goals as goal
 
 pub returns-in_default : goal.returns-in_default

@@ -1,7 +1,9 @@
 use Rattle.std.proofs.Common.{ap, sym, ◌∙◌}
 use Rattle.cfa_base.specs.Keys.{is_key}
 use Rattle.cfa_rows.specs.lemmas.Cuts.{no_cut}
-use Rattle.cfa_journal.proofs.RecordLemmas.{fail_only, fail_cut, reason_cut, fail_text, key_none, key_some}
+use Rattle.cfa_journal.proofs.FieldLemmas.{key_none, key_some}
+use Rattle.cfa_journal.proofs.LineLemmas.{fail_text}
+use Rattle.cfa_journal.proofs.RecordLemmas.{fail_only, fail_cut, reason_cut}
 use Rattle.cfa_journal.proofs.reading.read_fail.Goals as goal
 
 pub returns-in_default : goal.returns-in_default

@@ -1,7 +1,9 @@
 use Rattle.std.proofs.Common.{ap, sym, ◌∙◌}
 use Rattle.cfa_base.specs.Keys.{is_key}
 use Rattle.cfa_rows.specs.lemmas.Cuts.{no_cut}
-use Rattle.cfa_journal.proofs.RecordLemmas.{open_only, open_cut, open_text, key_none, key_some}
+use Rattle.cfa_journal.proofs.FieldLemmas.{key_none, key_some}
+use Rattle.cfa_journal.proofs.LineLemmas.{open_text}
+use Rattle.cfa_journal.proofs.RecordLemmas.{open_only, open_cut}
 use Rattle.cfa_journal.proofs.reading.read_open.Goals as goal
 
 pub returns-in_default : goal.returns-in_default

@@ -1,6 +1,6 @@
 use Rattle.std.proofs.Common.{sym, ◌∙◌}
 use Rattle.cfa_rows.specs.lemmas.Cuts.{no_cut}
-use Rattle.cfa_journal.proofs.RecordLemmas.{has_space, numbered, number_cut, four_words}
+use Rattle.cfa_journal.proofs.RecordLemmas.{has_space, numbered, number_cut}
 use Rattle.cfa_journal.proofs.reading.read_record.Goals as goal
 
 pub returns-in_default : goal.returns-in_default
@@ -15,7 +15,3 @@ pub returns-in_default-read_count : goal.returns-in_default-read_count
 returns-in_default-read_count c row is same =
     let p = numbered row _ _ _ is same c.in-Some.ensures.some (sym c.is_text.ensures ∙ c.if-is_text.false) in
     c.in_default-read_count.ensures p.n p.is (number_cut p _ _ c.in-Some-cut.ensures.some)
-
-pub returns-else-is_text-4 : goal.returns-else-is_text-4
-returns-else-is_text-4 c row is same =
-    four_words row _ _ _ same c.in-Some.ensures.some (sym c.is_text.ensures ∙ c.if-is_text.false) (sym c.is_text-2.ensures ∙ c.if-is_text-2.false) (sym c.is_text-else-is_text-2.ensures ∙ c.if-is_text-3.false) (sym c.is_text-else-is_text-3.ensures ∙ c.if-is_text-4.false)
