@@ -1,0 +1,10 @@
+mod MoveLemmas
+mod AnswerLemmas
+mod VisitLemmas
+mod WeightLemmas
+mod LightLemmas
+mod RunLemmas
+mod GrowLemmas
+mod AlikeLemmas
+mod StandingLemmas
+mod FrameRows

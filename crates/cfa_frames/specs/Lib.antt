@@ -1,0 +1,5 @@
+pub mod Frames
+pub mod Moves
+pub mod Weights
+pub mod Growing
+pub mod Standing

@@ -1,0 +1,9 @@
+//! What a run has still to do, as a stack of frames: its moves, and what holds of them.
+#![tactic(auto)]
+
+mod laws;
+
+pub use laws::{
+    frames_stay_nested, histories_only_grow, moves_keep_what_is_left, moves_lower_the_weight,
+    moves_make_the_run,
+};
