@@ -1,0 +1,12 @@
+pub mod Occurrences
+pub mod PlainTexts
+pub mod Searches
+pub mod Written
+pub mod Bytes
+pub mod Fields
+pub mod Kept
+pub mod Later
+pub mod Settling
+pub mod Decisions
+pub mod Contained
+pub mod FirstClash

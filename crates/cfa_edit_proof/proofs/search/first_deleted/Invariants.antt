@@ -1,0 +1,7 @@
+use Rattle.std.proofs.Common.{◌≡◌}
+use Rattle.cfa_edits.specs.declared.edits.Edit.TheVariants.{Delete}
+use Rattle.cfa_edit_proof.specs.Steps.{NoneClash}
+use Rattle.cfa_edit_proof.proofs.search.first_deleted.Given as goal
+
+abbrev pub invariant-loop-place : goal.invariant-loop-place
+invariant-loop-place l = NoneClash (Delete l.fn.matcher) l.edits l.from l.place × (l.matcher ≡ l.fn.matcher)

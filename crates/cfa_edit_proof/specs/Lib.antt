@@ -1,0 +1,5 @@
+pub mod Plain
+pub mod Clashes
+pub mod Quiet
+pub mod Decisions
+pub mod Steps
