@@ -2,10 +2,12 @@
 ghost use Rattle.std.specs.Prelude.{◌≡◌, ℕ, ◌+◌, ◌<◌, ◌≤◌, ◌^◌, None, false, length, All, IfOk};
 ghost use Rattle.std.specs.List.{AllWithin};
 ghost use Rattle.cfa_edits.specs.Scripts.{IsEdit, AreEdits};
-ghost use Rattle.cfa_edit_proof.specs.Quiet.{IsFirstClash};
+ghost use Rattle.cfa_edit_proof.specs.Quiet.{IsFirstClash, Settles};
+ghost use Rattle.cfa_edit_proof.specs.Decisions.{NeverUnsettled};
 ghost use Rattle.cfa_edit_proof.specs.Steps.{is_replace, IsFirstOf};
 
 use crate::Clash;
+use crate::laws::{have_texts, quiet_never_fails, quiet_settles};
 use crate::pairs::{clashes_alone, rule_between};
 use crate::search::{first_clashing, first_replace};
 use cfa_base::NoMemory;
@@ -16,7 +18,9 @@ use std::alloc::Global;
 /// script is quiet.
 pub fn quiet(alloc: Global, script: &Script) -> Result<Option<Clash>, NoMemory>
     requires { length script.now < 2 ^ 32 }
-    ensures { IfOk result (IsFirstClash script.now) }
+    ensures least { IfOk result (IsFirstClash script.now) }
+    ensures settles { IfOk result (λ found. found ≡ None → Settles script.now) }
+    ensures decided { IfOk result (λ found. found ≡ None → NeverUnsettled script.now) }
 {
     let edits = script.edits();
     let replaces = first_replace(edits);
@@ -25,6 +29,9 @@ pub fn quiet(alloc: Global, script: &Script) -> Result<Option<Clash>, NoMemory>
             return Ok(Some(clash));
         }
     }
+    have_texts(edits);
+    quiet_settles();
+    quiet_never_fails();
     Ok(None)
 }
 

@@ -11,4 +11,4 @@ mod texts;
 
 pub use clashes::Clash;
 pub use finding::quiet;
-pub use laws::{quiet_never_fails, quiet_settles};
+pub use laws::{have_texts, quiet_never_fails, quiet_settles};
