@@ -10,3 +10,4 @@ pub mod Settling
 pub mod Decisions
 pub mod Contained
 pub mod FirstClash
+pub mod Rows
