@@ -1,0 +1,5 @@
+pub mod GapLemmas
+pub mod HistoryRows
+pub mod RowLemmas
+pub mod SumLemmas
+pub mod TableLemmas
