@@ -1,10 +1,10 @@
 // Changes of a host. All texts are made before the first effect, and a row is put in memory before its line is written
 // and taken back where that fails. So an error leaves the host as it was.
-use crate::errors::HostErr;
+use crate::errors::{HostErr, Part, Why, at, refused};
 use crate::held::Held;
 use crate::kept_rows::KeptRows;
 use crate::layout::Table;
-use crate::looking::{Spot, ends_component};
+use crate::looking::{Spot, ends_component, folder_of, part_of};
 use crate::putting::{Leaf, put, remove};
 use cfa_base::{Bytes, Key, Name};
 use cfa_outside::{Change, Path, Perms, ServiceRow};
@@ -83,9 +83,9 @@ impl<F: Write + OpenFile> Held<F> {
         end: usize,
     ) -> Result<(), HostErr> {
         let first = end.saturating_sub(self.layout.tree.len()).max(1);
-        for at in first..path.len().saturating_add(1) {
-            if ends_component(path, at) {
-                let node = path.get(..at).ok_or(HostErr::Refused)?;
+        for place in first..path.len().saturating_add(1) {
+            if ends_component(path, place) {
+                let node = path.get(..place).ok_or(refused(Why::Misfit))?;
                 self.forget_row(rt, alloc, node)?;
             }
         }
@@ -101,17 +101,20 @@ impl<F: Write + OpenFile> Held<F> {
     ) -> Result<(), HostErr> {
         let text = path.text().as_str();
         let real = self.layout.real(alloc, text)?;
-        let end = match (self.spot(rt, real.as_str())?, leaf) {
-            (Spot::Missing(end), _) => {
-                self.forget_rows(rt, alloc, text, end)?;
-                end
-            }
+        let spot = self.spot(rt, real.as_str())?;
+        let end = match (spot, leaf) {
+            (Spot::Missing(end), _) => end,
             (Spot::File(_), Leaf::File(_)) => real.len(),
-            _ => return Err(HostErr::Refused),
+            _ => return Err(refused(Why::Misfit)),
         };
+        let folder = folder_of(part_of(real.as_str(), end)?)?;
+        self.settle_above(rt, alloc, folder)?;
+        if let Spot::Missing(end) = spot {
+            self.forget_rows(rt, alloc, text, end)?;
+        }
         let stage = self.layout.stage.as_str();
         let lasting = put(rt, alloc, stage, real.as_str(), end, leaf)?;
-        self.settle(lasting)
+        self.keep(alloc, folder, lasting)
     }
 
     fn remove_node<R: Files<File = F>>(
@@ -123,15 +126,20 @@ impl<F: Write + OpenFile> Held<F> {
         let text = path.text().as_str();
         let real = self.layout.real(alloc, text)?;
         let spot = self.spot(rt, real.as_str())?;
+        if let Spot::Missing(_) | Spot::Blocked = spot {
+            return Err(refused(Why::Misfit));
+        }
+        let folder = folder_of(real.as_str())?;
+        self.settle_above(rt, alloc, folder)?;
         self.forget_walked();
         let lasting = remove(rt, real.as_str(), spot)?;
-        self.settle(lasting)?;
+        self.keep(alloc, folder, lasting)?;
         // The row of a node that is gone counts for nothing, so the change is made also where the row stays.
         let _ = self.forget_row(rt, alloc, text);
         Ok(())
     }
 
-    // Refuses a path at which no node stands.
+    // Refuses a path at which no node stands, and brings the name of one that does to the disk.
     fn find_node<R: Files<File = F>>(
         &mut self,
         rt: &R,
@@ -140,8 +148,8 @@ impl<F: Write + OpenFile> Held<F> {
     ) -> Result<(), HostErr> {
         let real = self.layout.real(alloc, text)?;
         match self.spot(rt, real.as_str())? {
-            Spot::File(_) | Spot::Dir => Ok(()),
-            Spot::Missing(_) | Spot::Blocked => Err(HostErr::Refused),
+            Spot::File(_) | Spot::Dir => self.settle_above(rt, alloc, real.as_str()),
+            Spot::Missing(_) | Spot::Blocked => Err(refused(Why::Misfit)),
         }
     }
 
@@ -181,7 +189,7 @@ impl<F: Write + OpenFile> Held<F> {
     ) -> Result<(), HostErr> {
         let text = name.as_str();
         if !self.tables.services.has(text) {
-            return Err(HostErr::Refused);
+            return at(Part::Services, Err(refused(Why::Misfit)));
         }
         let line = service_line(alloc, name, row)?;
         let kept = (name.copy(alloc)?, row);
@@ -205,15 +213,17 @@ impl<F: Write + OpenFile> Held<F> {
         keep_if(noted, &mut self.tables.locks, text, old)
     }
 
-    /// Makes a change. It lasts when this returns, and was made in order.
+    /// Makes a change. It lasts when this returns, and was made in order. A record that tells that a repair was done lasts when
+    /// the next change or `write_tables` returns.
     pub fn change<R: Files<File = F>>(
         &mut self,
         rt: &R,
         alloc: Global,
         change: &Change,
     ) -> Result<(), HostErr> {
-        if !self.is_sound() {
-            return Err(HostErr::Refused);
+        self.make_ready(rt, alloc)?;
+        if !matches!(change, Change::Append(_)) {
+            self.settle_journal()?;
         }
         let made = match change {
             Change::PutFile(path, bytes) => {

@@ -1,5 +1,5 @@
 // Real files, read and written whole.
-use crate::errors::{HostErr, answer_of};
+use crate::errors::{HostErr, Why, answer_of, refused};
 use crate::looking::{Found, Kind, kind_at};
 use cfa_base::Bytes;
 use std::alloc::Global;
@@ -41,10 +41,10 @@ fn read_to_end<F: Read>(
         }
         all.append(&piece[..count])?;
         if all.as_slice().len() as u64 > most {
-            return Err(HostErr::Refused);
+            return Err(refused(Why::OfAnotherLength));
         }
     }
-    Err(HostErr::Refused)
+    Err(refused(Why::OfAnotherLength))
 }
 
 /// The bytes of a regular file of no more than `most` bytes. What is opened is held against what was found,
@@ -58,8 +58,11 @@ pub fn read_found<R: Files>(
 ) -> Result<Bytes, HostErr> {
     let mut file = fs::open(rt, path)?;
     let opened = file.metadata()?;
-    if opened.dev() != found.device || opened.ino() != found.inode || opened.len() > most {
-        return Err(HostErr::Refused);
+    if opened.dev() != found.device || opened.ino() != found.inode {
+        return Err(refused(Why::Swapped));
+    }
+    if opened.len() > most {
+        return Err(refused(Why::OfAnotherLength));
     }
     read_to_end(alloc, &mut file, opened.len(), most)
 }
@@ -74,6 +77,6 @@ pub fn read_if_there<R: Files>(
     match kind_at(rt, path)? {
         Kind::Missing => Ok(Bytes::from_vec(Vec::new(alloc))),
         Kind::File(found) => read_found(rt, alloc, path, found, most),
-        Kind::Dir | Kind::Other => Err(HostErr::Refused),
+        Kind::Dir | Kind::Other => Err(refused(Why::OfAnotherKind)),
     }
 }

@@ -1,24 +1,31 @@
 // Files of a host that grow at their end: the journal, and the rows that changed since the tables were written.
-use crate::errors::{HostErr, answer_of};
+use crate::errors::{HostErr, Why, answer_of, refused};
 use crate::files::sync_folder;
 use crate::looking::{Kind, kind_at};
 use std::fs::{OpenFile, OpenOptions};
 use std::io::Write;
 use std::rt::Files;
 
-/// A file that grows at its end. It is opened when it is first written.
+/// When what is added to a file is to last.
+#[derive(Clone, Copy, PartialEq, Eq)]
+pub enum When {
+    /// As soon as it is added.
+    AtOnce,
+    /// As soon as the file is settled, or something else is added.
+    Later,
+}
+
+/// A file that grows at its end. It is opened, and what another process left in it is synced, when it is first settled or
+/// written.
 #[derive(Drop)]
 pub struct Growing<F> {
     path: String,
     file: Option<F>,
     len: u64,
+    // What was added last isn't known to be on the disk.
+    is_pending: bool,
     // False once nobody knows what stands at its end.
     sound: bool,
-}
-
-fn write_and_sync<F: Write + OpenFile>(file: &mut F, bytes: &[u8]) -> Result<(), HostErr> {
-    file.write_all(bytes)?;
-    answer_of(file.sync_data())
 }
 
 fn cut_to<F: OpenFile>(file: &F, len: u64) -> Result<(), HostErr> {
@@ -26,28 +33,38 @@ fn cut_to<F: OpenFile>(file: &F, len: u64) -> Result<(), HostErr> {
     answer_of(file.sync_data())
 }
 
-// Opens a file at its end, which is to be at `len`. It is made where it is missing.
-fn open_at<R: Files>(rt: &R, root: &str, path: &str, len: u64) -> Result<R::File, HostErr> {
+// Opens a file at its end, and tells whether it was missing and is made now.
+fn open_at<R: Files>(rt: &R, path: &str) -> Result<(R::File, bool), HostErr> {
     let is_new = match kind_at(rt, path)? {
         Kind::Missing => true,
         Kind::File(_) => false,
-        Kind::Dir | Kind::Other => return Err(HostErr::Refused),
+        Kind::Dir | Kind::Other => return Err(refused(Why::OfAnotherKind)),
     };
     let mut options = OpenOptions::new();
     options.append(true).create(true);
-    let file = options.open(rt, path)?;
+    Ok((options.open(rt, path)?, is_new))
+}
+
+// Brings a file to the disk, of which the first `len` bytes count, and its name where it is new.
+fn bring<R: Files>(
+    rt: &R,
+    root: &str,
+    file: &R::File,
+    len: u64,
+    is_new: bool,
+) -> Result<(), HostErr> {
     let now = file.metadata()?.len();
     if now < len {
-        return Err(HostErr::Refused);
+        return Err(refused(Why::OfAnotherLength));
     }
     if now > len {
-        cut_to(&file, len)?;
+        file.set_len(len)?;
     }
+    file.sync_all()?;
     if is_new {
-        file.sync_all()?;
         sync_folder(rt, root)?;
     }
-    Ok(file)
+    Ok(())
 }
 
 impl<F: Write + OpenFile> Growing<F> {
@@ -57,6 +74,7 @@ impl<F: Write + OpenFile> Growing<F> {
             path,
             file: None,
             len,
+            is_pending: false,
             sound: true,
         }
     }
@@ -69,40 +87,97 @@ impl<F: Write + OpenFile> Growing<F> {
         self.sound
     }
 
+    /// Whether what was added last isn't known to be on the disk.
+    pub fn is_pending(&self) -> bool {
+        self.is_pending
+    }
+
     fn open<R: Files<File = F>>(&mut self, rt: &R, root: &str) -> Result<(), HostErr> {
         if !self.sound {
-            return Err(HostErr::Refused);
+            return Err(refused(Why::Unsure));
         }
         if self.file.is_none() {
-            self.file = Some(open_at(rt, root, self.path.as_str(), self.len)?);
+            let (file, is_new) = open_at(rt, self.path.as_str())?;
+            let brought = bring(rt, root, &file, self.len, is_new);
+            self.file = Some(file);
+            self.sound = brought.is_ok();
+            return brought;
         }
         Ok(())
     }
 
-    /// Adds bytes at the end and syncs them, or leaves the file as it was.
+    // Writes bytes at the end, or leaves the file as it was.
+    fn write(&mut self, bytes: &[u8]) -> Result<(), HostErr> {
+        let Some(file) = &mut self.file else {
+            return Err(refused(Why::Unsure));
+        };
+        match file.write_all(bytes) {
+            Ok(()) => {
+                self.len = self.len.saturating_add(bytes.len() as u64);
+                Ok(())
+            }
+            Err(error) => {
+                self.sound = cut_to(file, self.len).is_ok();
+                Err(HostErr::from(error))
+            }
+        }
+    }
+
+    // Syncs what was added since the file had so many bytes. Where that fails it is taken away; and what was added before it
+    // and was never synced can't be known to be there.
+    fn sync_from(&mut self, len: u64) -> Result<(), HostErr> {
+        let Some(file) = &self.file else {
+            return Err(refused(Why::Unsure));
+        };
+        let synced = answer_of(file.sync_data());
+        if synced.is_err() {
+            self.sound = cut_to(file, len).is_ok() && !self.is_pending;
+            self.len = len;
+        }
+        self.is_pending = false;
+        synced
+    }
+
+    /// Brings what another process left in the file to the disk. Nothing is made where the file has no bytes.
+    pub fn make_ready<R: Files<File = F>>(&mut self, rt: &R, root: &str) -> Result<(), HostErr> {
+        if self.len == 0 {
+            return Ok(());
+        }
+        self.open(rt, root)
+    }
+
+    /// Syncs what was added last, where that isn't done.
+    pub fn settle(&mut self) -> Result<(), HostErr> {
+        if self.is_pending {
+            self.sync_from(self.len)
+        } else {
+            Ok(())
+        }
+    }
+
+    /// Adds bytes at the end, or leaves the file as it was.
     pub fn append<R: Files<File = F>>(
         &mut self,
         rt: &R,
         root: &str,
         bytes: &[u8],
+        when: When,
     ) -> Result<(), HostErr> {
         self.open(rt, root)?;
-        let Some(file) = &mut self.file else {
-            return Err(HostErr::Refused);
-        };
-        let written = write_and_sync(file, bytes);
-        match written {
-            Ok(()) => self.len = self.len.saturating_add(bytes.len() as u64),
-            Err(_) => self.sound = cut_to(file, self.len).is_ok(),
+        let len = self.len;
+        self.write(bytes)?;
+        if when == When::Later && !self.is_pending {
+            self.is_pending = true;
+            return Ok(());
         }
-        written
+        self.sync_from(len)
     }
 
     /// Takes away all bytes.
     pub fn clear<R: Files<File = F>>(&mut self, rt: &R, root: &str) -> Result<(), HostErr> {
         self.open(rt, root)?;
         let Some(file) = &self.file else {
-            return Err(HostErr::Refused);
+            return Err(refused(Why::Unsure));
         };
         let cleared = cut_to(file, 0);
         match cleared {

@@ -1,11 +1,12 @@
 // A host whose folder is held: what it answers, and how it writes its tables.
-use crate::errors::HostErr;
+use crate::errors::{HostErr, Part, Why, at, refused};
 use crate::files::read_found;
-use crate::growing::Growing;
+use crate::growing::{Growing, When};
 use crate::kept_rows::HostTables;
 use crate::layout::{Layout, Table};
-use crate::looking::{Found, Spot, has_nodes, walk};
+use crate::looking::{Found, Kind, Spot, folder_of, has_nodes, kind_at, walk};
 use crate::putting::{Lasting, Leaf, put};
+use crate::settled::Settled;
 use crate::walked::Walked;
 use cfa_base::{Bytes, MOST_FILE_BYTES};
 use cfa_outside::{Look, Path, Perms, root_perms};
@@ -57,6 +58,24 @@ impl Changed {
     }
 }
 
+// The folder in which the folder of a host stands.
+fn above(root: &str) -> &str {
+    match folder_of(root) {
+        Ok("") => "/",
+        Ok(folder) => folder,
+        Err(_) => ".",
+    }
+}
+
+/// What an agent before left in the folder.
+#[derive(Clone, Copy)]
+pub struct Left {
+    /// The tables of which changed rows stand in `changes`.
+    pub changed: Changed,
+    /// The journal tells of a repair that was begun, and not of its end.
+    pub is_open: bool,
+}
+
 /// A host whose folder is held.
 #[derive(Drop)]
 pub struct Held<F> {
@@ -71,46 +90,102 @@ pub struct Held<F> {
     most_changes: u64,
     // False once a change of the tree is seen that may not last.
     sound: bool,
+    // An agent before was stopped in a repair.
+    is_open: bool,
+    // What agents before left is on the disk.
+    is_ready: bool,
+    settled: Settled,
     walked: Walked,
 }
 
 impl<F: Write + OpenFile> Held<F> {
     pub fn new(
+        alloc: Global,
         layout: Layout,
         folder: F,
         tables: HostTables,
-        changed: Changed,
+        left: Left,
         changes: Growing<F>,
         journal: Growing<F>,
-        walked: Walked,
     ) -> Held<F> {
         Held {
             layout,
             _folder: folder,
             tables,
-            changed,
+            changed: left.changed,
             changes,
             journal,
             most_changes: LEAST_CHANGES,
             sound: true,
-            walked,
+            is_open: left.is_open,
+            is_ready: false,
+            settled: Settled::new(alloc),
+            walked: Walked::new(alloc),
         }
     }
 
     /// Whether it is known what stands on the disk. Where it isn't, no change is made any more.
     pub fn is_sound(&self) -> bool {
-        self.sound && self.changes.is_sound() && self.journal.is_sound()
+        let files = self.changes.is_sound() && self.journal.is_sound();
+        self.sound && files && self.settled.is_sound()
     }
 
-    /// A change of the tree was made. Where it may not last, it is told as refused.
-    pub fn settle(&mut self, lasting: Lasting) -> Result<(), HostErr> {
+    /// A change was made in a folder. Where it may not last, it is told as refused.
+    pub fn keep(&mut self, alloc: Global, folder: &str, lasting: Lasting) -> Result<(), HostErr> {
         match lasting {
-            Lasting::Durable => Ok(()),
-            Lasting::Unsure => {
+            Lasting::Durable => {
+                // Where there is no memory for it, the folder is synced once more.
+                let _ = self.settled.add(alloc, folder);
+                Ok(())
+            }
+            Lasting::Unsure(why) => {
                 self.sound = false;
-                Err(HostErr::Refused)
+                Err(refused(why))
             }
         }
+    }
+
+    // Brings what agents before left to the disk: the folder, the journal and the changed rows, and all folders of the
+    // tree where one was stopped in a repair.
+    fn bring_left<R: Files<File = F>>(&mut self, rt: &R, alloc: Global) -> Result<(), HostErr> {
+        let root = self.layout.root.as_str();
+        at(Part::Folder, self.settled.settle(rt, alloc, above(root)))?;
+        at(Part::Folder, self.settled.settle(rt, alloc, root))?;
+        at(Part::Journal, self.journal.make_ready(rt, root))?;
+        at(Part::Changes, self.changes.make_ready(rt, root))?;
+        let tree = self.layout.tree.as_str();
+        if self.is_open && !matches!(kind_at(rt, tree)?, Kind::Missing) {
+            at(Part::Tree, self.settled.settle_beneath(rt, alloc, tree))?;
+        }
+        Ok(())
+    }
+
+    /// Makes the host ready to be changed: what agents before left is on the disk before anything is built on it.
+    pub fn make_ready<R: Files<File = F>>(&mut self, rt: &R, alloc: Global) -> Result<(), HostErr> {
+        if !self.is_sound() {
+            return Err(refused(Why::Unsure));
+        }
+        if !self.is_ready {
+            self.bring_left(rt, alloc)?;
+            self.is_ready = true;
+        }
+        Ok(())
+    }
+
+    /// Brings the folders above a folder of the tree to the disk.
+    pub fn settle_above<R: Files<File = F>>(
+        &mut self,
+        rt: &R,
+        alloc: Global,
+        folder: &str,
+    ) -> Result<(), HostErr> {
+        let from = self.layout.root.len();
+        self.settled.settle_above(rt, alloc, folder, from)
+    }
+
+    /// Brings the last record to the disk, where that isn't done.
+    pub fn settle_journal(&mut self) -> Result<(), HostErr> {
+        at(Part::Journal, self.journal.settle())
     }
 
     /// What stands at a real path of the host. Where it is in the directory in which a file was found last, it is walked
@@ -141,7 +216,7 @@ impl<F: Write + OpenFile> Held<F> {
         }
         match self.spot(rt, real)? {
             Spot::File(found) => Ok(found),
-            Spot::Missing(_) | Spot::Blocked | Spot::Dir => Err(HostErr::Refused),
+            Spot::Missing(_) | Spot::Blocked | Spot::Dir => Err(refused(Why::Misfit)),
         }
     }
 
@@ -182,7 +257,7 @@ impl<F: Write + OpenFile> Held<F> {
         let mode = match self.spot(rt, real.as_str())? {
             Spot::File(_) => 0o600,
             Spot::Dir => 0o700,
-            Spot::Missing(_) | Spot::Blocked => return Err(HostErr::Refused),
+            Spot::Missing(_) | Spot::Blocked => return Err(refused(Why::Misfit)),
         };
         match self.tables.perms.get(text) {
             Some(row) => Ok(row.1.copy(alloc)?),
@@ -198,14 +273,22 @@ impl<F: Write + OpenFile> Held<F> {
         line: &Bytes,
     ) -> Result<(), HostErr> {
         self.changed.set(table);
-        self.changes
-            .append(rt, self.layout.root.as_str(), line.as_slice())
+        let root = self.layout.root.as_str();
+        let noted = self.changes.append(rt, root, line.as_slice(), When::AtOnce);
+        at(Part::Changes, noted)
     }
 
-    /// Adds bytes at the end of the journal, or leaves it as it was.
+    /// Adds bytes at the end of the journal, or leaves it as it was. A record that tells that a repair was done is synced
+    /// with what follows it: where it is lost, the journal tells that the repair was begun, and what it did is there.
     pub fn append<R: Files<File = F>>(&mut self, rt: &R, bytes: &Bytes) -> Result<(), HostErr> {
-        self.journal
-            .append(rt, self.layout.root.as_str(), bytes.as_slice())
+        let when = if bytes.as_slice().starts_with(b"done ") {
+            When::Later
+        } else {
+            When::AtOnce
+        };
+        let root = self.layout.root.as_str();
+        let added = self.journal.append(rt, root, bytes.as_slice(), when);
+        at(Part::Journal, added)
     }
 
     fn write_table<R: Files<File = F>>(
@@ -220,26 +303,29 @@ impl<F: Write + OpenFile> Held<F> {
         let leaf = Leaf::File(text.as_slice());
         match put(rt, alloc, stage, path, path.len(), leaf)? {
             Lasting::Durable => Ok(()),
-            Lasting::Unsure => Err(HostErr::Refused),
+            Lasting::Unsure(why) => Err(refused(why)),
         }
     }
 
-    /// Writes each table that has changed rows, and then takes these rows' lines away. Where that is cut off at any
-    /// place, the lines still tell the rows.
+    /// Brings all that was done to the disk, writes each table that has changed rows, and then takes these rows' lines away.
+    /// Where that is cut off at any place, the lines still tell the rows.
     pub fn write_tables<R: Files<File = F>>(
         &mut self,
         rt: &R,
         alloc: Global,
     ) -> Result<(), HostErr> {
+        self.settle_journal()?;
         if self.changes.len() == 0 {
             return Ok(());
         }
+        self.make_ready(rt, alloc)?;
         for table in [Table::Perms, Table::Services, Table::Locks] {
             if self.changed.has(table) {
-                self.write_table(rt, alloc, table)?;
+                at(table.part(), self.write_table(rt, alloc, table))?;
             }
         }
-        self.changes.clear(rt, self.layout.root.as_str())?;
+        let root = self.layout.root.as_str();
+        at(Part::Changes, self.changes.clear(rt, root))?;
         self.changed = Changed::NONE;
         let by_rows = self.tables.count().saturating_mul(CHANGES_PER_ROW);
         self.most_changes = by_rows.max(LEAST_CHANGES);

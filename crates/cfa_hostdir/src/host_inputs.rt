@@ -1,8 +1,8 @@
 // Files as inputs.
 ghost use Rattle.std.specs.Prelude.{None};
 
-use crate::errors::HostErr;
-use crate::faults::counted;
+use crate::errors::{HostErr, Refusal, refusal_of};
+use crate::faults::{FailedCall, Fault, counted};
 use cfa_base::{Bytes, Name};
 use cfa_outside::{Inputs, OutsideErr};
 use std::alloc::Global;
@@ -15,12 +15,33 @@ use std::rt::Files;
 pub struct HostInputs<R> {
     rt: R,
     faults: u64,
+    last: Option<Fault>,
 }
 
 impl<R: Drop> HostInputs<R> {
     /// The files that the runtime opens, without taking memory.
     pub fn new(rt: R) -> HostInputs<R> {
-        HostInputs { rt, faults: 0 }
+        HostInputs {
+            rt,
+            faults: 0,
+            last: None,
+        }
+    }
+
+    /// What is known of the reading that failed last, where one did.
+    pub fn last_fault(&self) -> Option<&Fault> {
+        self.last.as_ref()
+    }
+
+    // Notes a reading that was refused.
+    fn note(&mut self, alloc: Global, name: &str, refusal: Option<Refusal>) {
+        if let Some(refusal) = refusal {
+            self.last = Some(Fault {
+                call: FailedCall::Read,
+                path: String::from_str(alloc, name).ok(),
+                why: refusal.why,
+            });
+        }
     }
 }
 
@@ -48,6 +69,7 @@ impl<R: Files + Drop> Inputs for HostInputs<R> {
 
     fn read(&mut self, alloc: Global, name: &Name, limit: u32) -> Result<Bytes, OutsideErr> {
         let answer = read_front(alloc, &self.rt, name.as_str(), limit as usize);
+        self.note(alloc, name.as_str(), refusal_of(&answer));
         counted(&mut self.faults, answer)
     }
 }

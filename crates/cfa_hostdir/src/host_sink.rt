@@ -1,7 +1,9 @@
 // Standard output as a sink.
-ghost use Rattle.std.specs.Prelude.{None, IfSome, length};
+ghost use Rattle.std.specs.Prelude.{None, IfOk, length};
 ghost use Rattle.cfa_outside.specs.Sinks.{TakesSome};
 
+use crate::errors::Why;
+use crate::faults::{FailedCall, Fault};
 use cfa_outside::{OutsideErr, Sink};
 use std::io;
 use std::io::Write;
@@ -11,26 +13,37 @@ use std::io::Write;
 pub struct HostSink<R> {
     rt: R,
     faults: u64,
+    last: Option<Fault>,
 }
 
 impl<R: Drop> HostSink<R> {
     /// The standard output of the runtime, without taking memory.
     pub fn new(rt: R) -> HostSink<R> {
-        HostSink { rt, faults: 0 }
+        HostSink {
+            rt,
+            faults: 0,
+            last: None,
+        }
+    }
+
+    /// What is known of the put that failed last, where one did.
+    pub fn last_fault(&self) -> Option<&Fault> {
+        self.last.as_ref()
     }
 }
 
-// How many bytes were put, where some were.
-fn write_some<R: Print>(rt: &R, bytes: &[u8]) -> Option<usize>
-    ensures { IfSome result (λ count. TakesSome (length bytes.now) count) }
+// How many bytes were put, where some were, or else the number of the system's error.
+fn write_some<R: Print>(rt: &R, bytes: &[u8]) -> Result<usize, i32>
+    ensures { IfOk result (λ count. TakesSome (length bytes.now) count) }
 {
-    let Ok(count) = io::writer(rt).write(bytes) else {
-        return None;
+    let count = match io::writer(rt).write(bytes) {
+        Ok(count) => count,
+        Err(error) => return Err(error.raw_os_error().unwrap_or(0)),
     };
     if count == 0 && !bytes.is_empty() {
-        return None;
+        return Err(0);
     }
-    Some(count)
+    Ok(count)
 }
 
 impl<R: Print + Drop> Sink for HostSink<R> {
@@ -41,8 +54,13 @@ impl<R: Print + Drop> Sink for HostSink<R> {
             return Ok(0);
         }
         match write_some(&self.rt, bytes) {
-            Some(count) => Ok(count),
-            None => {
+            Ok(count) => Ok(count),
+            Err(error) => {
+                self.last = Some(Fault {
+                    call: FailedCall::Put,
+                    path: None,
+                    why: Why::System(error),
+                });
                 self.faults = self.faults.saturating_add(1);
                 Err(OutsideErr::Failed)
             }

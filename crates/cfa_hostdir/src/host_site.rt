@@ -2,22 +2,33 @@
 ghost use Rattle.std.specs.Prelude.{None};
 
 use crate::Exclusive;
-use crate::errors::HostErr;
-use crate::faults::counted;
+use crate::errors::{HostErr, Refusal, Why, refusal_of, refused};
+use crate::faults::{Fault, counted, fault_at};
 use crate::held::Held;
 use crate::opening::open_host;
 use cfa_base::{Bytes, Key, Name};
-use cfa_outside::{Change, Look, OutsideErr, Path, Perms, ServiceRow, Site};
+use cfa_outside::{Call, Change, Look, OutsideErr, Path, Perms, ServiceRow, Site};
 use std::alloc::Global;
 use std::rt::Files;
+
+// The path at which a change is made, where it has one.
+fn path_of_change(change: &Change) -> &str {
+    match change {
+        Change::PutFile(path, _)
+        | Change::PutDir(path)
+        | Change::Remove(path)
+        | Change::SetPerms(path, _) => path.text().as_str(),
+        Change::PutService(_, _) | Change::PutLock(_, _) | Change::Append(_) => "",
+    }
+}
 
 // The folder of a host, which is opened at the first call.
 #[derive(Drop)]
 struct Host<R: Files> {
     rt: R,
     root: Name,
-    // A folder that couldn't be opened refuses every call from then on.
-    refused: bool,
+    // Why a folder couldn't be opened, which refuses every call from then on.
+    refusal: Option<Refusal>,
     held: Option<Held<R::File>>,
 }
 
@@ -27,6 +38,7 @@ struct Host<R: Files> {
 pub struct HostSite<R: Files> {
     host: Host<R>,
     faults: u64,
+    last: Option<Fault>,
 }
 
 impl<R: Files + Drop> HostSite<R> {
@@ -36,15 +48,31 @@ impl<R: Files + Drop> HostSite<R> {
             host: Host {
                 rt,
                 root,
-                refused: false,
+                refusal: None,
                 held: None,
             },
             faults: 0,
+            last: None,
         }
     }
 
-    /// Writes the tables where rows changed since they were written, and tells whether none is left to be written.
-    /// Nothing is lost where it can't: the next agent at this folder reads the changed rows.
+    /// What is known of the call that failed last, where one did: which call it was, at which path of the machine, and the
+    /// system's word.
+    pub fn last_fault(&self) -> Option<&Fault> {
+        self.last.as_ref()
+    }
+
+    // Notes a call that was refused; `node` is its path, where it has one.
+    fn note(&mut self, alloc: Global, call: Call, node: &str, refusal: Option<Refusal>) {
+        if let Some(refusal) = refusal {
+            let root = self.host.root.as_str();
+            self.last = Some(fault_at(alloc, root, call, node, refusal));
+        }
+    }
+
+    /// Brings the last record to the disk, writes the tables where rows changed since they were written, and tells whether
+    /// nothing is left to be written. Where it can't, the next agent at this folder reads the changed rows, and only a power
+    /// cut may still take the last record away.
     pub fn write_tables(&mut self, alloc: Global) -> bool {
         match &mut self.host.held {
             Some(held) => held.write_tables(&self.host.rt, alloc).is_ok(),
@@ -61,8 +89,8 @@ where
         if self.held.is_some() {
             return Ok(());
         }
-        if self.refused {
-            return Err(HostErr::Refused);
+        if let Some(refusal) = self.refusal {
+            return Err(HostErr::Refused(refusal));
         }
         match open_host(&self.rt, alloc, self.root.as_str()) {
             Ok(held) => {
@@ -70,7 +98,9 @@ where
                 Ok(())
             }
             Err(error) => {
-                self.refused = error == HostErr::Refused;
+                if let HostErr::Refused(refusal) = error {
+                    self.refusal = Some(refusal);
+                }
                 Err(error)
             }
         }
@@ -80,7 +110,7 @@ where
         self.open(alloc)?;
         match &mut self.held {
             Some(held) => held.look(&self.rt, alloc, path),
-            None => Err(HostErr::Refused),
+            None => Err(refused(Why::Unsure)),
         }
     }
 
@@ -88,7 +118,7 @@ where
         self.open(alloc)?;
         match &mut self.held {
             Some(held) => held.read(&self.rt, alloc, path),
-            None => Err(HostErr::Refused),
+            None => Err(refused(Why::Unsure)),
         }
     }
 
@@ -96,7 +126,7 @@ where
         self.open(alloc)?;
         match &mut self.held {
             Some(held) => held.perms(&self.rt, alloc, path),
-            None => Err(HostErr::Refused),
+            None => Err(refused(Why::Unsure)),
         }
     }
 
@@ -107,7 +137,7 @@ where
                 Some(row) => Ok(Some(row.1)),
                 None => Ok(None),
             },
-            None => Err(HostErr::Refused),
+            None => Err(refused(Why::Unsure)),
         }
     }
 
@@ -118,7 +148,7 @@ where
                 Some(row) => Ok(Some(row.1)),
                 None => Ok(None),
             },
-            None => Err(HostErr::Refused),
+            None => Err(refused(Why::Unsure)),
         }
     }
 
@@ -130,7 +160,7 @@ where
                 held.keep_short(&self.rt, alloc);
                 Ok(())
             }
-            None => Err(HostErr::Refused),
+            None => Err(refused(Why::Unsure)),
         }
     }
 }
@@ -145,31 +175,47 @@ where
 
     fn look(&mut self, alloc: Global, path: &Path) -> Result<Look, OutsideErr> {
         let answer = self.host.look(alloc, path);
+        self.note(alloc, Call::Look, path.text().as_str(), refusal_of(&answer));
         counted(&mut self.faults, answer)
     }
 
     fn read(&mut self, alloc: Global, path: &Path) -> Result<Bytes, OutsideErr> {
         let answer = self.host.read(alloc, path);
+        self.note(alloc, Call::Read, path.text().as_str(), refusal_of(&answer));
         counted(&mut self.faults, answer)
     }
 
     fn perms(&mut self, alloc: Global, path: &Path) -> Result<Perms, OutsideErr> {
         let answer = self.host.perms(alloc, path);
+        self.note(
+            alloc,
+            Call::Perms,
+            path.text().as_str(),
+            refusal_of(&answer),
+        );
         counted(&mut self.faults, answer)
     }
 
     fn service(&mut self, alloc: Global, name: &Name) -> Result<Option<ServiceRow>, OutsideErr> {
         let answer = self.host.service(alloc, name);
+        self.note(alloc, Call::Service, "", refusal_of(&answer));
         counted(&mut self.faults, answer)
     }
 
     fn lock(&mut self, alloc: Global, key: &Key) -> Result<Option<u64>, OutsideErr> {
         let answer = self.host.lock(alloc, key);
+        self.note(alloc, Call::Lock, "", refusal_of(&answer));
         counted(&mut self.faults, answer)
     }
 
     fn change(&mut self, alloc: Global, change: &Change) -> Result<(), OutsideErr> {
         let answer = self.host.change(alloc, change);
+        self.note(
+            alloc,
+            Call::Change,
+            path_of_change(change),
+            refusal_of(&answer),
+        );
         counted(&mut self.faults, answer)
     }
 }

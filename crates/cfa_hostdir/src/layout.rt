@@ -1,4 +1,5 @@
 // What stands where in the folder of a host.
+use crate::errors::Part;
 use std::alloc::{AllocError, Global};
 
 /// A table of a host.
@@ -7,6 +8,17 @@ pub enum Table {
     Perms,
     Services,
     Locks,
+}
+
+impl Table {
+    /// What of the folder the table is.
+    pub fn part(self) -> Part {
+        match self {
+            Table::Perms => Part::Perms,
+            Table::Services => Part::Services,
+            Table::Locks => Part::Locks,
+        }
+    }
 }
 
 /// The paths of what stands in the folder of a host.

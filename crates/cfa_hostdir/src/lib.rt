@@ -16,12 +16,15 @@ mod layout;
 mod looking;
 mod opening;
 mod putting;
+mod settled;
 mod walked;
 
 pub use cfa_tables::{
     TableErr, read_locks, read_perms, read_services, tables_tell_rows, write_locks, write_perms,
     write_services,
 };
+pub use errors::Why;
+pub use faults::{FailedCall, Fault};
 pub use host_inputs::HostInputs;
 pub use host_sink::HostSink;
 pub use host_site::HostSite;

@@ -1,5 +1,5 @@
 // What stands at a real path. No symbolic link is followed: each component is looked at by itself.
-use crate::errors::HostErr;
+use crate::errors::{HostErr, Why, refused};
 use std::fs::Metadata;
 use std::io::{ErrorKind, Read};
 use std::os::unix::fs::MetadataExt;
@@ -60,14 +60,14 @@ pub fn kind_at<R: Files>(rt: &R, path: &str) -> Result<Kind, HostErr> {
 
 /// The first bytes of a path.
 pub fn part_of(path: &str, end: usize) -> Result<&str, HostErr> {
-    path.get(..end).ok_or(HostErr::Refused)
+    path.get(..end).ok_or(refused(Why::Misfit))
 }
 
 /// The folder above a path.
 pub fn folder_of(path: &str) -> Result<&str, HostErr> {
     match path.rsplit_once('/') {
         Some((above, _)) => Ok(above),
-        None => Err(HostErr::Refused),
+        None => Err(refused(Why::Misfit)),
     }
 }
 
@@ -91,7 +91,7 @@ pub fn walk<R: Files>(rt: &R, path: &str, from: usize) -> Result<Spot, HostErr> 
                 Kind::Missing => return Ok(Spot::Missing(end)),
                 Kind::Dir => {}
                 Kind::File(_) => return Ok(Spot::Blocked),
-                Kind::Other => return Err(HostErr::Refused),
+                Kind::Other => return Err(refused(Why::OfAnotherKind)),
             }
         }
     }
@@ -99,7 +99,7 @@ pub fn walk<R: Files>(rt: &R, path: &str, from: usize) -> Result<Spot, HostErr> 
         Kind::Missing => Ok(Spot::Missing(path.len())),
         Kind::Dir => Ok(Spot::Dir),
         Kind::File(found) => Ok(Spot::File(found)),
-        Kind::Other => Err(HostErr::Refused),
+        Kind::Other => Err(refused(Why::OfAnotherKind)),
     }
 }
 
@@ -126,5 +126,5 @@ pub fn has_nodes<R: Files>(rt: &R, path: &str) -> Result<bool, HostErr> {
             return Ok(true);
         }
     }
-    Err(HostErr::Refused)
+    Err(refused(Why::OfAnotherLength))
 }

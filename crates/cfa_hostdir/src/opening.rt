@@ -1,13 +1,12 @@
 // What is done at the first call on a host: its folder is taken hold of, the tables are read with the rows that changed
 // since, and a last line of the journal that was cut off is taken away.
-use crate::errors::{HostErr, answer_of};
-use crate::files::{read_if_there, sync_folder};
+use crate::errors::{HostErr, Part, Why, answer_of, at, refused};
+use crate::files::read_if_there;
 use crate::growing::Growing;
-use crate::held::{Changed, Held};
+use crate::held::{Changed, Held, Left};
 use crate::kept_rows::HostTables;
 use crate::layout::{Layout, Table};
 use crate::looking::{Kind, kind_at};
-use crate::walked::Walked;
 use cfa_rows::read_rows;
 use cfa_tables::RowChanges;
 use std::alloc::Global;
@@ -36,11 +35,8 @@ const MOST_TABLE_BYTES: u64 = 1 << 30;
 fn make_root<R: Files>(rt: &R, root: &str) -> Result<(), HostErr> {
     match rt.metadata(root) {
         Ok(found) if found.is_dir() => Ok(()),
-        Ok(_) => Err(HostErr::Refused),
-        Err(error) if error.kind() == ErrorKind::NotFound => {
-            rt.create_dir(root)?;
-            sync_folder(rt, ".")
-        }
+        Ok(_) => Err(refused(Why::OfAnotherKind)),
+        Err(error) if error.kind() == ErrorKind::NotFound => answer_of(rt.create_dir(root)),
         Err(error) => Err(HostErr::from(error)),
     }
 }
@@ -55,16 +51,38 @@ where
     if folder.take_hold() {
         Ok(folder)
     } else {
-        Err(HostErr::Refused)
+        Err(refused(Why::Taken))
     }
+}
+
+// Nothing may stand at `tree` but a folder.
+fn look_at_tree<R: Files>(rt: &R, tree: &str) -> Result<(), HostErr> {
+    match kind_at(rt, tree)? {
+        Kind::Missing | Kind::Dir => Ok(()),
+        Kind::File(_) | Kind::Other => Err(refused(Why::OfAnotherKind)),
+    }
+}
+
+// Takes the rows of a table as it was written.
+fn take_table<R: Files>(
+    rt: &R,
+    alloc: Global,
+    layout: &Layout,
+    table: Table,
+    tables: &mut HostTables,
+) -> Result<(), HostErr> {
+    let text = read_if_there(rt, alloc, layout.table(table), MOST_TABLE_BYTES)?;
+    tables.take_table(alloc, table, &text)
 }
 
 // The tables as they were written.
 fn written_tables<R: Files>(rt: &R, alloc: Global, layout: &Layout) -> Result<HostTables, HostErr> {
     let mut tables = HostTables::new(alloc);
     for table in [Table::Perms, Table::Services, Table::Locks] {
-        let text = read_if_there(rt, alloc, layout.table(table), MOST_TABLE_BYTES)?;
-        tables.take_table(alloc, table, &text)?;
+        at(
+            table.part(),
+            take_table(rt, alloc, layout, table, &mut tables),
+        )?;
     }
     Ok(tables)
 }
@@ -91,10 +109,10 @@ fn read_piece<F: Read + Seek>(file: &mut F, from: u64, piece: &mut [u8]) -> Resu
     answer_of(file.read_exact(piece))
 }
 
-// The length of the first part of a file that ends by a newline.
-fn whole_lines<F: Read + Seek>(file: &mut F, len: u64) -> Result<u64, HostErr> {
+// The place behind the last newline before a place of a file, or its beginning.
+fn behind_newline<F: Read + Seek>(file: &mut F, before: u64) -> Result<u64, HostErr> {
     let mut piece = [0u8; 4096];
-    let mut end = len;
+    let mut end = before;
     for _ in 0..u64::MAX {
         if end == 0 {
             return Ok(0);
@@ -111,25 +129,57 @@ fn whole_lines<F: Read + Seek>(file: &mut F, len: u64) -> Result<u64, HostErr> {
         }
         end = from;
     }
-    Err(HostErr::Refused)
+    Err(refused(Why::OfAnotherLength))
 }
 
-// Takes a last line that was cut off away, and gives the length of the journal.
-fn cut_journal<R: Files>(rt: &R, path: &str) -> Result<u64, HostErr> {
-    let len = match kind_at(rt, path)? {
-        Kind::Missing => return Ok(0),
-        Kind::File(found) => found.size,
-        Kind::Dir | Kind::Other => return Err(HostErr::Refused),
-    };
-    let whole = whole_lines(&mut fs::open(rt, path)?, len)?;
-    if whole < len {
-        let mut options = OpenOptions::new();
-        options.write(true);
-        let file = options.open(rt, path)?;
-        file.set_len(whole)?;
-        file.sync_all()?;
+// Whether the last line of a file, which ends at a place, begins with `open `: a repair was begun, and nothing tells that
+// it was done.
+fn ends_open<F: Read + Seek>(file: &mut F, end: u64) -> Result<bool, HostErr> {
+    let start = behind_newline(file, end.saturating_sub(1))?;
+    if end.saturating_sub(start) < 5 {
+        return Ok(false);
     }
-    Ok(whole)
+    let mut word = [0u8; 5];
+    read_piece(file, start, &mut word)?;
+    Ok(word == *b"open ")
+}
+
+/// The journal as it was found: the length of its whole lines, and whether the last one tells of a repair that was begun.
+#[derive(Clone, Copy)]
+struct Ending {
+    len: u64,
+    is_open: bool,
+}
+
+// Takes a last line that was cut off away.
+fn cut_to<R: Files>(rt: &R, path: &str, len: u64) -> Result<(), HostErr> {
+    let mut options = OpenOptions::new();
+    options.write(true);
+    answer_of(options.open(rt, path)?.set_len(len))
+}
+
+// The end of the journal, without a last line that was cut off.
+fn cut_journal<R: Files>(rt: &R, path: &str) -> Result<Ending, HostErr> {
+    let len = match kind_at(rt, path)? {
+        Kind::Missing => {
+            return Ok(Ending {
+                len: 0,
+                is_open: false,
+            });
+        }
+        Kind::File(found) => found.size,
+        Kind::Dir | Kind::Other => return Err(refused(Why::OfAnotherKind)),
+    };
+    let mut file = fs::open(rt, path)?;
+    let whole = behind_newline(&mut file, len)?;
+    let is_open = ends_open(&mut file, whole)?;
+    if whole < len {
+        cut_to(rt, path, whole)?;
+    }
+    Ok(Ending {
+        len: whole,
+        is_open,
+    })
 }
 
 // The tables with the rows that changed since they were written, and the length of these rows' lines.
@@ -139,8 +189,8 @@ fn open_tables<R: Files>(
     layout: &Layout,
 ) -> Result<(HostTables, u64), HostErr> {
     let mut tables = written_tables(rt, alloc, layout)?;
-    let changes = take_changes(rt, alloc, layout, &mut tables)?;
-    Ok((tables, changes))
+    let len = at(Part::Changes, take_changes(rt, alloc, layout, &mut tables))?;
+    Ok((tables, len))
 }
 
 // A file that grows, of which so many bytes count.
@@ -152,17 +202,6 @@ fn growing<F: Write + OpenFile>(
     Ok(Growing::new(String::from_str(alloc, path)?, len))
 }
 
-// The journal, without a last line that was cut off.
-fn open_journal<R: Files>(
-    rt: &R,
-    alloc: Global,
-    layout: &Layout,
-) -> Result<Growing<R::File>, HostErr> {
-    let path = layout.journal.as_str();
-    let len = cut_journal(rt, path)?;
-    growing(alloc, path, len)
-}
-
 // The host in a folder that is held.
 fn open_held<R: Files>(
     rt: &R,
@@ -170,16 +209,21 @@ fn open_held<R: Files>(
     layout: Layout,
     folder: R::File,
 ) -> Result<Held<R::File>, HostErr> {
+    at(Part::Tree, look_at_tree(rt, layout.tree.as_str()))?;
     let (tables, len) = open_tables(rt, alloc, &layout)?;
-    let journal = open_journal(rt, alloc, &layout)?;
+    let ending = at(Part::Journal, cut_journal(rt, layout.journal.as_str()))?;
+    let journal = growing(alloc, layout.journal.as_str(), ending.len)?;
     let changes = growing(alloc, layout.changes.as_str(), len)?;
     let changed = if len == 0 {
         Changed::NONE
     } else {
         Changed::ALL
     };
-    let walked = Walked::new(alloc);
-    Ok(Held::new(layout, folder, tables, changed, changes, journal, walked))
+    let left = Left {
+        changed,
+        is_open: ending.is_open,
+    };
+    Ok(Held::new(alloc, layout, folder, tables, left, changes, journal))
 }
 
 /// The host in a folder, which is held from then on.
@@ -188,6 +232,6 @@ where
     R::File: Exclusive,
 {
     let layout = Layout::new(alloc, root)?;
-    let folder = hold(rt, root)?;
+    let folder = at(Part::Folder, hold(rt, root))?;
     open_held(rt, alloc, layout, folder)
 }

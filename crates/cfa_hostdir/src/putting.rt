@@ -1,6 +1,6 @@
 // Files and directories, put and taken away as a whole. What is put is built at the stage, synced from the deepest up, and
 // comes by one rename; then the folder above is synced.
-use crate::errors::{HostErr, answer_of};
+use crate::errors::{HostErr, Part, Why, answer_of, at, refused};
 use crate::files::{sync_folder, write_new};
 use crate::looking::{Kind, Spot, ends_component, folder_of, kind_at, part_of};
 use std::alloc::Global;
@@ -19,8 +19,8 @@ pub enum Leaf<'a> {
 #[derive(Clone, Copy)]
 pub enum Lasting {
     Durable,
-    /// It is seen, and nobody knows whether it is seen after a power cut.
-    Unsure,
+    /// It is seen, and nobody knows whether it is seen after a power cut; and why.
+    Unsure(Why),
 }
 
 // Takes away what a change that was cut off left at the stage.
@@ -29,7 +29,7 @@ fn clear_stage<R: Files>(rt: &R, alloc: Global, stage: &str) -> Result<(), HostE
         Kind::Missing => Ok(()),
         Kind::File(_) => answer_of(rt.remove_file(stage)),
         Kind::Dir => answer_of(rt.remove_dir_all(alloc, stage)),
-        Kind::Other => Err(HostErr::Refused),
+        Kind::Other => Err(refused(Why::OfAnotherKind)),
     }
 }
 
@@ -75,7 +75,7 @@ fn prepare<R: Files>(
 fn synced<F: OpenFile>(folder: &F) -> Lasting {
     match folder.sync_all() {
         Ok(()) => Lasting::Durable,
-        Err(_) => Lasting::Unsure,
+        Err(error) => Lasting::Unsure(Why::System(error.raw_os_error().unwrap_or(0))),
     }
 }
 
@@ -88,11 +88,14 @@ pub fn put<R: Files>(
     end: usize,
     leaf: Leaf<'_>,
 ) -> Result<Lasting, HostErr> {
-    let (top, rest) = path.split_at_checked(end).ok_or(HostErr::Refused)?;
+    let (top, rest) = path.split_at_checked(end).ok_or(refused(Why::Misfit))?;
     let folder = fs::open(rt, folder_of(top)?)?;
     let mut staged = String::from_str(alloc, stage)?;
     staged.push_str(rest)?;
-    prepare(rt, alloc, stage, staged.as_str(), leaf)?;
+    at(
+        Part::Stage,
+        prepare(rt, alloc, stage, staged.as_str(), leaf),
+    )?;
     if let Err(error) = rt.rename(stage, top) {
         let _ = clear_stage(rt, alloc, stage);
         return Err(HostErr::from(error));
@@ -106,7 +109,7 @@ pub fn remove<R: Files>(rt: &R, path: &str, spot: Spot) -> Result<Lasting, HostE
     match spot {
         Spot::File(_) => rt.remove_file(path)?,
         Spot::Dir => rt.remove_dir(path)?,
-        Spot::Missing(_) | Spot::Blocked => return Err(HostErr::Refused),
+        Spot::Missing(_) | Spot::Blocked => return Err(refused(Why::Misfit)),
     }
     Ok(synced(&folder))
 }
