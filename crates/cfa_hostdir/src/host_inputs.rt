@@ -1,5 +1,5 @@
 // Files as inputs.
-ghost use Rattle.std.specs.Prelude.{None};
+ghost use Rattle.std.specs.Prelude.{◌≡◌, None};
 
 use crate::errors::{HostErr, Refusal, refusal_of};
 use crate::faults::{FailedCall, Fault, counted};
@@ -34,7 +34,9 @@ impl<R: Drop> HostInputs<R> {
     }
 
     // Notes a reading that was refused.
-    fn note(&mut self, alloc: Global, name: &str, refusal: Option<Refusal>) {
+    fn note(&mut self, alloc: Global, name: &str, refusal: Option<Refusal>)
+        ensures { self.new.faults ≡ self.old.faults }
+    {
         if let Some(refusal) = refusal {
             self.last = Some(Fault {
                 call: FailedCall::Read,

@@ -1,5 +1,5 @@
 // The real host as a site.
-ghost use Rattle.std.specs.Prelude.{None};
+ghost use Rattle.std.specs.Prelude.{◌≡◌, None};
 
 use crate::Exclusive;
 use crate::errors::{HostErr, Refusal, Why, refusal_of, refused};
@@ -63,10 +63,21 @@ impl<R: Files + Drop> HostSite<R> {
     }
 
     // Notes a call that was refused; `node` is its path, where it has one.
-    fn note(&mut self, alloc: Global, call: Call, node: &str, refusal: Option<Refusal>) {
+    fn note(&mut self, alloc: Global, call: Call, node: &str, refusal: Option<Refusal>)
+        ensures { self.new.faults ≡ self.old.faults }
+    {
         if let Some(refusal) = refusal {
             let root = self.host.root.as_str();
             self.last = Some(fault_at(alloc, root, call, node, refusal));
+        }
+    }
+
+    /// Brings the last record to the disk, and tells whether all that was changed is there. To be asked at the end of a command:
+    /// a record that tells that a repair was done is synced with what follows it.
+    pub fn settle(&mut self) -> bool {
+        match &mut self.host.held {
+            Some(held) => held.settle_journal().is_ok(),
+            None => true,
         }
     }
 

@@ -87,6 +87,21 @@ fn written_tables<R: Files>(rt: &R, alloc: Global, layout: &Layout) -> Result<Ho
     Ok(tables)
 }
 
+// The bytes before the first zero, where that stands in the last line: a power cut left it there for a byte that never came to
+// the disk.
+fn before_zeros(bytes: &[u8]) -> &[u8] {
+    let Some(zero) = bytes.iter().position(|byte| *byte == 0) else {
+        return bytes;
+    };
+    let Some((front, rest)) = bytes.split_at_checked(zero) else {
+        return bytes;
+    };
+    match rest.iter().position(|byte| *byte == b'\n') {
+        Some(place) if place.saturating_add(1) < rest.len() => bytes,
+        _ => front,
+    }
+}
+
 // Takes the rows that changed since, and gives the length of their whole lines. A last line that was cut off is none.
 fn take_changes<R: Files>(
     rt: &R,
@@ -95,7 +110,7 @@ fn take_changes<R: Files>(
     tables: &mut HostTables,
 ) -> Result<u64, HostErr> {
     let text = read_if_there(rt, alloc, layout.changes.as_str(), MOST_TABLE_BYTES)?;
-    let bytes = text.as_slice();
+    let bytes = before_zeros(text.as_slice());
     let (changes, torn) = read_rows::<RowChanges>(alloc, bytes)?;
     let len = (bytes.len() as u64).saturating_sub(torn.len() as u64);
     for change in changes {
@@ -130,6 +145,38 @@ fn behind_newline<F: Read + Seek>(file: &mut F, before: u64) -> Result<u64, Host
         end = from;
     }
     Err(refused(Why::OfAnotherLength))
+}
+
+// The place of the first zero byte of a file between two places, or the second of them.
+fn first_zero<F: Read + Seek>(file: &mut F, from: u64, end: u64) -> Result<u64, HostErr> {
+    let mut piece = [0u8; 4096];
+    let mut place = from;
+    for _ in 0..u64::MAX {
+        let count = end.saturating_sub(place).min(4096);
+        if count == 0 {
+            break;
+        }
+        read_piece(file, place, &mut piece[..count as usize])?;
+        if let Some(at) = piece[..count as usize].iter().position(|byte| *byte == 0) {
+            return Ok(place.saturating_add(at as u64));
+        }
+        place = place.saturating_add(count);
+    }
+    Ok(end)
+}
+
+// The length of the whole lines of a file. Two lines at most weren't synced when it was written last, and where a power cut
+// left zeros in one of them, for bytes that never came to the disk, it was cut off, and what is behind it.
+fn whole_lines<F: Read + Seek>(file: &mut F, len: u64) -> Result<u64, HostErr> {
+    let end = behind_newline(file, len)?;
+    let last = behind_newline(file, end.saturating_sub(1))?;
+    let before = behind_newline(file, last.saturating_sub(1))?;
+    let zero = first_zero(file, before, end)?;
+    if zero < end {
+        behind_newline(file, zero)
+    } else {
+        Ok(end)
+    }
 }
 
 // Whether the last line of a file, which ends at a place, begins with `open `: a repair was begun, and nothing tells that
@@ -171,7 +218,7 @@ fn cut_journal<R: Files>(rt: &R, path: &str) -> Result<Ending, HostErr> {
         Kind::Dir | Kind::Other => return Err(refused(Why::OfAnotherKind)),
     };
     let mut file = fs::open(rt, path)?;
-    let whole = behind_newline(&mut file, len)?;
+    let whole = whole_lines(&mut file, len)?;
     let is_open = ends_open(&mut file, whole)?;
     if whole < len {
         cut_to(rt, path, whole)?;
