@@ -1,5 +1,5 @@
-//! Worked rows of what the program never calls: of the demo policy and its lines, of the reading of escaped fields, and of the
-//! clashes of scripts of edits.
+//! Worked rows of what the program never calls: of the demo policy and its lines, of the reading of escaped fields, of the clashes
+//! of scripts of edits, and of histories of journals.
 #![tactic(auto)]
 
 #[cfg(test)]
@@ -8,5 +8,7 @@ mod clashes;
 mod demo;
 #[cfg(test)]
 mod escapes;
+#[cfg(test)]
+mod history;
 #[cfg(test)]
 mod output;
