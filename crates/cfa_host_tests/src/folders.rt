@@ -1,10 +1,12 @@
 // The real host, in folders that the test makes where it runs.
 //
 // A row is `== ` and the name of its folder, which isn't there yet, and steps. `folder` makes it, `folder NAME` one in it, `write NAME
-// TEXT` a file in it, and `link NAME TARGET` a link. The other steps are calls of the agent, with the answer behind ` => `, or of a
-// second one behind `2 `; `has NAME` asks for the text of a file in the folder. `agent` lets the next agent follow the first one,
-// and `agent PATH` one at a path in the folder. Texts have bars for newlines, and `Z` for 64 zeros.
+// TEXT` a file in it, `link NAME TARGET` a link, and `second NAME OTHER` a second name of a file. The other steps are calls of the
+// agent, with the answer behind ` => `, or of a second one behind `2 `; `has NAME` asks for the text of a file in the folder. `agent`
+// lets the next agent follow the first one, and `agent PATH` one at a path in the folder. Texts have bars for newlines, and `Z` for
+// 64 zeros.
 use crate::host_calls::{RealHost, make_call};
+use crate::odd_things::{DAMAGED, ODD, RECORDS};
 use crate::reports::Report;
 use crate::texts::parts;
 use cfa_hostdir::HostSite;
@@ -140,57 +142,6 @@ has out => out
 has tree/a/b => in
 ";
 
-// A table or a changed row that is none makes each call fail, and stays as it is.
-const DAMAGED: &str = "== damaged
-folder
-write perms.tab /b 0644 root root|/a 0644 root root|
-look /a => Err(Failed)
-file /a text => Err(Failed)
-dir /a => Err(Failed)
-remove /a => Err(Failed)
-has perms.tab => /b 0644 root root|/a 0644 root root|
-== damaged
-folder
-write perms.tab /b 0644 root root
-look /a => Err(Failed)
-file /a text => Err(Failed)
-dir /a => Err(Failed)
-remove /a => Err(Failed)
-has perms.tab => /b 0644 root root
-== damaged
-folder
-write services.tab sshd on|
-look /a => Err(Failed)
-file /a text => Err(Failed)
-dir /a => Err(Failed)
-remove /a => Err(Failed)
-has services.tab => sshd on|
-== damaged
-folder
-write locks.tab 0 5|
-look /a => Err(Failed)
-file /a text => Err(Failed)
-dir /a => Err(Failed)
-remove /a => Err(Failed)
-has locks.tab => 0 5|
-== damaged
-folder
-write changes what 5|
-look /a => Err(Failed)
-file /a text => Err(Failed)
-dir /a => Err(Failed)
-remove /a => Err(Failed)
-has changes => what 5|
-== damaged
-folder
-write changes gone a|
-look /a => Err(Failed)
-file /a text => Err(Failed)
-dir /a => Err(Failed)
-remove /a => Err(Failed)
-has changes => gone a|
-";
-
 // One agent holds a folder at a time, and one that was refused stays so. A missing folder is made, and a file in its place is none.
 const HOLDING: &str = "== held
 file /a 1 => Ok(())
@@ -248,11 +199,19 @@ fn write_file(place: &str, told: &str, report: &mut Report) -> bool {
     fs::write(&report.rt, place, text.as_str()).is_ok()
 }
 
+// Gives the file at the end of a place's folder a second name.
+fn second_name(place: &str, name: &str, report: &mut Report) -> bool {
+    let (folder, _) = parts(place, "/");
+    let other = report.joined(&[folder, "/", name]);
+    fs::hard_link(&report.rt, other.as_str(), place).is_ok()
+}
+
 // Makes a folder, a file or a link at a place, and tells whether it could.
 fn make_at(place: &str, word: &str, text: &str, report: &mut Report) -> bool {
     match word {
         "folder" => fs::create_dir(&report.rt, place).is_ok(),
         "link" => symlink(&report.rt, text, place).is_ok(),
+        "second" => second_name(place, text, report),
         "write" => write_file(place, text, report),
         _ => false,
     }
@@ -321,6 +280,8 @@ fn compare_tables(scene: &mut Scene) {
     compare_rows(LINKS, scene);
     compare_rows(DAMAGED, scene);
     compare_rows(HOLDING, scene);
+    compare_rows(ODD, scene);
+    compare_rows(RECORDS, scene);
 }
 
 fn scene_of(report: Report) -> Scene {

@@ -2,7 +2,7 @@
 use crate::reports::Report;
 use crate::texts::{ZEROS, parts};
 use cfa_base::Key;
-use cfa_hostdir::HostSite;
+use cfa_hostdir::{Fault, HostSite};
 use cfa_outside::{Change, Path, Perms, ServiceRow, Site};
 use std::str;
 
@@ -112,6 +112,23 @@ fn tell_tables(site: &mut RealHost, report: &mut Report) -> Option<()> {
     Some(())
 }
 
+fn put_fault(fault: &Fault, report: &mut Report) {
+    report.tell(&fault.why);
+    let why = report.take();
+    let path = match &fault.path {
+        Some(path) => path.as_str(),
+        None => "no path",
+    };
+    report.put(&[path, " ", why.as_str()]);
+}
+
+fn tell_fault(site: &RealHost, report: &mut Report) {
+    match site.last_fault() {
+        Some(fault) => put_fault(fault, report),
+        None => report.put(&["none"]),
+    }
+}
+
 fn tell_moment(site: &mut RealHost, report: &mut Report) -> Option<()> {
     let moment = site.lock(report.alloc, &Key::read(ZEROS.as_bytes())?);
     report.tell(&moment);
@@ -127,7 +144,7 @@ fn tell_change(site: &mut RealHost, kind: &str, text: &str, report: &mut Report)
 }
 
 // Makes a call of an agent, and takes what it is answered. `look`, `read`, `perms` and `row` are asked at a path or a name, `moment` of
-// the lock of 64 zeros; `tables` writes the tables. The others are changes: `file PATH TEXT`, `set PATH MODE OWNER GROUP`,
+// the lock of 64 zeros; `tables` writes the tables; `fault` tells the last fault. The others are changes: `file PATH TEXT`, `set PATH MODE OWNER GROUP`,
 // `service ROW`, `lock MOMENT`, `append TEXT`, `dir PATH` and `remove PATH`. None comes where the call can't be read.
 pub fn make_call(site: &mut RealHost, call: &str, report: &mut Report) -> Option<()> {
     let (word, text) = parts(call, " ");
@@ -136,6 +153,10 @@ pub fn make_call(site: &mut RealHost, call: &str, report: &mut Report) -> Option
         "row" => tell_row(site, text, report),
         "moment" => tell_moment(site, report),
         "tables" => tell_tables(site, report),
+        "fault" => {
+            tell_fault(site, report);
+            Some(())
+        }
         kind => tell_change(site, kind, text, report),
     }
 }

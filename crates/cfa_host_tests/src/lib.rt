@@ -6,6 +6,8 @@ mod folders;
 #[cfg(test)]
 mod host_calls;
 #[cfg(test)]
+mod odd_things;
+#[cfg(test)]
 mod reports;
 #[cfg(test)]
 mod sites;

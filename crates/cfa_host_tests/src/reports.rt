@@ -4,6 +4,7 @@ use cfa_base::{Bytes, Name};
 use cfa_outside::Path;
 use std::alloc::Global;
 use std::fmt::Debug;
+use std::mem::replace;
 use std::process::ExitCode;
 
 // What isn't met so far. No reader of a row stops at what can't be read or made: it is noted here, the row goes on without it, and so
@@ -49,6 +50,11 @@ impl Report {
     pub fn put(&mut self, pieces: &[&str]) {
         self.answer.clear();
         say(&mut self.answer, pieces);
+    }
+
+    // Takes the answer away.
+    pub fn take(&mut self) -> String {
+        replace(&mut self.answer, String::new(self.alloc))
     }
 
     // Adds pieces to the answer.
