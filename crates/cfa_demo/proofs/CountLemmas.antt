@@ -1,17 +1,16 @@
 -- What a counting site shows before and after a call, and that its counts are exact.
-use Rattle.std.proofs.Common.{◌≡◌, ℕ, zero, suc, ◌+◌, ◌-◌, ◌≤◌, List, [], ◌∷◌, ◌++◌, length, Option, Some, None, option_map, IfSome, IfOk, IsErrOf, Result, Ok, Err, refl, sym, ap, ap₂, subst, ◌∙◌, append_assoc, length-append, arith}
-use Rattle.cfa_base.specs.Shown.{Shown, Follows, Untouched, HasFailed, IsLeft, followed}
+use Rattle.std.proofs.Common.{◌≡◌, ℕ, zero, suc, ◌+◌, ◌-◌, List, [], ◌∷◌, ◌++◌, length, Option, Some, None, option_map, Result, Ok, Err, refl, sym, ap, ap₂, subst, ◌∙◌, append_assoc, length-append, arith}
+use Rattle.cfa_base.specs.Shown.{Shown, Follows, Untouched, HasFailed, IsLeft}
 use Rattle.cfa_outside.specs.declared.errors.OutsideErr.{OutsideErr}
 use Rattle.cfa_outside.specs.declared.errors.OutsideErr.TheVariants.{Failed, NoMemory}
 use Rattle.cfa_outside.specs.declared.sites.Call.{Call}
-use Rattle.cfa_outside.specs.declared.sites.Call.TheVariants.{Look, Read, Change as Change'}
+use Rattle.cfa_outside.specs.declared.sites.Call.TheVariants.{Change as Change'}
 use Rattle.cfa_outside.specs.declared.sites.Change.{Change}
 use Rattle.cfa_outside.specs.declared.sites.Entry.{Entry}
 use Rattle.cfa_outside.specs.declared.sites.Entry.TheVariants.{Did, Refused}
-use Rattle.cfa_outside.specs.declared.worlds.World.{World}
 use Rattle.cfa_outside.specs.Answered.{Answered}
 use Rattle.cfa_outside.specs.Sites.{Told, adds, after, Seen}
-use Rattle.cfa_demo.specs.Counts.{changes_of, changes_in, refusals, additions, changes_made, coded, counted_log, counted_told, counted, IsCounted, CountsAreExact}
+use Rattle.cfa_demo.specs.Counts.{changes_of, changes_in, refusals, additions, changes_made, coded, counted_log, counted_told, counted, CountsAreExact}
 
 -- ---- one entry more
 

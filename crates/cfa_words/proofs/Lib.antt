@@ -1,3 +1,5 @@
+pub mod DemoNumbers
+mod Demos
 mod Examples
 pub mod Rows
 pub mod Walking

@@ -1,2 +1,3 @@
+pub mod Demos
 pub mod OfTheCode
 pub mod Words

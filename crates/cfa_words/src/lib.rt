@@ -3,4 +3,4 @@
 
 mod words;
 
-pub use words::{Options, Request, read_words};
+pub use words::{Options, Request, read_demo, read_words};

@@ -5,9 +5,10 @@ ghost use Rattle.std.specs.Str.{is_utf8};
 ghost use Rattle.clap.specs.Words.{app_of, first_value, found_of, one_text};
 ghost use Rattle.clap.specs.Values.{bool_text};
 ghost use Rattle.cfa_words.specs.Words.{asked, asked_of, class_list, class_names, given, is_class as class_test, words_asked, check_asked, run_asked, show_asked, audit_asked};
+ghost use Rattle.cfa_words.specs.Demos.{demo_asked, demo_given, demo_with, demo_number};
 ghost use Rattle.cfa_words.specs.OfTheCode.{given_of, lines_given, text_in, command_line as command_line_app};
 
-use cfa_base::{Name, Names, NoMemory, is_word};
+use cfa_base::{Name, Names, NoMemory, is_decimal, is_word};
 use clap::error::ErrorKind;
 use clap::{Arg, ArgAction, ArgMatches, Command};
 use std::alloc::{AllocError, Global};
@@ -57,6 +58,18 @@ pub fn read_words(alloc: Global, words: &[Name]) -> Result<Option<Request>, NoMe
         return Ok(None);
     };
     request_of(alloc, &line)
+}
+
+/// The number of promises of the demo that the words of a command line ask for. `None` where they ask for something else
+/// or are refused; a call fails only for want of memory.
+pub fn read_demo(alloc: Global, words: &[Name]) -> Result<Option<u32>, NoMemory>
+    ensures { IfOk result (λ r. r ≡ demo_asked words.now) }
+{
+    let texts = texts_of(alloc, words)?;
+    match line_of(alloc, texts.as_slice())? {
+        Some(line) => Ok(demo_of(&line)),
+        None => Ok(None),
+    }
 }
 
 fn texts_of<'a>(alloc: Global, words: &'a [Name]) -> Result<Vec<&'a str>, NoMemory>
@@ -150,6 +163,43 @@ fn request_of(alloc: Global, line: &Line) -> Result<Option<Request>, NoMemory>
             _ => Ok(None),
         },
         _ => Ok(None),
+    }
+}
+
+// The demo that the line asks for.
+fn demo_of(line: &Line) -> Option<u32>
+    ensures { result ≡ demo_given (given_of line.now).words (given_of line.now) }
+{
+    match (line.command, line.argument, line.extra) {
+        (Some(command), Some(argument), None) => match command {
+            "demo" => demo(argument, line),
+            _ => None,
+        },
+        _ => None,
+    }
+}
+
+fn demo(number: &str, line: &Line) -> Option<u32>
+    ensures { result ≡ demo_with number.now (given_of line.now) }
+{
+    if line.without_locks || line.strict || line.classes.is_some() {
+        return None;
+    }
+    demo_number(number)
+}
+
+// The most promises that a demo may have.
+const MOST_PROMISES: u32 = 10_000;
+
+fn demo_number(text: &str) -> Option<u32>
+    ensures { result ≡ demo_number text.now }
+{
+    if !is_decimal(text.as_bytes()) {
+        return None;
+    }
+    match text.parse::<u32>() {
+        Ok(number) if 0 < number && number <= MOST_PROMISES => Some(number),
+        _ => None,
     }
 }
 
