@@ -1,5 +1,6 @@
 pub mod AuditLemmas
 pub mod CallLemmas
+pub mod DemoLemmas
 pub mod EndLemmas
 pub mod LawLemmas
 pub mod PrepareLemmas

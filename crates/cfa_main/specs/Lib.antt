@@ -1,5 +1,6 @@
 pub mod Audits
 pub mod Calls
+pub mod Demos
 pub mod Done
 pub mod Ends
 pub mod Stages

@@ -40,8 +40,8 @@ fn refusal_line(alloc: Global, name: &Name, error: JournalErr) -> Result<Name, S
     }
 }
 
-// Adds the line of an item.
-fn append_line(alloc: Global, text: &mut String, item: Item) -> Result<(), NoMemory>
+/// Adds the line of an item.
+pub fn append_line(alloc: Global, text: &mut String, item: Item) -> Result<(), NoMemory>
     ensures { OnOk result (string_bytes text.new ≡ string_bytes text.old ++ line_of item) }
 {
     let line = line_of(alloc, item)?;

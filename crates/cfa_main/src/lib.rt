@@ -3,6 +3,7 @@
 
 mod agent;
 mod auditing;
+mod demonstrating;
 mod ends;
 mod laws;
 mod performing;

@@ -16,8 +16,8 @@ use cfa_outside::{Sink, Site};
 use cfa_walk::WalkErr;
 use std::alloc::Global;
 
-// The verdict on a policy. None where its analysis needs too many visits.
-fn analyse_policy<P: Patterns>(
+/// The verdict on a policy. None where its analysis needs too many visits.
+pub fn analyse_policy<P: Patterns>(
     alloc: Global,
     policy: &PolicyInContext,
     pats: &mut P,
@@ -61,8 +61,8 @@ fn verdict_end(verdict: &Verdict) -> End
     }
 }
 
-// Puts the line of a verdict.
-fn put_verdict<O: Sink>(alloc: Global, verdict: Verdict, out: &mut O) -> Result<End, Stop>
+/// Puts the line of a verdict.
+pub fn put_verdict<O: Sink>(alloc: Global, verdict: Verdict, out: &mut O) -> Result<End, Stop>
     ensures { VerdictPut verdict (O.shown out.old) (O.shown out.new) result }
 {
     let end = verdict_end(&verdict);
@@ -87,8 +87,8 @@ fn judge_policy<O: Sink, P: Patterns>(
     }
 }
 
-// A promise failed where one is counted as failed.
-fn end_of(tally: &Tally) -> End
+/// A promise failed where one is counted as failed.
+pub fn end_of(tally: &Tally) -> End
     ensures { result ≡ end_by tally.now.failed }
 {
     if 0 < tally.failed {
@@ -109,8 +109,8 @@ fn settled_by_verdict(verdict: &Option<Verdict>) -> SettledEnd
     }
 }
 
-// Whether the world that a run left is settled, or the first cause for which it isn't known to be.
-fn settled_by(locks: bool, tally: &Tally, verdict: &Option<Verdict>) -> SettledEnd
+/// Whether the world that a run left is settled, or the first cause for which it isn't known to be.
+pub fn settled_by(locks: bool, tally: &Tally, verdict: &Option<Verdict>) -> SettledEnd
     ensures { result ≡ settled_by locks tally.now.failed verdict.now }
 {
     if locks {

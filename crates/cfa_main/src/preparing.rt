@@ -30,8 +30,8 @@ fn context_of(alloc: Global, moment: u64, handed_in: &Names) -> Result<Context, 
     Ok(Context { classes })
 }
 
-// A policy, with the classes that are set from the start.
-fn prepare_policy<I: Inputs, P: Patterns>(
+/// A policy, with the classes that are set from the start.
+pub fn prepare_policy<I: Inputs, P: Patterns>(
     alloc: Global,
     policy: &Name,
     handed_in: &Names,
@@ -100,8 +100,8 @@ fn prepare_request<I: Inputs, P: Patterns>(
     }
 }
 
-// The refusal that this item tells.
-fn refusal(alloc: Global, item: Item) -> Failure
+/// The refusal that this item tells.
+pub fn refusal(alloc: Global, item: Item) -> Failure
     ensures { IsRefusalWith (line_of item) result }
 {
     match line_of(alloc, item) {
