@@ -1,9 +1,10 @@
 // Calls of the program, each by the line of a table that tells it: `STATUS WORDS`, and behind them, where they aren't the usual
 // ones, ` @` and the moment, ` ?` and the build of a pattern that is refused for its size, ` <` and the reading of the inputs that
 // fails, ` >` and the put that fails, and ` #` and the room of the sink.
+use crate::reports::Report;
+use crate::texts::{Files, parts};
 use cfa_base::Name;
 use cfa_outside::{MemoryInputs, MemorySink, RegexPatterns, Site};
-use cfa_test_hosts::{Files, Report, parts};
 use std::alloc::Global;
 use std::str;
 

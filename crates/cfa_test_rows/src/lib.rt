@@ -3,9 +3,14 @@
 #![tactic(auto)]
 
 mod calls;
+mod folders;
+mod keys;
+mod reports;
 mod run_logs;
 mod run_tables;
 mod tables;
+mod texts;
+mod worlds;
 
 pub use calls::Top;
 pub use tables::run_all;

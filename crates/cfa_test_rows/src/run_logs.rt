@@ -1,7 +1,8 @@
 // What a run adds to the log of its host, as lines.
+use crate::keys::with_keys;
+use crate::reports::Report;
 use cfa_base::{Bytes, escape_bytes};
 use cfa_outside::{Call, Change, Entry, Perms, ServiceRow};
-use cfa_test_hosts::{Report, with_keys};
 use std::str;
 
 fn text_of(bytes: &Bytes) -> &str {

@@ -5,12 +5,13 @@
 // host itself is made on that host, as are those behind it. A line of a text that is much repeated is told once, `* FROM TO LINE`
 // (`add_line`).
 use crate::calls::{Top, compare_answer, make};
+use crate::folders::host_in;
+use crate::reports::Report;
 use crate::run_logs::compare_log;
+use crate::texts::{Files, add_file, add_line, files_of, parts};
+use crate::worlds::{host_behind, site_of};
 use cfa_hostdir::HostSite;
 use cfa_outside::{MemorySite, Site};
-use cfa_test_hosts::{
-    Files, Report, add_file, add_line, files_of, host_behind, host_in, parts, site_of,
-};
 
 fn add_blocks(policy: &mut String, name: &str, report: &mut Report) {
     let blocks = report.read(name, ".cf");

@@ -4,8 +4,9 @@
 // behind the title of the frame that they go into, `== FRAME: TITLE`, which is the row in the file `FRAME.frame`. A `¶` of a field
 // stands for a line break.
 use crate::calls::Top;
+use crate::reports::Report;
 use crate::run_tables::{compare_row, compare_row_in, filled};
-use cfa_test_hosts::{Report, parts};
+use crate::texts::parts;
 
 // Compares a row by its reader, and tells what isn't met in it, or can't be read.
 fn compare<T: Top>(reader: &str, name: &str, front: &str, row: &str, report: &mut Report) {
