@@ -1,0 +1,242 @@
+// What is told of a whole call.
+use crate::advising::{Style, Subject, push_conflict, push_failed, push_refused};
+use crate::ends::{MOMENT, settled_sentence, stop_sentence};
+use crate::lines::{read_conflict, read_failed, read_refused};
+use crate::reasons::{Reason, reason_of};
+use crate::sought::{Sight, Sights};
+use crate::sources::Sources;
+use crate::told::ToldLines;
+use crate::usage::words_fault;
+use crate::usage_texts::words_advice;
+use cfa_base::{Bytes, Name};
+use cfa_outside::Look;
+use std::alloc::{AllocError, Global};
+
+// The most failed promises that are told of.
+const MOST_FAILED: usize = 20;
+
+/// What is known of a call that ended.
+#[derive(Clone, Copy)]
+pub struct Heard<'a> {
+    /// Its words, without the program's name.
+    pub words: &'a [Name],
+    pub status: u8,
+    /// The lines that were put.
+    pub told: &'a ToldLines,
+    /// What was looked at on the host.
+    pub sights: &'a Sights,
+    /// The sources that it read.
+    pub sources: &'a Sources,
+    /// The call on the outside that failed last, where one did, as a sentence.
+    pub outside: Option<&'a str>,
+    pub style: Style,
+}
+
+fn look_word(look: Look) -> &'static str {
+    match look {
+        Look::Nothing => "nothing stands there",
+        Look::Blocked => "a file stands above it",
+        Look::File(_) => "a file stands there",
+        Look::Dir(true) => "a directory stands there",
+        Look::Dir(false) => "a directory stands there, and isn't empty",
+    }
+}
+
+// Whether what was last looked at is what a promise failed by, for this reason.
+fn is_sighted(reason: Reason) -> bool {
+    match reason {
+        Reason::Missing
+        | Reason::Obstructed
+        | Reason::NotText
+        | Reason::NonConvergent
+        | Reason::NoAnchor
+        | Reason::FieldCount
+        | Reason::UnknownService => true,
+        Reason::BadPath
+        | Reason::BadPattern
+        | Reason::BadValue
+        | Reason::Fault
+        | Reason::TooLong
+        | Reason::TooMany => false,
+    }
+}
+
+// The word on what was seen, where it tells more than the reason's sentence.
+fn sight_word(reason: Reason, look: Look) -> &'static str {
+    match reason {
+        Reason::Missing | Reason::Obstructed => look_word(look),
+        _ => "",
+    }
+}
+
+fn subject_of(reason: Reason, sight: &Sight) -> Option<Subject<'_>> {
+    if !is_sighted(reason) {
+        return None;
+    }
+    match sight {
+        Sight::Path(path, look) => Some(Subject {
+            what: path.as_str(),
+            word: sight_word(reason, *look),
+        }),
+        Sight::Service(name, _) => Some(Subject {
+            what: name.as_str(),
+            word: "",
+        }),
+    }
+}
+
+impl<'a> Heard<'a> {
+    fn push_words(&self, alloc: Global, text: &mut String) -> Result<(), AllocError> {
+        let mut words = Vec::new(alloc);
+        for word in self.words {
+            words.push(word.as_str())?;
+        }
+        let told = words_advice(alloc, words_fault(words.as_slice()))?;
+        text.push_str(told.as_str())
+    }
+
+    // Tells of the failed promise of a number, from 0.
+    fn push_failed(
+        &self,
+        alloc: Global,
+        text: &mut String,
+        line: &str,
+        number: usize,
+    ) -> Result<(), AllocError> {
+        let Some(failed) = read_failed(line) else {
+            return Ok(());
+        };
+        let subject = match (reason_of(failed.code), self.sights.get(number)) {
+            (Some(reason), Some(sight)) => subject_of(reason, sight),
+            _ => None,
+        };
+        push_failed(alloc, text, self.style, self.sources, failed, subject)
+    }
+
+    fn push_conflict(
+        &self,
+        alloc: Global,
+        text: &mut String,
+        line: &str,
+    ) -> Result<(), AllocError> {
+        match read_conflict(line) {
+            Some(conflict) => push_conflict(alloc, text, self.style, self.sources, conflict),
+            None => Ok(()),
+        }
+    }
+
+    fn push_refused(&self, alloc: Global, text: &mut String, line: &str) -> Result<(), AllocError> {
+        match read_refused(line) {
+            Some(refused) => push_refused(alloc, text, self.style, self.sources, refused),
+            None => Ok(()),
+        }
+    }
+
+    fn push_sentence(text: &mut String, sentence: Option<&str>) -> Result<(), AllocError> {
+        match sentence {
+            Some(sentence) => {
+                text.push_str(sentence)?;
+                text.push_str("\n")
+            }
+            None => Ok(()),
+        }
+    }
+
+    fn push_settled(&self, text: &mut String, rest: &str) -> Result<(), AllocError> {
+        if !self.style.is_terminal {
+            return Ok(());
+        }
+        match rest.strip_suffix(')') {
+            Some(cause) => Heard::push_sentence(text, settled_sentence(cause)),
+            None => Ok(()),
+        }
+    }
+
+    // Tells of a line that was put, which isn't one of a failed promise.
+    fn push_line(&self, alloc: Global, text: &mut String, line: &str) -> Result<(), AllocError> {
+        if line == "words: refused" {
+            self.push_words(alloc, text)
+        } else if line == "moment: refused" {
+            Heard::push_sentence(text, Some(MOMENT))
+        } else if let Some(cause) = line.strip_prefix("stopped: ") {
+            Heard::push_sentence(text, stop_sentence(cause))
+        } else if let Some(rest) = line.strip_prefix("settled: no (") {
+            self.push_settled(text, rest)
+        } else if self.status == 3 {
+            self.push_conflict(alloc, text, line)
+        } else if self.status == 1 {
+            self.push_refused(alloc, text, line)
+        } else {
+            Ok(())
+        }
+    }
+
+    // Tells of a line, and answers how many failed promises there were up to it.
+    fn push_told(
+        &self,
+        alloc: Global,
+        text: &mut String,
+        line: &[u8],
+        failed: usize,
+    ) -> Result<usize, AllocError> {
+        let Ok(line) = str::from_utf8(line) else {
+            return Ok(failed);
+        };
+        let line = line.strip_suffix('\n').unwrap_or(line);
+        if !line.starts_with("failed ") {
+            self.push_line(alloc, text, line)?;
+            return Ok(failed);
+        }
+        if failed < MOST_FAILED {
+            self.push_failed(alloc, text, line, failed)?;
+        }
+        Ok(failed.saturating_add(1))
+    }
+
+    // Whether a line of this call is one that is told of: what is shown is no line of these.
+    fn tells(&self) -> bool {
+        match self.words.first() {
+            Some(word) => self.status != 0 || word.as_str() != "show",
+            None => true,
+        }
+    }
+
+    fn push_all(
+        &self,
+        alloc: Global,
+        text: &mut String,
+        lines: &[Bytes],
+    ) -> Result<usize, AllocError> {
+        let mut failed = 0usize;
+        for line in lines {
+            failed = self.push_told(alloc, text, line.as_slice(), failed)?;
+        }
+        Ok(failed)
+    }
+
+    fn push_more(alloc: Global, text: &mut String, failed: usize) -> Result<(), AllocError> {
+        if failed <= MOST_FAILED {
+            return Ok(());
+        }
+        let more = failed.saturating_sub(MOST_FAILED);
+        let line = format!(in alloc; "{more} more promises failed\n")?;
+        text.push_str(line.as_str())
+    }
+
+    /// What a person is told of the call.
+    pub fn advice(&self, alloc: Global) -> Result<String, AllocError> {
+        let mut text = String::new(alloc);
+        if !self.tells() {
+            return Ok(text);
+        }
+        let failed = self.push_all(alloc, &mut text, self.told.lines())?;
+        Heard::push_more(alloc, &mut text, failed)?;
+        if let Some(last) = self.told.last() {
+            self.push_told(alloc, &mut text, last.as_slice(), failed)?;
+        }
+        if self.status == 2 || self.status == 4 {
+            Heard::push_sentence(&mut text, self.outside)?;
+        }
+        Ok(text)
+    }
+}
