@@ -1,7 +1,7 @@
 // Files as inputs.
 ghost use Rattle.std.specs.Prelude.{◌≡◌, None};
 
-use crate::errors::{HostErr, Refusal, refusal_of};
+use crate::errors::{HostErr, Refusal, Why, refusal_of, refused};
 use crate::faults::{FailedCall, Fault, counted};
 use cfa_base::{Bytes, Name};
 use cfa_outside::{Inputs, OutsideErr};
@@ -49,6 +49,10 @@ impl<R: Drop> HostInputs<R> {
 
 // At most the first `limit` bytes of a file.
 fn read_front<R: Files>(alloc: Global, rt: &R, path: &str, limit: usize) -> Result<Bytes, HostErr> {
+    // Who opens a pipe may wait for ever; it, a device and a folder are no inputs.
+    if !rt.metadata(path)?.is_file() {
+        return Err(refused(Why::OfAnotherKind));
+    }
     let mut file = fs::open(rt, path)?;
     let mut all = Vec::new(alloc);
     let mut piece = [0u8; 4096];
