@@ -1,6 +1,11 @@
-//! The agent: runs, shows and checks policies, and audits journals, by the words of its command line, on the real host.
+//! The agent: runs, shows and checks policies, and audits journals, by the words of its command line, on the real host. What a
+//! person is told beside goes to standard error, and changes nothing.
 #![tactic(auto)]
 
+mod descriptors;
+mod telling;
+
+use cfa_advice::{NotingInputs, NotingSink, NotingSite};
 use cfa_base::{Name, NoMemory};
 use cfa_hostdir::{HostInputs, HostSink, HostSite};
 use cfa_main::{agent_main, stop_status};
@@ -11,6 +16,12 @@ use std::env;
 use std::process::ExitCode;
 use std::rt::Clock;
 use std::time::{SystemTime, UNIX_EPOCH};
+
+type Inputs = NotingInputs<HostInputs<HostRuntime>>;
+
+type Host = NotingSite<HostSite<HostRuntime>>;
+
+type Out = NotingSink<HostSink<HostRuntime>>;
 
 // The words without the program's name. None where one of them isn't UTF-8, so that they are refused.
 fn read_words(rt: &HostRuntime, alloc: Global) -> Result<Vec<Name>, NoMemory> {
@@ -39,14 +50,14 @@ fn run_agent(
     alloc: Global,
     words: &[Name],
     moment: u64,
-    inputs: &mut HostInputs<HostRuntime>,
-    site: &mut HostSite<HostRuntime>,
-    out: &mut HostSink<HostRuntime>,
+    inputs: &mut Inputs,
+    site: &mut Host,
+    out: &mut Out,
 ) -> u8 {
     let mut pats = RegexPatterns::new(alloc, Vec::new(alloc));
     let status = agent_main(alloc, words, moment, inputs, site, out, &mut pats);
     // Where the tables can't be written, the next call on the host reads the rows that changed.
-    let _ = site.write_tables(alloc);
+    let _ = site.inner().write_tables(alloc);
     status
 }
 
@@ -55,19 +66,23 @@ fn start(rt: &HostRuntime) -> Result<u8, NoMemory> {
     let words = read_words(rt, alloc)?;
     let host = Name::from_text(alloc, "host")?;
     let (for_inputs, for_site, for_sink) = (rt.clone()?, rt.clone()?, rt.clone()?);
-    let mut inputs = HostInputs::new(for_inputs);
-    let mut site = HostSite::new(for_site, host);
-    let mut out = HostSink::new(for_sink);
+    let mut inputs = NotingInputs::new(alloc, HostInputs::new(for_inputs));
+    let mut site = NotingSite::new(alloc, HostSite::new(for_site, host));
+    let mut out = NotingSink::new(alloc, HostSink::new(for_sink));
     let words = words.as_slice();
     let moment = moment_now(rt);
     let status = run_agent(alloc, words, moment, &mut inputs, &mut site, &mut out);
+    telling::tell(rt, words, status, &mut inputs, &mut site, &out);
     drop(site);
     Ok(status)
 }
 
 fn main(rt: HostRuntime) -> ExitCode {
-    match start(&rt) {
-        Ok(status) => ExitCode::from(status),
-        Err(error) => ExitCode::from(stop_status(&Stop::from(error))),
-    }
+    let held = descriptors::hold(&rt);
+    let status = match start(&rt) {
+        Ok(status) => status,
+        Err(error) => stop_status(&Stop::from(error)),
+    };
+    drop(held);
+    ExitCode::from(status)
 }

@@ -1,7 +1,9 @@
-//! Worked rows of what the program never calls: of the demo policy and its lines, of the reading of escaped fields, of the clashes
-//! of scripts of edits, and of histories of journals.
+//! Worked rows of what a person is told beside the lines, and of what the program never calls: of the demo policy and its lines, of the
+//! reading of escaped fields, of the clashes of scripts of edits, and of histories of journals.
 #![tactic(auto)]
 
+#[cfg(test)]
+mod advice;
 #[cfg(test)]
 mod clashes;
 #[cfg(test)]

@@ -1,0 +1,124 @@
+// What a person is told on standard error.
+use crate::{Host, Inputs, Out};
+use cfa_advice::{Heard, Sources, Style};
+use cfa_base::Name;
+use cfa_hostdir::{FailedCall, Fault, Why};
+use std::alloc::{AllocError, Global};
+use std::io::{IsTerminal, Write};
+use std::{env, io};
+
+// Standard error is a terminal, and colours are wanted there.
+fn style_of(rt: &HostRuntime) -> Style {
+    let is_terminal = rt.stderr().is_terminal();
+    Style {
+        is_terminal,
+        has_colour: is_terminal && env::var(rt, "NO_COLOR").is_err(),
+    }
+}
+
+// Why a call on the outside was refused.
+fn word_of(alloc: Global, why: Why) -> Result<String, AllocError> {
+    match why {
+        Why::System(number) => format!(in alloc; "{}", io::Error::from_raw_os_error(number)),
+        Why::Taken => String::from_str(alloc, "held by another agent"),
+        Why::OfAnotherKind => String::from_str(
+            alloc,
+            "a folder, a link or a special file in the place of a file, or a file in that of a folder",
+        ),
+        Why::BadRow(line) => format!(in alloc; "line {line} is no row in its place"),
+        Why::OfAnotherLength => String::from_str(
+            alloc,
+            "more bytes than are read, or fewer than were written",
+        ),
+        Why::Swapped => String::from_str(alloc, "another file was put in its place meanwhile"),
+        Why::Misfit => String::from_str(alloc, "the change doesn't fit what stands there"),
+        Why::Unsure => String::from_str(
+            alloc,
+            "a sync failed before, so that nobody knows what is on the disk",
+        ),
+    }
+}
+
+// A call on the outside that failed, as a sentence.
+fn sentence_of(alloc: Global, fault: &Fault) -> Result<String, AllocError> {
+    let word = word_of(alloc, fault.why)?;
+    let what = match &fault.path {
+        Some(path) => path.as_str(),
+        None if fault.call == FailedCall::Put => "standard output",
+        None => "the host",
+    };
+    if fault.call == FailedCall::Read && fault.why == Why::OfAnotherKind {
+        return format!(in alloc; "{what}: no file, but a folder, a pipe or a device");
+    }
+    if fault.call == FailedCall::Read {
+        return format!(in alloc;
+            "{what}: {word}; it is read from the folder in which the command runs"
+        );
+    }
+    format!(in alloc; "{what}: {word}")
+}
+
+// The call on the outside that failed last: the put that ended all, else the reading, else one on the host.
+fn outside_of(
+    alloc: Global,
+    inputs: &mut Inputs,
+    site: &mut Host,
+    out: &Out,
+) -> Result<Option<String>, AllocError> {
+    if let Some(fault) = out.inner().last_fault() {
+        return Ok(Some(sentence_of(alloc, fault)?));
+    }
+    if let Some(fault) = inputs.inner().last_fault() {
+        return Ok(Some(sentence_of(alloc, fault)?));
+    }
+    match site.inner().last_fault() {
+        Some(fault) => Ok(Some(sentence_of(alloc, fault)?)),
+        None => Ok(None),
+    }
+}
+
+// The sources are read again where a line of theirs is to be shown.
+fn sources_of(alloc: Global, status: u8, inputs: &mut Inputs) -> Sources {
+    if !matches!(status, 1..=3) {
+        return Sources::none(alloc);
+    }
+    let names = inputs.copy_names(alloc);
+    Sources::read(alloc, names.as_slice(), inputs.inner())
+}
+
+fn advice(
+    rt: &HostRuntime,
+    words: &[Name],
+    status: u8,
+    inputs: &mut Inputs,
+    site: &mut Host,
+    out: &Out,
+) -> Result<String, AllocError> {
+    let alloc = rt.alloc();
+    let outside = outside_of(alloc, inputs, site, out)?;
+    let sources = sources_of(alloc, status, inputs);
+    let heard = Heard {
+        words,
+        status,
+        told: out.told(),
+        sights: site.sights(),
+        sources: &sources,
+        outside: outside.as_ref().map(|told| told.as_str()),
+        style: style_of(rt),
+    };
+    heard.advice(alloc)
+}
+
+/// Tells a person of a call that ended. Whatever becomes of it, nothing else changes.
+pub fn tell(
+    rt: &HostRuntime,
+    words: &[Name],
+    status: u8,
+    inputs: &mut Inputs,
+    site: &mut Host,
+    out: &Out,
+) {
+    if let Ok(text) = advice(rt, words, status, inputs, site, out) {
+        let _ = rt.stderr().write_all(text.as_str().as_bytes());
+    }
+}
