@@ -9,7 +9,7 @@ use cfa_advice::{NotingInputs, NotingSink, NotingSite};
 use cfa_base::{Name, NoMemory};
 use cfa_hostdir::{HostInputs, HostSink, HostSite};
 use cfa_main::{agent_main, stop_status};
-use cfa_output::Stop;
+use cfa_output::{Object, Stop};
 use cfa_outside::RegexPatterns;
 use std::alloc::Global;
 use std::env;
@@ -58,7 +58,12 @@ fn run_agent(
     let status = agent_main(alloc, words, moment, inputs, site, out, &mut pats);
     // Where the tables can't be written, the next call on the host reads the rows that changed.
     let _ = site.inner().write_tables(alloc);
-    status
+    if site.inner().settle() {
+        status
+    } else {
+        // The last record was written, and nobody knows whether it lasts.
+        stop_status(&Stop::Outside(Object::Site))
+    }
 }
 
 fn start(rt: &HostRuntime) -> Result<u8, NoMemory> {
