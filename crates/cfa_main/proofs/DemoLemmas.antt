@@ -1,7 +1,6 @@
 -- What is known of a demo: of a run on a site that counts, and of a call that asks for a demo or for none.
-use Rattle.std.proofs.Common.{◌≡◌, ℕ, ◌<◌, ◌≤◌, Bool, false, List, [], ◌∷◌, ◌++◌, length, drop, Option, Some, None, option_map, IfSome, Result, Ok, Err, IsErrOf, refl, sym, ap, subst, ◌∙◌, arith}
+use Rattle.std.proofs.Common.{◌≡◌, ℕ, false, List, [], ◌∷◌, ◌++◌, length, drop, Option, Some, None, option_map, IfSome, Err, IsErrOf, refl, sym, ap, subst, ◌∙◌}
 use Rattle.std.proofs.lemmas.Option.{none-some, same_Some}
-use Rattle.cfa_base.specs.Causes.{Rose}
 use Rattle.cfa_base.specs.Shown.{Shown, Untouched}
 use Rattle.cfa_outside.specs.Inputs.{Library}
 use Rattle.cfa_outside.specs.declared.sites.Entry.{Entry}
@@ -9,8 +8,7 @@ use Rattle.cfa_outside.specs.Sites.{Told, adds}
 use Rattle.cfa_output.specs.declared.ends.Object.TheVariants.{Inputs, Site, Sink}
 use Rattle.cfa_output.specs.declared.ends.Stop.{Stop}
 use Rattle.cfa_output.specs.declared.ends.Stop.TheVariants.{Outside, Memory, Visits, Pattern}
-use Rattle.cfa_output.specs.declared.ends.Failure.{Failure}
-use Rattle.cfa_output.specs.declared.ends.Failure.TheVariants.{Refused, Stopped}
+use Rattle.cfa_output.specs.declared.ends.Failure.TheVariants.{Stopped}
 use Rattle.cfa_demo.specs.Counts.{changes_in, counted_told, counted, IsCounted, CountsAreExact}
 use Rattle.cfa_words.specs.Demos.{demo_asked}
 use Rattle.cfa_states.specs.Levels.{IsTooLarge}
@@ -20,8 +18,6 @@ use Rattle.cfa_agent.specs.Marks.{marks_of}
 use Rattle.cfa_agent.specs.Runs.{Start, run_of, log_of, tally_of}
 use Rattle.cfa_agent.specs.Ran.{added, started, start_of, counts_of, IsWhole, IfBothTold, RunsAs, StopsRun}
 use Rattle.cfa_convergence.specs.Settled.{Settles}
-use Rattle.cfa_main.specs.declared.demonstrating.CountedRun.{CountedRun}
-use Rattle.cfa_main.specs.declared.work.Work.{Work}
 use Rattle.cfa_main.specs.Demos.{RanOnce, StopsOnce, narrowed, Demonstrates, no_memory, CalledFor, a_demo, no_demo, unread}
 use Rattle.cfa_main.specs.Stages.{Prepared, Called, not_prepared}
 use Rattle.cfa_main.proofs.RunLemmas.{left}

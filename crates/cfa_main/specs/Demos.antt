@@ -1,7 +1,8 @@
--- What a demo does. The policy of so many promises is read, checked and analysed. Where it is accepted its two first lines are put;
--- it is run, and two lines tell of that run; it is run again, and the last two lines tell of this run and whether the world that it left
--- is settled. Each run is without locks, and on the world that it finds. A stop ends the work where it comes.
-use Rattle.std.specs.Prelude.{ℕ, ◌≡◌, ◌<◌, ◌≤◌, Bool, false, List, [], ◌∷◌, ◌++◌, length, codes, Option, Some, None, Result, Ok, Err, IfOk, IfErr, OnOk, ⊤}
+-- What a demo does. The policy of so many promises is read, checked and analysed. Where it is accepted its two first
+-- lines are put; it is run, and two lines tell of that run; it is run again, and the last two lines tell of this run
+-- and whether the world that it left is settled. Each run is without locks, and on the world that it finds. A stop ends
+-- the work where it comes.
+use Rattle.std.specs.Prelude.{ℕ, ◌≡◌, ◌<◌, ◌≤◌, false, List, [], ◌∷◌, ◌++◌, length, codes, Some, None, Result, Ok, Err, IfOk, IfErr, OnOk, ⊤}
 use Rattle.cfa_base.specs.Causes.{Rose}
 use Rattle.cfa_base.specs.declared.limits.TheConstants.{LAST_MOMENT}
 use Rattle.cfa_base.specs.Shown.{Shown, Follows, Untouched}
@@ -55,8 +56,8 @@ FailsDemo number (Stopped stop) = stop ≡ Memory
 
 -- ---- a run
 
--- a run without locks on the world that a site told before it, under the marks of its own entries: its entries are added, and counted are
--- how its instances ended, its entries, and the changes among these that are no records
+-- a run without locks on the world that a site told before it, under the marks of its own entries: its entries are
+-- added, and counted are how its instances ended, its entries, and the changes among these that are no records
 pub record RanOnce (setting : Setting) (moment : ℕ) (before after : Told) (run : CountedRun) : Type 0 where
   pub is_whole : IsWhole (run_of setting (started moment false before after))
   pub site_is : after ≡ adds (log_of setting (started moment false before after)) before
@@ -64,7 +65,8 @@ pub record RanOnce (setting : Setting) (moment : ℕ) (before after : Told) (run
   pub entries_are : run.entries ≡ length (log_of setting (started moment false before after))
   pub changes_are : run.changes ≡ changes_in (log_of setting (started moment false before after))
 
--- the same as far as the site tells; where no promise failed, the world that it leaves is settled if the policy is accepted
+-- the same as far as the site tells; where no promise failed, the world that it leaves is settled if the policy is
+-- accepted
 pub record Ran (setting : Setting) (moment : ℕ) (site site' : Shown Told) (run : CountedRun) : Type 0 where
   pub once : IfBothTold (λ before after. RanOnce setting moment before after run) site site'
   pub settles : run.tally.failed ≡ 0 → (live : ℕ) → analysis_of setting ≡ Some (Accepted live) →
@@ -80,7 +82,8 @@ StopsOnce setting moment site site' Visits = IfBothTold (λ before after.
     (marks : List Mark) × IsTooLarge (run_of setting (start_of moment false before.world marks))) site site'
 StopsOnce setting moment site site' (Pattern text) = ⊥
 
-pub record RunOnce (setting : Setting) (moment : ℕ) (site site' : Shown Told) (result : Result CountedRun Stop) : Type 0 where
+pub record RunOnce (setting : Setting) (moment : ℕ) (site site' : Shown Told)
+    (result : Result CountedRun Stop) : Type 0 where
   pub ran : IfOk result (Ran setting moment site site')
   pub stopped : IfErr result (StopsOnce setting moment site site')
 
@@ -112,7 +115,8 @@ AlwaysTells {X} shown = (x : X) → IsTold (shown x)
 
 -- the lines behind the second run
 pub data SecondIsTold (live : ℕ) (run : CountedRun) (out out' : Shown (List ℕ)) : Result End Stop → Type 0 where
-  told : Follows (adds_bytes (second_lines live run)) out out' → SecondIsTold live run out out' (Ok (end_by run.tally.failed))
+  told : Follows (adds_bytes (second_lines live run)) out out' →
+      SecondIsTold live run out out' (Ok (end_by run.tally.failed))
   not_told : {stop : Stop} → StopsPutting out out' stop → SecondIsTold live run out out' (Err stop)
 
 -- the second run, and what follows it
@@ -127,7 +131,8 @@ pub data RunsAgain (setting : Setting) (moment live : ℕ) (site site' : Shown T
 pub data FirstIsTold (setting : Setting) (moment live : ℕ) (run : CountedRun) (site site' : Shown Told)
     (out out' : Shown (List ℕ)) : Result End Stop → Type 0 where
   first_told : {result : Result End Stop} (mid : Shown (List ℕ)) → Follows (adds_bytes (first_lines run)) out mid →
-      RunsAgain setting moment live site site' mid out' result → FirstIsTold setting moment live run site site' out out' result
+      RunsAgain setting moment live site site' mid out' result →
+      FirstIsTold setting moment live run site site' out out' result
   first_not_told : {stop : Stop} → Untouched site site' → StopsPutting out out' stop →
       FirstIsTold setting moment live run site site' out out' (Err stop)
 
@@ -155,16 +160,20 @@ pub data IsPerformed (Tells : Type 0) (setting : Setting) (number moment : ℕ) 
   accepted : {result : Result End Stop} (live : ℕ) → analysis_of setting ≡ Some (Accepted live) →
       IsShown Tells setting number moment live site site' out out' result →
       IsPerformed Tells setting number moment site site' out out' result
-  in_conflict : {result : Result End Stop} (c : Conflict) → analysis_of setting ≡ Some (InConflictBy c) → Untouched site site' →
-      VerdictPut (InConflictBy c) out out' result → IsPerformed Tells setting number moment site site' out out' result
+  in_conflict : {result : Result End Stop} (c : Conflict) → analysis_of setting ≡ Some (InConflictBy c) →
+      Untouched site site' → VerdictPut (InConflictBy c) out out' result →
+      IsPerformed Tells setting number moment site site' out out' result
   too_large : analysis_of setting ≡ None → Untouched site site' → Untouched out out' →
       IsPerformed Tells setting number moment site site' out out' (Err Visits)
-  without_memory : Untouched site site' → Untouched out out' → IsPerformed Tells setting number moment site site' out out' (Err Memory)
+  without_memory : Untouched site site' → Untouched out out' →
+      IsPerformed Tells setting number moment site site' out out' (Err Memory)
 
 -- ---- the call
 
--- a call that asks for a demo did this and ended with the status; the last line of a stop or a refusal is put where it can be
-pub data Demonstrates (Tells : Type 0) (number moment : ℕ) (site site' : Shown Told) (out out' : Shown (List ℕ)) (status : ℕ) : Type 0 where
+-- a call that asks for a demo did this and ended with the status; the last line of a stop or a refusal is put where it
+-- can be
+pub data Demonstrates (Tells : Type 0) (number moment : ℕ) (site site' : Shown Told) (out out' : Shown (List ℕ))
+    (status : ℕ) : Type 0 where
   no_memory : Untouched site site' → PutsStop (Some memory_line) 5 out out' status →
       Demonstrates Tells number moment site site' out out' status
   late : (failure : Failure) → LAST_MOMENT < moment → IsRefusalWith moment_line failure → Untouched site site' →
@@ -198,12 +207,13 @@ pub record DemoRead (number moment : ℕ) (result : Result PolicyInContext Failu
   pub fails : IfErr result (FailsDemo number)
 
 -- how a call ended, by what its words ask for
-pub data CalledFor (Tells : Type 0) (words : List (List ℕ)) (moment : ℕ) (inputs inputs' : Shown Library) (site site' : Shown Told)
-    (out out' : Shown (List ℕ)) (pats pats' : Shown (List (List ℕ))) (status : ℕ) : Type 0 where
+pub data CalledFor (Tells : Type 0) (words : List (List ℕ)) (moment : ℕ) (inputs inputs' : Shown Library)
+    (site site' : Shown Told) (out out' : Shown (List ℕ)) (pats pats' : Shown (List (List ℕ))) (status : ℕ) : Type 0 where
   a_demo : {number : ℕ} → demo_asked words ≡ Some number → Untouched inputs inputs' → Untouched pats pats' →
       Demonstrates Tells number moment site site' out out' status →
       CalledFor Tells words moment inputs inputs' site site' out out' pats pats' status
   no_demo : demo_asked words ≡ None → Called words moment inputs inputs' site site' out out' pats pats' status →
       CalledFor Tells words moment inputs inputs' site site' out out' pats pats' status
-  unread : Untouched inputs inputs' → Untouched site site' → Untouched pats pats' → PutsStop (Some memory_line) 5 out out' status →
+  unread : Untouched inputs inputs' → Untouched site site' → Untouched pats pats' →
+      PutsStop (Some memory_line) 5 out out' status →
       CalledFor Tells words moment inputs inputs' site site' out out' pats pats' status
