@@ -207,7 +207,7 @@ module _ (s : Setting) where
   pub moved_grows : (st : Stack) (h : History) → NextGrows h (moved s st h)
   moved_grows st h = frames_moved_grow st.frames st.ahead h
 
-  next_grows : (h k : History) (x : Next) → Grows h k → NextGrows k x → NextGrows h x
+  pub next_grows : (h k : History) (x : Next) → Grows h k → NextGrows k x → NextGrows h x
   next_grows h k (goes_on st m) first next = grows_then h k m first next
   next_grows h k (is_too_large m) first next = grows_then h k m first next
 

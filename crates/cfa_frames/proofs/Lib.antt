@@ -7,4 +7,5 @@ mod RunLemmas
 mod GrowLemmas
 mod AlikeLemmas
 mod StandingLemmas
+mod StepLemmas
 mod FrameRows

@@ -15,7 +15,7 @@ use Rattle.cfa_frames.proofs.MoveLemmas.{moved_meets}
 use Rattle.cfa_frames.proofs.AnswerLemmas.{skipped_meets, entered_meets, ended_meets, over_is}
 use Rattle.cfa_frames.proofs.LightLemmas.{moved_lighter, skipped_lighter, entered_lighter, ended_lighter}
 
-lighter_yet : (w v n : ℕ) → w < v → v ≤ n → w < n
+pub lighter_yet : (w v n : ℕ) → w < v → v ≤ n → w < n
 lighter_yet w v n less most = omega (arith, less, most)
 
 module _ (few : InstancesAreFew) (s : Setting) (t : Teller) where

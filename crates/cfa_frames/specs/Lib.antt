@@ -3,3 +3,4 @@ pub mod Moves
 pub mod Weights
 pub mod Growing
 pub mod Standing
+pub mod Steps

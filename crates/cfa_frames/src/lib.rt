@@ -1,9 +1,11 @@
-//! What a run has still to do, as a stack of frames: its moves, and what holds of them.
+//! What a run has still to do, as a stack of frames: its moves and its steps, and what holds of them.
 #![tactic(auto)]
 
 mod laws;
+mod steps;
 
 pub use laws::{
     frames_stay_nested, histories_only_grow, moves_keep_what_is_left, moves_lower_the_weight,
     moves_make_the_run,
 };
+pub use steps::{steps_end_with_an_actuation, steps_keep_what_is_left};
