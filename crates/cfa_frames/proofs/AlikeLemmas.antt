@@ -22,11 +22,14 @@ module _ (s : Setting) (t u : Teller) where
   outcomes_alike h i (Call name given) same = same
   outcomes_alike h i (Report content) same = refl
 
-  answered_alike : (x : Need) (st : Stack) (h : History) → AnswerAlike h t u → answered s t x st h ≡ answered s u x st h
+  -- asked at this history
+  abbrev pub AlikeAt : History → Type 0
+  AlikeAt h = (i : Instance) → (t.skips h i ≡ u.skips h i) × (t.tells h i ≡ u.tells h i)
+
+  pub answered_alike : (x : Need) (st : Stack) (h : History) → AlikeAt h → answered s t x st h ≡ answered s u x st h
   answered_alike nothing st h alike = refl
-  answered_alike (skipping i status) st h alike = ap (λ (b : Bool). asked_next s u b st h) (alike h i (stays_same h)).0
-  answered_alike (ending i status) st h alike =
-      ap (λ (os : List Outcome). ended os st h) (outcomes_alike h i i.work (alike h i (stays_same h)).1)
+  answered_alike (skipping i status) st h alike = ap (λ (b : Bool). asked_next s u b st h) (alike i).0
+  answered_alike (ending i status) st h alike = ap (λ (os : List Outcome). ended os st h) (outcomes_alike h i i.work (alike i).1)
   answered_alike over st h alike = refl
 
   alike_then : (h k : History) → Grows h k → AnswerAlike h t u → AnswerAlike k t u
@@ -41,7 +44,7 @@ module _ (s : Setting) (t u : Teller) where
   come_to_alike zero st h alike = refl
   come_to_alike (suc n) st h alike =
       then_alike n (come_to_alike n) (answered s t (need_of st) st h) h (answered_grows s t (need_of st) st h) alike
-      ∙ ap (λ (x : Next). then_moves s u x (come_to s u n)) (answered_alike (need_of st) st h alike)
+      ∙ ap (λ (x : Next). then_moves s u x (come_to s u n)) (answered_alike (need_of st) st h (λ (i : Instance). alike h i (stays_same h)))
 
   pub rest_alike : InstancesAreFew → (st : Stack) (h : History) → AnswerAlike h t u → rest s t st h ≡ rest s u st h
   rest_alike few st h alike =

@@ -19,7 +19,7 @@ use Rattle.cfa_frames.proofs.MoveLemmas.{activated_meets, two_levels}
 skipping_is : (i j : Instance) (status other : Status) → skipping i status ≡ skipping j other → i ≡ j
 skipping_is i j status other is = cc
 
-ending_is : (i j : Instance) (status other : Status) → ending i status ≡ ending j other → i ≡ j
+pub ending_is : (i j : Instance) (status other : Status) → ending i status ≡ ending j other → i ≡ j
 ending_is i j status other is = cc
 
 module _ (s : Setting) (t : Teller) where

@@ -20,7 +20,7 @@ use Rattle.cfa_resolve.specs.KeyTexts.{key_text}
 use Rattle.cfa_resolve.specs.Resolution.{resolution, made}
 use Rattle.cfa_served.specs.Control.{sequence_of}
 use Rattle.cfa_served.specs.Served.{body_of, bundle_of, common_bundles_of, minutes_of}
-use Rattle.cfa_states.specs.History.{History, Reached}
+use Rattle.cfa_states.specs.History.{History, Begun, Set, Raised, Reached, Listed, Told}
 use Rattle.cfa_states.specs.Passes.{Course, goes, too_large, told}
 use Rattle.cfa_states.specs.Tellers.{Teller, all_kept, one_each}
 use Rattle.cfa_states.specs.Views.{Setting, shared_names, shared_in}
@@ -35,6 +35,7 @@ use Rattle.cfa_vars.specs.References.{reference_at, pieces, list_reference_of}
 use Rattle.cfa_vars.specs.Scopes.{look, key_of}
 use Rattle.cfa_frames.specs.Frames.{Stack, beginning}
 use Rattle.cfa_frames.specs.Moves.{Need, nothing, skipping, ending, over, Next, goes_on, is_too_large, need_of, answered, come_to}
+use Rattle.cfa_frames.specs.Steps.{has_acts, step_within, begun}
 
 -- ---- what is looked at
 
@@ -149,3 +150,84 @@ past_the_limit = refl
 at_the_limit : is_past (come_to (setting one_file) all_kept 200 (beginning (setting one_file)) (counted 999997)) ≡ false
 unfolding told resolution combined own_reads made heard bodies_of made_instance file_acts service_act outcome_classes key_text mode_text datum_given data_set raises_of setting_choices shared_names shared_in expanded scalar look key_of pieces reference_at list_reference_of are_too_many list_given answer_of function_named path_of body_of bundle_of common_bundles_of minutes_of sequence_of escaped escape_of digits is_literal is_boolean promise_type bundle_type files_attribute outcome_attribute methods_attribute services_attribute vars_attribute classes_attribute delete_attribute copy_from_attribute perms_attribute classes_body_attribute action_attribute expression_of
 at_the_limit = refl
+
+-- ---- steps, each in at most 200 moves
+
+-- the key texts of what was actuated, the newest first
+abbrev texts_actuated : History → List (List ℕ)
+texts_actuated [] = []
+texts_actuated (Told i [] ∷ h) = texts_actuated h
+texts_actuated (Told i (o ∷ os) ∷ h) = elim (has_acts i.work) [ true ↦ i.text ∷ texts_actuated h | false ↦ texts_actuated h ]
+texts_actuated (Begun path given ∷ h) = texts_actuated h
+texts_actuated (Set path name datum ∷ h) = texts_actuated h
+texts_actuated (Raised place c status source ∷ h) = texts_actuated h
+texts_actuated (Reached home p guard sets n ∷ h) = texts_actuated h
+texts_actuated (Listed i status ∷ h) = texts_actuated h
+
+-- where a run stands: for what it waits and what was actuated so far; or it is too large
+data Stood : Type 0 where
+  stood : (wait : Need) (actuated : List (List ℕ)) → Stood
+  past : (actuated : List (List ℕ)) → Stood
+
+abbrev stood_at : Next → Stood
+stood_at (goes_on st h) = stood (need_of st) (texts_actuated h)
+stood_at (is_too_large h) = past (texts_actuated h)
+
+module _ (s : Setting) where
+  abbrev stepped : Teller → Next → Next
+  stepped t (goes_on st h) = step_within s t 200 st h
+  stepped t (is_too_large h) = is_too_large h
+
+  abbrev stands : List Teller → Next → List Stood
+  stands [] x = stood_at x ∷ []
+  stands (t ∷ tellers) x = stood_at x ∷ stands tellers (stepped t x)
+
+  abbrev stands_of_run : List Teller → List Stood
+  stands_of_run tellers = stands tellers (begun s)
+
+abbrev file_x : List ℕ
+file_x = codes "sub 1;create /x;k=ready;r=ready;f=;e=1"
+
+abbrev file_f : List ℕ
+file_f = codes "main 1;create /f;k=;r=;f=;e=1"
+
+-- ---- a step goes on to the next instance with acts, which is actuated with the classes that it raises; then there is more to
+-- do, if only to reach the end, and from there on a step does nothing
+
+two_steps_and_the_end : stands_of_run (setting ready_by_a_call) (all_repaired ∷ all_repaired ∷ all_repaired ∷ all_repaired ∷ []) ≡
+    stood nothing [] ∷ stood nothing (file_x ∷ []) ∷ stood nothing (file_f ∷ file_x ∷ []) ∷ stood over (file_f ∷ file_x ∷ [])
+    ∷ stood over (file_f ∷ file_x ∷ []) ∷ []
+unfolding told resolution combined own_reads made heard bodies_of made_instance file_acts service_act outcome_classes key_text mode_text datum_given data_set raises_of setting_choices shared_names shared_in expanded scalar look key_of pieces reference_at list_reference_of are_too_many list_given answer_of function_named path_of body_of bundle_of common_bundles_of minutes_of sequence_of escaped escape_of digits is_literal is_boolean promise_type bundle_type files_attribute outcome_attribute methods_attribute services_attribute vars_attribute classes_attribute delete_attribute copy_from_attribute perms_attribute classes_body_attribute action_attribute expression_of
+two_steps_and_the_end = refl
+
+-- ---- what is kept is actuated too
+
+kept_is_a_step : stands_of_run (setting one_file) (all_kept ∷ all_kept ∷ []) ≡
+    stood nothing [] ∷ stood nothing (codes "main 1;create /a;k=;r=;f=;e=1" ∷ []) ∷ stood over (codes "main 1;create /a;k=;r=;f=;e=1" ∷ []) ∷ []
+unfolding told resolution combined own_reads made heard bodies_of made_instance file_acts service_act outcome_classes key_text mode_text datum_given data_set raises_of setting_choices shared_names shared_in expanded scalar look key_of pieces reference_at list_reference_of are_too_many list_given answer_of function_named path_of body_of bundle_of common_bundles_of minutes_of sequence_of escaped escape_of digits is_literal is_boolean promise_type bundle_type files_attribute outcome_attribute methods_attribute services_attribute vars_attribute classes_attribute delete_attribute copy_from_attribute perms_attribute classes_body_attribute action_attribute expression_of
+kept_is_a_step = refl
+
+-- ---- a report is no step, and neither is what is skipped
+
+report_is_no_step : stands_of_run (setting common_first) (all_kept ∷ []) ≡ stood nothing [] ∷ stood over [] ∷ []
+unfolding told resolution combined own_reads made heard bodies_of made_instance file_acts service_act outcome_classes key_text mode_text datum_given data_set raises_of setting_choices shared_names shared_in expanded scalar look key_of pieces reference_at list_reference_of are_too_many list_given answer_of function_named path_of body_of bundle_of common_bundles_of minutes_of sequence_of escaped escape_of digits is_literal is_boolean promise_type bundle_type files_attribute outcome_attribute methods_attribute services_attribute vars_attribute classes_attribute delete_attribute copy_from_attribute perms_attribute classes_body_attribute action_attribute expression_of
+report_is_no_step = refl
+
+skipped_is_no_step : stands_of_run (setting ready_by_a_call) (all_skipped ∷ []) ≡ stood nothing [] ∷ stood over [] ∷ []
+unfolding told resolution combined own_reads made heard bodies_of made_instance file_acts service_act outcome_classes key_text mode_text datum_given data_set raises_of setting_choices shared_names shared_in expanded scalar look key_of pieces reference_at list_reference_of are_too_many list_given answer_of function_named path_of body_of bundle_of common_bundles_of minutes_of sequence_of escaped escape_of digits is_literal is_boolean promise_type bundle_type files_attribute outcome_attribute methods_attribute services_attribute vars_attribute classes_attribute delete_attribute copy_from_attribute perms_attribute classes_body_attribute action_attribute expression_of
+skipped_is_no_step = refl
+
+-- ---- each step is told by its own teller
+
+second_skips : stands_of_run (setting ready_by_a_call) (all_repaired ∷ all_skipped ∷ []) ≡
+    stood nothing [] ∷ stood nothing (file_x ∷ []) ∷ stood over (file_x ∷ []) ∷ []
+unfolding told resolution combined own_reads made heard bodies_of made_instance file_acts service_act outcome_classes key_text mode_text datum_given data_set raises_of setting_choices shared_names shared_in expanded scalar look key_of pieces reference_at list_reference_of are_too_many list_given answer_of function_named path_of body_of bundle_of common_bundles_of minutes_of sequence_of escaped escape_of digits is_literal is_boolean promise_type bundle_type files_attribute outcome_attribute methods_attribute services_attribute vars_attribute classes_attribute delete_attribute copy_from_attribute perms_attribute classes_body_attribute action_attribute expression_of
+second_skips = refl
+
+-- ---- a run that is too large stays so
+
+too_large_stays : stands (setting one_file) (all_kept ∷ all_kept ∷ all_kept ∷ []) (goes_on (beginning (setting one_file)) (counted 999999)) ≡
+    stood nothing [] ∷ stood nothing (codes "main 1;create /a;k=;r=;f=;e=1" ∷ []) ∷ past (codes "main 1;create /a;k=;r=;f=;e=1" ∷ [])
+    ∷ past (codes "main 1;create /a;k=;r=;f=;e=1" ∷ []) ∷ []
+unfolding told resolution combined own_reads made heard bodies_of made_instance file_acts service_act outcome_classes key_text mode_text datum_given data_set raises_of setting_choices shared_names shared_in expanded scalar look key_of pieces reference_at list_reference_of are_too_many list_given answer_of function_named path_of body_of bundle_of common_bundles_of minutes_of sequence_of escaped escape_of digits is_literal is_boolean promise_type bundle_type files_attribute outcome_attribute methods_attribute services_attribute vars_attribute classes_attribute delete_attribute copy_from_attribute perms_attribute classes_body_attribute action_attribute expression_of
+too_large_stays = refl

@@ -4,8 +4,10 @@ mod VisitLemmas
 mod WeightLemmas
 mod LightLemmas
 mod RunLemmas
+mod AddLemmas
 mod GrowLemmas
 mod AlikeLemmas
 mod StandingLemmas
 mod StepLemmas
+mod TurnLemmas
 mod FrameRows

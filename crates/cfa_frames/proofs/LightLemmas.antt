@@ -95,7 +95,7 @@ ahead_skips_not [] (suc n) sequence i status is = cc
 ahead_skips_not [] zero (name ∷ sequence) i status is = cc
 ahead_skips_not [] zero [] i status is = cc
 
-ahead_ends_not : (commons : List BlockTree) (rounds : ℕ) (sequence : List (List ℕ)) (i : Instance) (status : Status) → ahead_need commons rounds sequence ≡ ending i status → ⊥
+pub ahead_ends_not : (commons : List BlockTree) (rounds : ℕ) (sequence : List (List ℕ)) (i : Instance) (status : Status) → ahead_need commons rounds sequence ≡ ending i status → ⊥
 ahead_ends_not (block ∷ commons) rounds sequence i status is = cc
 ahead_ends_not [] (suc n) sequence i status is = cc
 ahead_ends_not [] zero (name ∷ sequence) i status is = cc

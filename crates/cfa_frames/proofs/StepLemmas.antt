@@ -1,21 +1,21 @@
 -- What a step comes to.
-use Rattle.std.proofs.Common.{◌≡◌, ◌∙◌, ◌⊎◌, ℕ, zero, suc, ◌<◌, ◌≤◌, Bool, true, false, List, [], ◌∷◌, length, refl, ap, sym, subst, arith}
+use Rattle.std.proofs.Common.{◌≡◌, ◌∙◌, ℕ, zero, suc, ◌<◌, ◌≤◌, Bool, true, false, refl, ap, sym, subst, arith}
 use Rattle.cfa_resolve.specs.Laws.{InstancesAreFew}
 use Rattle.cfa_resolve.specs.declared.instances.Instance.{Instance}
 use Rattle.cfa_states.specs.History.{History}
 use Rattle.cfa_states.specs.Levels.{outcomes_of}
-use Rattle.cfa_states.specs.Passes.{Course, goes, run}
+use Rattle.cfa_states.specs.Passes.{Course}
 use Rattle.cfa_states.specs.Tellers.{Teller}
 use Rattle.cfa_states.specs.Views.{Setting}
 use Rattle.cfa_statuses.specs.declared.levels.Status.{Status}
-use Rattle.cfa_frames.specs.Frames.{Stack, beginning, rest}
+use Rattle.cfa_frames.specs.Frames.{Stack, rest}
 use Rattle.cfa_frames.specs.Growing.{NextGrows}
-use Rattle.cfa_frames.specs.Moves.{Meets, Next, goes_on, is_too_large, Need, nothing, skipping, ending, over, need_of, moved, skipped, entered, ended, asked_next, answered}
+use Rattle.cfa_frames.specs.Moves.{Meets, Next, goes_on, is_too_large, Need, nothing, skipping, ending, over, need_of, moved, ended, asked_next, answered}
 use Rattle.cfa_frames.specs.Steps.{awaits_actuation, unless_last, step_within, step, then_step}
 use Rattle.cfa_frames.specs.Weights.{weight, IsLighter}
 use Rattle.cfa_frames.proofs.MoveLemmas.{moved_meets}
 use Rattle.cfa_frames.proofs.AnswerLemmas.{skipped_meets, entered_meets, ended_meets}
-use Rattle.cfa_frames.proofs.GrowLemmas.{answered_grows, grows_then, stays_same, next_grows}
+use Rattle.cfa_frames.proofs.GrowLemmas.{answered_grows, stays_same, next_grows}
 use Rattle.cfa_frames.proofs.LightLemmas.{moved_lighter, skipped_lighter, entered_lighter, ended_lighter}
 use Rattle.cfa_frames.proofs.RunLemmas.{lighter_yet}
 
@@ -53,7 +53,7 @@ module _ (s : Setting) (t : Teller) where
   unless_grows : (n : ℕ) → ((st : Stack) (h : History) → NextGrows h (step_within s t n st h)) → (b : Bool) (x : Next) (h : History) → NextGrows h x →
       NextGrows h (unless_last s t b x (step_within s t n))
   unless_grows n keeps true x h grows = grows
-  unless_grows n keeps false (goes_on st k) h grows = next_grows s h k (step_within s t n st k) grows (keeps st k)
+  unless_grows n keeps false (goes_on st k) h grows = next_grows h k (step_within s t n st k) grows (keeps st k)
   unless_grows n keeps false (is_too_large k) h grows = grows
 
   within_grows : (n : ℕ) (st : Stack) (h : History) → NextGrows h (step_within s t n st h)
@@ -81,7 +81,7 @@ module _ (s : Setting) (t : Teller) where
   step_is st h = refl
 
   module _ (few : InstancesAreFew) where
-    asked_lighter : (b : Bool) (st : Stack) (h : History) (i : Instance) (status : Status) → need_of st ≡ skipping i status → IsLighter s (asked_next s t b st h) (weight s st h)
+    pub asked_lighter : (b : Bool) (st : Stack) (h : History) (i : Instance) (status : Status) → need_of st ≡ skipping i status → IsLighter s (asked_next s t b st h) (weight s st h)
     asked_lighter true st h i status need = skipped_lighter s st h i status need
     asked_lighter false st h i status need = entered_lighter s st h i status need
 

@@ -1,7 +1,7 @@
--- A step of a run goes on by moves and answers up to and with the next actuation, or to the end. An instance with acts is
--- actuated where it isn't skipped: then it is told how it ended, kept ones too. Reports and calls aren't actuated. Each step
--- may be handed another teller, and no other one answers in it.
-use Rattle.std.specs.Prelude.{◌≡◌, ⊤, ◌⊎◌, ℕ, zero, suc, Bool, true, false, List, [], ◌∷◌, get_or, count_by}
+-- A step of a run goes on by moves and answers up to and with the next actuation, or to the end. An instance with acts
+-- is actuated where it isn't skipped: then it is told how it ended, kept ones too. Reports and calls aren't actuated.
+-- Each step may be handed another teller, and no other one answers in it.
+use Rattle.std.specs.Prelude.{◌≡◌, ⊤, ◌⊎◌, ℕ, zero, suc, Bool, true, false, List, [], ◌∷◌, get_or}
 use Rattle.cfa_outcomes.specs.declared.outcomes.Outcome.{Outcome}
 use Rattle.cfa_resolve.specs.declared.instances.Instance.{Instance}
 use Rattle.cfa_resolve.specs.declared.instances.Work.{Work}
@@ -45,7 +45,8 @@ is_actuation (Listed instance status) = false
 
 -- how many a history has
 abbrev pub actuations_in : History → ℕ
-actuations_in h = count_by is_actuation h
+actuations_in [] = 0
+actuations_in (event ∷ h) = elim (is_actuation event) [ true ↦ suc (actuations_in h) | false ↦ actuations_in h ]
 
 -- ---- a step
 
@@ -62,7 +63,7 @@ module _ (s : Setting) (t : Teller) where
   step_within (suc n) st h =
       unless_last (awaits_actuation (need_of st)) (answered s t (need_of st) st h) (step_within n)
 
-  -- no step takes more of them than the stack weighs
+  -- one more of them than the stack weighs is enough for every step
   unfoldable pub step : Stack → History → Next
   step st h = step_within (suc (weight s st h)) st h
 
@@ -70,6 +71,34 @@ module _ (s : Setting) (t : Teller) where
   abbrev pub then_step : Next → Next
   then_step (goes_on st h) = step st h
   then_step (is_too_large h) = is_too_large h
+
+-- ---- what a step adds
+
+-- no instance was actuated since
+abbrev pub IsQuiet : History → History → Type 0
+IsQuiet h k = actuations_in k ≡ actuations_in h
+
+-- the last that was done since is an actuation, and the only one
+pub record HasActuated (t : Teller) (h k : History) : Type 0 where
+  pub before : History
+  pub grows : Grows h before
+  pub quiet : IsQuiet h before
+  pub instance : Instance
+  pub status : Status
+  pub acts : has_acts instance.work ≡ true
+  pub so : k ≡ told instance (t.tells before instance) status before
+
+-- what was done since is a whole step: it ends with its actuation, and there is more to do; or nothing is left to do;
+-- or the run is too large there
+abbrev pub IsWhole : Teller → History → Next → Type 0
+IsWhole t h (goes_on st k) = ((need_of st ≡ nothing) × HasActuated t h k) ⊎ ((need_of st ≡ over) × IsQuiet h k)
+IsWhole t h (is_too_large k) = IsQuiet h k
+
+-- two tellers answer alike at a history, and at all that come of it with no actuation since
+abbrev pub StepAlike : History → Teller → Teller → Type 0
+StepAlike h t u =
+    (k : History) (instance : Instance) → Grows h k → IsQuiet h k
+    → (t.skips k instance ≡ u.skips k instance) × (t.tells k instance ≡ u.tells k instance)
 
 -- ---- one after the other
 
@@ -95,3 +124,26 @@ abbrev pub course_at : Next → Course
 course_at (goes_on st h) = goes h
 course_at (is_too_large h) = too_large h
 
+-- it is over, with this history
+abbrev pub EndsAs : Course → Next → Type 0
+EndsAs course x = IsOver x × (course_at x ≡ course)
+
+abbrev pub history_at : Course → History
+history_at (goes h) = h
+history_at (too_large h) = h
+
+-- ---- many tellers
+
+-- it tells at least one outcome, so that what is actuated is never told as one that was skipped
+abbrev pub AlwaysTells : Teller → Type 0
+AlwaysTells t = (h : History) (instance : Instance) → t.tells h instance ≡ [] → ⊥
+
+-- that of the step at hand: the first tells up to the first actuation, and so on; and one after all of them
+abbrev pub turn : List Teller → (last : Teller) → History → Teller
+turn tellers last h = get_or tellers (actuations_in h) last
+
+abbrev pub by_turns : List Teller → (last : Teller) → Teller
+by_turns tellers last = record {
+  skips = λ h i. (turn tellers last h).skips h i;
+  tells = λ h i. (turn tellers last h).tells h i;
+}

@@ -8,4 +8,6 @@ pub use laws::{
     frames_stay_nested, histories_only_grow, moves_keep_what_is_left, moves_lower_the_weight,
     moves_make_the_run,
 };
-pub use steps::{steps_end_with_an_actuation, steps_keep_what_is_left};
+pub use steps::{
+    steps_are_whole, steps_end_with_an_actuation, steps_keep_what_is_left, steps_make_the_run,
+};
