@@ -35,7 +35,7 @@ use Rattle.cfa_vars.specs.References.{reference_at, pieces, list_reference_of}
 use Rattle.cfa_vars.specs.Scopes.{look, key_of}
 use Rattle.cfa_frames.specs.Frames.{Stack, beginning}
 use Rattle.cfa_frames.specs.Moves.{Need, nothing, skipping, ending, over, Next, goes_on, is_too_large, need_of, answered, come_to}
-use Rattle.cfa_frames.specs.Steps.{has_acts, step_within, begun}
+use Rattle.cfa_frames.specs.Steps.{has_acts, step_within, begun, handed_to}
 
 -- ---- what is looked at
 
@@ -231,3 +231,9 @@ too_large_stays : stands (setting one_file) (all_kept ∷ all_kept ∷ all_kept 
     ∷ past (codes "main 1;create /a;k=;r=;f=;e=1" ∷ []) ∷ []
 unfolding told resolution combined own_reads made heard bodies_of made_instance file_acts service_act outcome_classes key_text mode_text datum_given data_set raises_of setting_choices shared_names shared_in expanded scalar look key_of pieces reference_at list_reference_of are_too_many list_given answer_of function_named path_of body_of bundle_of common_bundles_of minutes_of sequence_of escaped escape_of digits is_literal is_boolean promise_type bundle_type files_attribute outcome_attribute methods_attribute services_attribute vars_attribute classes_attribute delete_attribute copy_from_attribute perms_attribute classes_body_attribute action_attribute expression_of
 too_large_stays = refl
+
+-- ---- of the turns of several runs each is handed its own
+
+handed_its_own : handed_to 1 (record { number = 1; teller = all_repaired } ∷ record { number = 2; teller = all_kept } ∷ record { number = 1; teller = all_skipped } ∷ []) ≡
+    all_repaired ∷ all_skipped ∷ []
+handed_its_own = refl

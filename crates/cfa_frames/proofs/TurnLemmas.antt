@@ -1,5 +1,5 @@
 -- What a step adds to a history, and what steps come to, each with its own teller.
-use Rattle.std.proofs.Common.{◌≡◌, ◌∙◌, inl, inr, ℕ, zero, suc, ◌+◌, ◌<◌, ◌≤◌, Bool, true, false, List, [], ◌∷◌, ◌++◌, length, get_or, replicate, All, refl, ap, sym, subst, arith}
+use Rattle.std.proofs.Common.{◌==◌, ◌≡◌, ◌∙◌, inl, inr, ℕ, zero, suc, ◌+◌, ◌<◌, ◌≤◌, Bool, true, false, List, [], ◌∷◌, ◌++◌, length, get_or, replicate, All, refl, ap, sym, subst, arith}
 use Rattle.cfa_outcomes.specs.declared.outcomes.Outcome.{Outcome}
 use Rattle.cfa_resolve.specs.Laws.{InstancesAreFew}
 use Rattle.cfa_resolve.specs.declared.instances.Instance.{Instance}
@@ -14,7 +14,7 @@ use Rattle.cfa_statuses.specs.declared.levels.Status.{Status}
 use Rattle.cfa_frames.specs.Frames.{Ahead, Doing, Frame, Stack, asked, idle, running, beginning, rest}
 use Rattle.cfa_frames.specs.Growing.{Grows, CourseGrows, NextGrows}
 use Rattle.cfa_frames.specs.Moves.{Meets, Next, goes_on, is_too_large, Need, nothing, skipping, ending, over, doing_need, frames_need, need_of, moved, doing_ended, frames_ended, ended, asked_next, answered}
-use Rattle.cfa_frames.specs.Steps.{has_acts, awaits_actuation, is_actuation, actuations_in, unless_last, step_within, step, IsQuiet, HasActuated, IsWhole, StepAlike, after_steps, begun, IsOver, course_at, EndsAs, history_at, AlwaysTells, by_turns}
+use Rattle.cfa_frames.specs.Steps.{has_acts, awaits_actuation, is_actuation, actuations_in, unless_last, step_within, step, IsQuiet, HasActuated, IsWhole, StepAlike, after_steps, begun, IsOver, course_at, EndsAs, history_at, AlwaysTells, by_turns, Turn, stepped_if, interleaved, handed_if, handed_to}
 use Rattle.cfa_frames.specs.Weights.{weight, IsLighter}
 use Rattle.cfa_frames.proofs.AddLemmas.{NextHas, moved_has, skipped_has, entered_has, ended_has, told_raises}
 use Rattle.cfa_frames.proofs.AlikeLemmas.{answered_alike}
@@ -303,3 +303,28 @@ module _ (s : Setting) where
       let fewer : actuations_in (history_at (rest s t (beginning s) [])) < n + 0 =
       subst (λ (c : Course). actuations_in (history_at c) < n + 0) (sym (begins s t)) (omega (arith, less)) in
       subst (λ (c : Course). EndsAs c (after_steps s (replicate n t) (begun s))) (begins s t) (steps_end few t tells n (beginning s) [] fewer)
+
+  -- ---- several runs
+
+  step_handed : (b : Bool) (t : Teller) (tellers : List Teller) (x : Next) → after_steps s tellers (stepped_if s b t x) ≡ after_steps s (handed_if b t tellers) x
+  step_handed true t tellers x = refl
+  step_handed false t tellers x = refl
+
+  pub each_alone : (turns : List Turn) (runs : ℕ → Next) (number : ℕ) → interleaved s turns runs number ≡ after_steps s (handed_to number turns) (runs number)
+  each_alone [] runs number = refl
+  each_alone (next ∷ turns) runs number =
+      each_alone turns (λ (k : ℕ). stepped_if s (next.number == k) next.teller (runs k)) number
+      ∙ step_handed (next.number == number) next.teller (handed_to number turns) (runs number)
+
+  pub each_made : InstancesAreFew → (turns : List Turn) (last : Teller) (number : ℕ) → All AlwaysTells (handed_to number turns) →
+      Meets s (by_turns (handed_to number turns) last) (interleaved s turns (λ (k : ℕ). begun s) number) (run s (by_turns (handed_to number turns) last))
+  each_made few turns last number tell =
+      let v : Teller = by_turns (handed_to number turns) last in
+      subst (λ (x : Next). Meets s v x (run s v)) (sym (each_alone turns (λ (k : ℕ). begun s) number)) (turns_kept few (handed_to number turns) last tell)
+
+  pub each_ended : InstancesAreFew → (turns : List Turn) (last : Teller) (number : ℕ) → All AlwaysTells (handed_to number turns) →
+      IsOver (interleaved s turns (λ (k : ℕ). begun s) number) →
+      course_at (interleaved s turns (λ (k : ℕ). begun s) number) ≡ run s (by_turns (handed_to number turns) last)
+  each_ended few turns last number tell is =
+      let v : Teller = by_turns (handed_to number turns) last in
+      over_course v (interleaved s turns (λ (k : ℕ). begun s) number) (run s v) is (each_made few turns last number tell)

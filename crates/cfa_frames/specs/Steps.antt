@@ -1,7 +1,7 @@
 -- A step of a run goes on by moves and answers up to and with the next actuation, or to the end. An instance with acts
 -- is actuated where it isn't skipped: then it is told how it ended, kept ones too. Reports and calls aren't actuated.
 -- Each step may be handed another teller, and no other one answers in it.
-use Rattle.std.specs.Prelude.{◌≡◌, ⊤, ◌⊎◌, ℕ, zero, suc, Bool, true, false, List, [], ◌∷◌, get_or}
+use Rattle.std.specs.Prelude.{◌≡◌, ⊤, ◌⊎◌, ◌==◌, ℕ, zero, suc, Bool, true, false, List, [], ◌∷◌, get_or}
 use Rattle.cfa_outcomes.specs.declared.outcomes.Outcome.{Outcome}
 use Rattle.cfa_resolve.specs.declared.instances.Instance.{Instance}
 use Rattle.cfa_resolve.specs.declared.instances.Work.{Work}
@@ -13,7 +13,8 @@ use Rattle.cfa_states.specs.Views.{Setting}
 use Rattle.cfa_statuses.specs.declared.levels.Status.{Status}
 use Rattle.cfa_frames.specs.Frames.{Stack, beginning}
 use Rattle.cfa_frames.specs.Growing.{Grows}
-use Rattle.cfa_frames.specs.Moves.{Need, nothing, skipping, ending, over, need_of, Next, goes_on, is_too_large, answered}
+use Rattle.cfa_frames.specs.Moves.{Next, goes_on, is_too_large, answered}
+use Rattle.cfa_frames.specs.Moves.{Need, nothing, skipping, ending, over, need_of}
 use Rattle.cfa_frames.specs.Weights.{weight}
 
 -- ---- actuations
@@ -147,3 +148,30 @@ by_turns tellers last = record {
   skips = λ h i. (turn tellers last h).skips h i;
   tells = λ h i. (turn tellers last h).tells h i;
 }
+
+-- ---- several runs of one policy
+
+-- a run is moved by one step, by its number, and the others stay
+pub record Turn : Type 0 where
+  pub number : ℕ
+  pub teller : Teller
+
+module _ (s : Setting) where
+  abbrev pub stepped_if : (is_its : Bool) → Teller → Next → Next
+  stepped_if true t x = then_step s t x
+  stepped_if false t x = x
+
+  -- where each stands, by its number
+  abbrev pub interleaved : List Turn → (ℕ → Next) → ℕ → Next
+  interleaved [] runs number = runs number
+  interleaved (next ∷ turns) runs number =
+      interleaved turns (λ k. stepped_if (next.number == k) next.teller (runs k)) number
+
+-- the tellers that one of them is handed
+abbrev pub handed_if : (is_its : Bool) → Teller → List Teller → List Teller
+handed_if true t tellers = t ∷ tellers
+handed_if false t tellers = tellers
+
+abbrev pub handed_to : (number : ℕ) → List Turn → List Teller
+handed_to number [] = []
+handed_to number (next ∷ turns) = handed_if (next.number == number) next.teller (handed_to number turns)

@@ -1,4 +1,4 @@
-//! What a run has still to do, as a stack of frames: its moves and its steps, and what holds of them.
+//! What a run has still to do, as a stack of frames: its moves and steps, and what holds of them.
 #![tactic(auto)]
 
 mod laws;
@@ -9,5 +9,6 @@ pub use laws::{
     moves_make_the_run,
 };
 pub use steps::{
-    steps_are_whole, steps_end_with_an_actuation, steps_keep_what_is_left, steps_make_the_run,
+    each_run_has_its_own_steps, steps_are_whole, steps_end_with_an_actuation,
+    steps_keep_what_is_left, steps_make_the_run,
 };

@@ -6,7 +6,7 @@ ghost use Rattle.cfa_frames.specs.Moves.{Meets, Next, answered, goes_on, need_of
 ghost use Rattle.cfa_frames.specs.Steps.{AlwaysTells, EndsAs, HasActuated, IsOver, IsWhole};
 ghost use Rattle.cfa_frames.specs.Steps.{StepAlike, actuations_in, after_steps, awaits_actuation};
 ghost use Rattle.cfa_frames.specs.Steps.{begun, by_turns, course_at, history_at, step};
-ghost use Rattle.cfa_frames.specs.Steps.{step_within, then_step};
+ghost use Rattle.cfa_frames.specs.Steps.{Turn, handed_to, interleaved, step_within, then_step};
 ghost use Rattle.cfa_frames.specs.Weights.{weight};
 ghost use Rattle.cfa_states.specs.History.{History};
 ghost use Rattle.cfa_states.specs.Passes.{run};
@@ -15,9 +15,9 @@ ghost use Rattle.cfa_states.specs.Views.{Setting};
 
 use cfa_resolve::instances_are_few;
 
-/// A step of a stack that waits for an actuation is that answer; of every other stack it is what the
-/// stack does first, and the step from there. It ends: more moves and answers than the stack weighs
-/// are enough for it. Where nothing is left to do it changes nothing.
+/// A step of a stack that waits for an actuation is that answer; of every other stack it is what
+/// the stack does first, and the step from there. It ends: more moves and answers than the stack
+/// weighs are enough for it. Where nothing is left to do it changes nothing.
 pub fn steps_end_with_an_actuation()
     ensures actuates { (s : Setting) (t : Teller) (st : Stack) (h : History)
         → awaits_actuation (need_of st) ≡ true
@@ -42,9 +42,9 @@ pub fn steps_keep_what_is_left()
         → NextGrows h (step s t st h) }
 {}
 
-/// What a step adds to the history ends with the actuation of an instance, the only one, and more is
-/// left to do; or nothing is left to do; or the run is too large there. So a run has as many steps as
-/// actuations, and one. What a step does hangs on the answers up to its actuation alone.
+/// What a step adds to the history ends with the actuation of an instance, the only one, and more
+/// is left to do; or nothing is left to do; or the run is too large there. So a run has as many
+/// steps as actuations, and one. What a step does hangs on the answers up to its actuation alone.
 pub fn steps_are_whole()
     ensures whole { (s : Setting) (t : Teller) (st : Stack) (h : History)
         → IsWhole t h (step s t st h) }
@@ -73,6 +73,27 @@ pub fn steps_make_the_run()
         → course_at (after_steps s tellers (begun s)) ≡ run s (by_turns tellers last) }
     ensures stays { (s : Setting) (tellers : List Teller) (x : Next)
         → IsOver x → after_steps s tellers x ≡ x }
+{
+    instances_are_few();
+}
+
+/// Where several runs of one policy are moved by turns, a step each time, each of them stands where
+/// its own steps bring it, by the tellers that it was handed in these. So each is one of the
+/// definition, by the teller that answers at each of its histories as that of its step at hand.
+pub fn each_run_has_its_own_steps()
+    ensures alone { (s : Setting) (turns : List Turn) (runs : ℕ → Next) (number : ℕ)
+        → interleaved s turns runs number
+        ≡ after_steps s (handed_to number turns) (runs number) }
+    ensures made { (s : Setting) (turns : List Turn) (last : Teller) (number : ℕ)
+        → All AlwaysTells (handed_to number turns)
+        → Meets s (by_turns (handed_to number turns) last)
+        (interleaved s turns (λ k. begun s) number)
+        (run s (by_turns (handed_to number turns) last)) }
+    ensures ended { (s : Setting) (turns : List Turn) (last : Teller) (number : ℕ)
+        → All AlwaysTells (handed_to number turns)
+        → IsOver (interleaved s turns (λ k. begun s) number)
+        → course_at (interleaved s turns (λ k. begun s) number)
+        ≡ run s (by_turns (handed_to number turns) last) }
 {
     instances_are_few();
 }
