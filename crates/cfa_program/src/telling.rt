@@ -1,6 +1,6 @@
 // What a person is told on standard error.
 use crate::{Host, Inputs, Out};
-use cfa_advice::{Heard, Sources, Style};
+use cfa_advice::{Heard, Sights, Sources, Style, ToldLines};
 use cfa_base::Name;
 use cfa_hostdir::{FailedCall, Fault, Why};
 use std::alloc::{AllocError, Global};
@@ -86,6 +86,29 @@ fn sources_of(alloc: Global, status: u8, inputs: &mut Inputs) -> Sources {
     Sources::read(alloc, names.as_slice(), inputs.inner())
 }
 
+// What a person is told of a call of these words that ended so.
+fn advice_on<'a>(
+    alloc: Global,
+    words: &'a [Name],
+    status: u8,
+    told: &'a ToldLines,
+    sights: &'a Sights,
+    sources: &'a Sources,
+    outside: Option<&'a str>,
+    style: Style,
+) -> Result<String, AllocError> {
+    let heard = Heard {
+        words,
+        status,
+        told,
+        sights,
+        sources,
+        outside,
+        style,
+    };
+    heard.advice(alloc)
+}
+
 fn advice(
     rt: &HostRuntime,
     words: &[Name],
@@ -97,16 +120,15 @@ fn advice(
     let alloc = rt.alloc();
     let outside = outside_of(alloc, inputs, site, out)?;
     let sources = sources_of(alloc, status, inputs);
-    let heard = Heard {
-        words,
-        status,
-        told: out.told(),
-        sights: site.sights(),
-        sources: &sources,
-        outside: outside.as_ref().map(|told| told.as_str()),
-        style: style_of(rt),
+    let sentence = match &outside {
+        Some(told) => Some(told.as_str()),
+        None => None,
     };
-    heard.advice(alloc)
+    let style = style_of(rt);
+    let (told, sights) = (out.told(), site.sights());
+    advice_on(
+        alloc, words, status, told, sights, &sources, sentence, style,
+    )
 }
 
 /// Tells a person of a call that ended. Whatever becomes of it, nothing else changes.
