@@ -1,4 +1,5 @@
 pub mod Fields
 pub mod Laws
+pub mod ReadOver
 pub mod Tables
 pub mod RowChanges

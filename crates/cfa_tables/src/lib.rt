@@ -11,7 +11,7 @@ mod rows;
 mod tables;
 
 pub use errors::TableErr;
-pub use laws::tables_tell_rows;
+pub use laws::{changes_are_read_again, kept_rows_are_tables, tables_tell_rows};
 pub use row_changes::{RowChange, RowChanges, change_line};
 pub use tables::{
     Locks, Permissions, Services, read_locks, read_perms, read_services, write_locks, write_perms,
