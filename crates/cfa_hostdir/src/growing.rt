@@ -124,7 +124,7 @@ impl<F: Write + OpenFile> Growing<F> {
     }
 
     // Syncs what was added since the file had so many bytes. Where that fails it is taken away; and what was added before it
-    // and was never synced can't be known to be there.
+    // and was never synced can't be known to be there, from then on.
     fn sync_from(&mut self, len: u64) -> Result<(), HostErr> {
         let Some(file) = &self.file else {
             return Err(refused(Why::Unsure));
@@ -133,8 +133,9 @@ impl<F: Write + OpenFile> Growing<F> {
         if synced.is_err() {
             self.sound = cut_to(file, len).is_ok() && !self.is_pending;
             self.len = len;
+        } else {
+            self.is_pending = false;
         }
-        self.is_pending = false;
         synced
     }
 
@@ -146,13 +147,15 @@ impl<F: Write + OpenFile> Growing<F> {
         self.open(rt, root)
     }
 
-    /// Syncs what was added last, where that isn't done.
+    /// Syncs what was added last, where that isn't done. A second sync behind one that failed would tell nothing of it.
     pub fn settle(&mut self) -> Result<(), HostErr> {
-        if self.is_pending {
-            self.sync_from(self.len)
-        } else {
-            Ok(())
+        if !self.is_pending {
+            return Ok(());
         }
+        if !self.sound {
+            return Err(refused(Why::Unsure));
+        }
+        self.sync_from(self.len)
     }
 
     /// Adds bytes at the end, or leaves the file as it was.
