@@ -1,14 +1,15 @@
 // What is told of a whole call.
 use crate::advising::{Style, Subject, push_conflict, push_failed, push_refused};
 use crate::ends::{MOMENT, settled_sentence, stop_sentence};
+use crate::idle::idle_text;
 use crate::lines::{read_conflict, read_failed, read_refused};
 use crate::reasons::{Reason, reason_of};
 use crate::sought::{Sight, Sights};
 use crate::sources::Sources;
 use crate::told::ToldLines;
-use crate::usage::words_fault;
+use crate::usage::{Given, given_by, words_fault};
 use crate::usage_texts::words_advice;
-use cfa_base::{Bytes, Name};
+use cfa_base::{Bytes, Name, NoMemory};
 use cfa_outside::Look;
 use std::alloc::{AllocError, Global};
 
@@ -85,12 +86,37 @@ fn subject_of(reason: Reason, sight: &Sight) -> Option<Subject<'_>> {
     }
 }
 
+fn texts_of(alloc: Global, words: &[Name]) -> Result<Vec<&str>, AllocError> {
+    let mut texts = Vec::new(alloc);
+    for word in words {
+        texts.push(word.as_str())?;
+    }
+    Ok(texts)
+}
+
+// Whether it is told what a policy says of which nothing comes.
+fn tells_idle(given: Given<'_>, status: u8, style: Style) -> bool {
+    matches!(status, 0 | 2 | 3)
+        && (given.command == "check" || given.command == "run" && style.is_terminal)
+}
+
+/// Whether something is told for which the sources of a call are read again.
+pub fn wants_sources(
+    alloc: Global,
+    words: &[Name],
+    status: u8,
+    style: Style,
+) -> Result<bool, AllocError> {
+    if matches!(status, 1..=3) {
+        return Ok(true);
+    }
+    let words = texts_of(alloc, words)?;
+    Ok(tells_idle(given_by(words.as_slice()), status, style))
+}
+
 impl<'a> Heard<'a> {
     fn push_words(&self, alloc: Global, text: &mut String) -> Result<(), AllocError> {
-        let mut words = Vec::new(alloc);
-        for word in self.words {
-            words.push(word.as_str())?;
-        }
+        let words = texts_of(alloc, self.words)?;
         let told = words_advice(alloc, words_fault(words.as_slice()))?;
         text.push_str(told.as_str())
     }
@@ -223,6 +249,16 @@ impl<'a> Heard<'a> {
         text.push_str(line.as_str())
     }
 
+    fn push_idle(&self, alloc: Global, text: &mut String) -> Result<(), NoMemory> {
+        let words = texts_of(alloc, self.words)?;
+        let given = given_by(words.as_slice());
+        if tells_idle(given, self.status, self.style) {
+            let told = idle_text(alloc, self.sources, given.classes)?;
+            text.push_str(told.as_str())?;
+        }
+        Ok(())
+    }
+
     /// What a person is told of the call.
     pub fn advice(&self, alloc: Global) -> Result<String, AllocError> {
         let mut text = String::new(alloc);
@@ -237,6 +273,8 @@ impl<'a> Heard<'a> {
         if self.status == 2 || self.status == 4 {
             Heard::push_sentence(&mut text, self.outside)?;
         }
+        // Where there is no memory for it, it isn't told.
+        let _ = self.push_idle(alloc, &mut text);
         Ok(text)
     }
 }

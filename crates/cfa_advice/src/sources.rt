@@ -42,6 +42,11 @@ impl Sources {
         Sources { texts }
     }
 
+    // The sources, with their names.
+    pub fn texts(&self) -> &[(Name, Bytes)] {
+        self.texts.as_slice()
+    }
+
     /// The source of a name.
     pub fn named(&self, name: &str) -> Option<&[u8]> {
         for text in &self.texts {

@@ -38,6 +38,8 @@ struct Seen<'a> {
     locks: Option<&'a str>,
     strict: Option<&'a str>,
     define: Option<&'a str>,
+    // The list of its classes.
+    classes: Option<&'a str>,
     // The next word is the list of this option.
     waiting: Option<&'a str>,
     // The options ended.
@@ -75,6 +77,7 @@ impl<'a> Seen<'a> {
             locks: None,
             strict: None,
             define: None,
+            classes: None,
             waiting: None,
             ended: false,
             fault: None,
@@ -120,6 +123,7 @@ impl<'a> Seen<'a> {
     }
 
     fn take_classes(&mut self, list: &'a str) {
+        self.classes = Some(list);
         if let Some(part) = bad_class(list) {
             self.fail(WordsFault::BadClass(part));
         }
@@ -230,7 +234,7 @@ impl<'a> Seen<'a> {
         match command {
             "help" => return Some(WordsFault::Help),
             "version" => return Some(WordsFault::Version),
-            "run" | "check" | "show" | "audit" => {}
+            "run" | "check" | "show" | "audit" | "demo" => {}
             _ => return Some(WordsFault::UnknownCommand(command)),
         }
         if self.file.is_none() {
@@ -253,11 +257,31 @@ impl<'a> Seen<'a> {
     }
 }
 
-/// What is wrong with words that are refused: that of an option before that of a command or a file. `None` where nothing is found.
-pub fn words_fault<'a>(words: &[&'a str]) -> Option<WordsFault<'a>> {
+// The command, and the list of classes that are set from the start; each empty where there is none.
+#[derive(Clone, Copy)]
+pub struct Given<'a> {
+    pub command: &'a str,
+    pub classes: &'a str,
+}
+
+fn see<'a>(words: &[&'a str]) -> Seen<'a> {
     let mut seen = Seen::new();
     for word in words {
         seen.take(word);
     }
-    seen.end()
+    seen
+}
+
+// What words give that aren't refused.
+pub fn given_by<'a>(words: &[&'a str]) -> Given<'a> {
+    let seen = see(words);
+    Given {
+        command: seen.command.unwrap_or(""),
+        classes: seen.classes.unwrap_or(""),
+    }
+}
+
+/// What is wrong with words that are refused: that of an option before that of a command or a file. `None` where nothing is found.
+pub fn words_fault<'a>(words: &[&'a str]) -> Option<WordsFault<'a>> {
+    see(words).end()
 }

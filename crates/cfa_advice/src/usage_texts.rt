@@ -6,6 +6,7 @@ const USAGE: &str = "usage: diwalmeq run POLICY [-K] [-D CLASSES] [--strict]
        diwalmeq check POLICY [-D CLASSES]
        diwalmeq show POLICY
        diwalmeq audit JOURNAL
+       diwalmeq demo NUMBER
 ";
 
 const COMMANDS: &str = "
@@ -13,6 +14,7 @@ run     brings the host in the folder `host` of this folder to the state that th
 check   tells whether the policy is accepted, or names its first fault or conflict; touches no host
 show    prints the policy in its canonical text
 audit   tells of each run in a journal, as host/journal
+demo    runs a policy of so many promises, from 1 to 10000, twice on the host in the folder `host`, and tells what each run did
 
 -K, --no-lock         run without locks: look at each promise, and tell whether a rerun would change nothing
 -D, --define CLASSES  classes that are set from the start, with a comma between two
@@ -35,6 +37,9 @@ fn sentence_of(alloc: Global, fault: WordsFault<'_>) -> Result<String, AllocErro
                 alloc,
                 "a command and a file are missing, or a word isn't in UTF-8\n",
             )
+        }
+        WordsFault::NoFile("demo") => {
+            String::from_str(alloc, "demo: the number of promises is missing\n")
         }
         WordsFault::NoFile(command) => format!(in alloc; "{command}: the file is missing\n"),
         WordsFault::TooMany(word) => {
