@@ -1,6 +1,6 @@
 // What a person is told on standard error.
 use crate::{Host, Inputs, Out};
-use cfa_advice::{Heard, Sights, Sources, Style, ToldLines};
+use cfa_advice::{Heard, Sights, Sources, Style, ToldLines, wants_sources};
 use cfa_base::Name;
 use cfa_hostdir::{FailedCall, Fault, Why};
 use std::alloc::{AllocError, Global};
@@ -77,9 +77,9 @@ fn outside_of(
     }
 }
 
-// The sources are read again where a line of theirs is to be shown.
-fn sources_of(alloc: Global, status: u8, inputs: &mut Inputs) -> Sources {
-    if !matches!(status, 1..=3) {
+// The sources are read again where something is told of them.
+fn sources_of(alloc: Global, is_wanted: bool, inputs: &mut Inputs) -> Sources {
+    if !is_wanted {
         return Sources::none(alloc);
     }
     let names = inputs.copy_names(alloc);
@@ -119,12 +119,13 @@ fn advice(
 ) -> Result<String, AllocError> {
     let alloc = rt.alloc();
     let outside = outside_of(alloc, inputs, site, out)?;
-    let sources = sources_of(alloc, status, inputs);
+    let style = style_of(rt);
+    let is_wanted = wants_sources(alloc, words, status, style)?;
+    let sources = sources_of(alloc, is_wanted, inputs);
     let sentence = match &outside {
         Some(told) => Some(told.as_str()),
         None => None,
     };
-    let style = style_of(rt);
     let (told, sights) = (out.told(), site.sights());
     advice_on(
         alloc, words, status, told, sights, &sources, sentence, style,
