@@ -144,7 +144,8 @@ fn run_once<S: Site>(
 
 // Puts the lines of two items.
 fn put_lines<O: Sink>(alloc: Global, first: Item, second: Item, out: &mut O) -> Result<(), Stop>
-    ensures { LinesPut (line_of first ++ line_of second) (O.shown out.old) (O.shown out.new) result }
+    ensures { LinesPut (line_of first ++ line_of second)
+        (O.shown out.old) (O.shown out.new) result }
 {
     let mut text = String::new(alloc);
     append_line(alloc, &mut text, first)?;
