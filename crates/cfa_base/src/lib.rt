@@ -28,7 +28,7 @@ pub use limits::{
 };
 pub use octal::{are_octal_digits, octal_digit};
 pub use parts::Parts;
-pub use patterns::{How, Matcher, Pattern, PatternErr, Patterns};
+pub use patterns::{CompiledPattern, How, Matcher, Pattern, PatternErr, Patterns};
 pub use places::{Place, PromiseId, is_before};
 pub use text_maps::TextMap;
 pub use texts::{Name, Names, are_same_names, copy_name, is_same_name};

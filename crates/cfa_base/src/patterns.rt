@@ -1,12 +1,10 @@
 // Patterns, and what builds them.
-ghost use Rattle.std.specs.Prelude.{◌≡◌, ℕ, List, not, IsTrue, IfOk, IfErr, OnOk, IsErrOf, string_bytes};
-ghost use Rattle.cfa_base.specs.Patterns.{PatternText, built_text, pattern_of, is_pattern, matches_in, replaced, refused_by, SizeRefusal};
+ghost use Rattle.std.specs.Prelude.{◌≡◌, ℕ, List, not, IsTrue, IfOk, OnOk, IsErrOf};
+ghost use Rattle.cfa_base.specs.Patterns.{PatternText, pattern_of, is_pattern, matches_in, refused_by, SizeRefusal};
 ghost use Rattle.cfa_base.specs.Shown.{Shown};
-ghost use Rattle.cfa_base.specs.CompiledPatterns.{IsBuilt};
 ghost use Rattle.cfa_base.specs.declared.patterns.PatternErr.TheVariants.{NoMemory};
 
 use crate::{Name, want_of_memory as memory};
-use regex::Regex;
 use std::alloc::{AllocError, AllocFailed, Global};
 use std::marker::Model;
 use thiserror::Error;
@@ -58,11 +56,11 @@ impl<T: Drop> From<AllocFailed<T>> for PatternErr {
     }
 }
 
-/// A pattern that was built, in the syntax of the crate `regex`. Contracts see its text and how it was built, which say
-/// what it matches; of two patterns that are seen alike each may stand for the other.
+/// A pattern in the syntax of the crate `regex`, as its text. Contracts see the text and how it is built, which say what it
+/// matches; of two patterns that are seen alike each may stand for the other. What searches for it is made by `compile`, so
+/// that whoever keeps patterns and lets go of them has nothing to do with that.
 #[derive(Drop)]
 pub struct Pattern {
-    regex: Regex,
     text: Name,
     how: How,
 }
@@ -71,8 +69,6 @@ impl Model for Pattern {
     ghost Value = { PatternText };
 
     ghost view = { λ p. record { text = p.text; how = p.how } };
-
-    ghost invariant = { λ p. IsBuilt p.how p.text p.regex };
 }
 
 impl Pattern {
@@ -84,9 +80,8 @@ impl Pattern {
         ensures bad { IsErrOf result PatternErr.Bad → IsTrue (not (is_pattern how text.now)) }
         ensures too_big { IsErrOf result PatternErr.TooBig → IsTrue (is_pattern how text.now) }
     {
-        let regex = compile(alloc, text, how)?;
+        let _compiled = CompiledPattern::new(alloc, text, how)?;
         Ok(Pattern {
-            regex,
             text: text.copy(alloc)?,
             how,
         })
@@ -99,70 +94,23 @@ impl Pattern {
         self.text.as_str()
     }
 
-    /// What searches texts for the pattern, so that many texts cost one making.
-    pub fn matcher(&self, alloc: Global) -> Result<Matcher<'_>, memory::NoMemory>
-        ensures { IfOk result (λ matcher. matcher ≡ self.now) }
+    /// What searches texts for the pattern, so that many texts cost one making. A pattern was compiled once when it was
+    /// made, so that nothing but memory can be wanting here.
+    pub fn compile(&self, alloc: Global) -> Result<CompiledPattern, memory::NoMemory>
+        ensures { IfOk result (λ compiled. compiled ≡ self.now) }
     {
-        Ok(Matcher {
-            text: &self.text,
-            how: self.how,
-            regex: &self.regex,
-            inner: self.regex.matcher(alloc)?,
-        })
+        match CompiledPattern::new(alloc, &self.text, self.how) {
+            Ok(compiled) => Ok(compiled),
+            Err(_) => Err(memory::NoMemory),
+        }
     }
 
     /// Whether the pattern matches in the text.
     pub fn matches(&self, alloc: Global, text: &Name) -> Result<bool, memory::NoMemory>
         ensures { IfOk result (λ found. found ≡ matches_in self.now text.now) }
     {
-        Ok(self.matcher(alloc)?.matches(text.as_str()))
+        self.compile(alloc)?.matches(alloc, text)
     }
-
-    /// The text with each match from left to right replaced by the value as plain text, or with the first alone.
-    pub fn replace(
-        &self,
-        alloc: Global,
-        text: &Name,
-        with: &Name,
-        all: bool,
-    ) -> Result<Name, memory::NoMemory>
-        ensures { IfOk result (λ name. name ≡ replaced self.now text.now with.now all) }
-    {
-        self.matcher(alloc)?
-            .replace(alloc, text.as_str(), with, all)
-    }
-}
-
-fn compile(alloc: Global, text: &Name, how: How) -> Result<Regex, PatternErr>
-    ensures built { IfOk result (IsBuilt how text.now) }
-    ensures reads { OnOk result (IsTrue (is_pattern how text.now)) }
-    ensures bad { IsErrOf result PatternErr.Bad → IsTrue (not (is_pattern how text.now)) }
-    ensures too_big { IsErrOf result PatternErr.TooBig → IsTrue (is_pattern how text.now) }
-{
-    let built = build_text(alloc, text, how)?;
-    match Regex::new(alloc, built.as_str()) {
-        Ok(regex) => Ok(regex),
-        Err(regex::Error::Syntax(_)) => Err(PatternErr::Bad),
-        Err(regex::Error::CompiledTooBig) => Err(PatternErr::TooBig),
-        Err(regex::Error::Internal) => Err(PatternErr::Bad),
-        Err(regex::Error::OutOfMemory) => Err(PatternErr::NoMemory),
-    }
-}
-
-fn build_text(alloc: Global, text: &Name, how: How) -> Result<String, PatternErr>
-    ensures text { IfOk result (λ built. string_bytes built ≡ built_text how text.now) }
-    ensures memory { IfErr result (λ e. e ≡ PatternErr.NoMemory) }
-{
-    let mut built = String::new(alloc);
-    match how {
-        How::Whole => {
-            built.push_str(r"\A(?:")?;
-            built.push_str(text.as_str())?;
-            built.push_str(r")\z")?;
-        }
-        How::Part => built.push_str(text.as_str())?,
-    }
-    Ok(built)
 }
 
 /// What builds patterns, and refuses some for their size.
@@ -183,6 +131,8 @@ pub trait Patterns {
             (shown self.old) (shown self.new) };
 }
 
+mod compiled;
 mod matcher;
 
+pub use compiled::CompiledPattern;
 pub use matcher::Matcher;

@@ -56,9 +56,14 @@ pub fn first_clashing(
     ensures { IfOk result (IsFirstPlace edit.now edits.now from) }
 {
     match edit {
-        Edit::Delete(pattern) => Ok(first_deleted(&mut pattern.matcher(alloc)?, edits, from)),
+        Edit::Delete(pattern) => {
+            let compiled = pattern.compile(alloc)?;
+            let mut matcher = compiled.matcher(alloc)?;
+            Ok(first_deleted(&mut matcher, edits, from))
+        }
         Edit::Field(pattern, separator, number, value) => {
-            let mut matcher = pattern.matcher(alloc)?;
+            let compiled = pattern.compile(alloc)?;
+            let mut matcher = compiled.matcher(alloc)?;
             first_wanting(alloc, &mut matcher, *separator, *number, value, edits, from)
         }
         Edit::Insert(block, _) => Ok(first_replacing(block, edits, from, replaces)),

@@ -190,7 +190,8 @@ fn anchor_in(
     ensures memory { IfErr result (λ error. error ≡ EditErr.NoMemory) }
     ensures deck { deck.new.lines ≡ deck.old.lines }
 {
-    let mut matcher = pattern.matcher(alloc)?;
+    let compiled = pattern.compile(alloc)?;
+    let mut matcher = compiled.matcher(alloc)?;
     Ok(anchor_by(deck, &mut matcher, is_first))
 }
 

@@ -29,7 +29,8 @@ pub fn delete(alloc: Global, deck: &mut Deck, pattern: &Pattern) -> Result<(), E
     ensures ok { OnOk result (deck.new.lines ≡ unmatched pattern.now deck.old.lines) }
     ensures memory { IfErr result (λ error. error ≡ EditErr.NoMemory) }
 {
-    let mut matcher = pattern.matcher(alloc)?;
+    let compiled = pattern.compile(alloc)?;
+    let mut matcher = compiled.matcher(alloc)?;
     take_out(deck, &mut matcher);
     Ok(())
 }
@@ -70,7 +71,8 @@ pub fn replace(
         ≡ map (λ line. replaced pattern.now line value.now all) deck.old.lines) }
     ensures memory { IfErr result (λ error. error ≡ EditErr.NoMemory) }
 {
-    let mut matcher = pattern.matcher(alloc)?;
+    let compiled = pattern.compile(alloc)?;
+    let mut matcher = compiled.matcher(alloc)?;
     write_over(alloc, deck, &mut matcher, value, all)
 }
 
@@ -120,6 +122,7 @@ pub fn edit_fields(
     ensures refused { IfErr result (IsRefusalOf (or_field_count (each_becomes
         (λ line. field_edited pattern.now separator number value.now line) deck.old.lines))) }
 {
-    let mut matcher = pattern.matcher(alloc)?;
+    let compiled = pattern.compile(alloc)?;
+    let mut matcher = compiled.matcher(alloc)?;
     give_fields(alloc, deck, &mut matcher, separator, number, value)
 }

@@ -11,7 +11,7 @@ use Rattle.cfa_output.specs.declared.items.End.TheVariants.{Yes, Locks, Failed a
 use Rattle.cfa_output.specs.declared.items.Halt.{Halt}
 use Rattle.cfa_output.specs.declared.items.Halt.TheVariants.{Outside as ByOutside, Memory as ByMemory, Visits as ByVisits, Pattern as ByPattern}
 use Rattle.cfa_output.specs.declared.items.Item.{Item}
-use Rattle.cfa_output.specs.declared.items.Item.TheVariants.{WordsRefused, MomentRefused, Refused, SourceLong, JournalBad, JournalLong, Repaired, Failed, Report, Total, Settled, Accepted, Conflict, Stopped, Audit, Torn, Demo, DemoRepaired, Changes, Rerun}
+use Rattle.cfa_output.specs.declared.items.Item.TheVariants.{WordsRefused, MomentRefused, Refused, SourceLong, JournalBad, JournalLong, Repaired, Failed, Report, Total, Settled, Accepted, Conflict, Stopped, Audit, Torn, Demo, DemoRepaired, Changes, Rerun, History, Unrecorded, Runs, Quiet, Clash, Edits}
 
 -- a promise, as it is printed
 unfoldable pub id_text : PromiseId → List ℕ
@@ -56,6 +56,27 @@ audit_line moment repaired failed opened =
     ++ (codes " repaired " ++ (decimal repaired
     ++ (codes " failed " ++ (decimal failed
     ++ (codes " open " ++ (decimal opened ++ codes "\n")))))))
+
+unfoldable pub history_line : PromiseId → (repaired changes failed opened last : ℕ) → List ℕ
+history_line id repaired changes failed opened last =
+    id_text id ++ (codes " repaired " ++ (decimal repaired
+    ++ (codes " changes " ++ (decimal changes
+    ++ (codes " failed " ++ (decimal failed
+    ++ (codes " open " ++ (decimal opened
+    ++ (codes " last " ++ (decimal last ++ codes "\n"))))))))))
+
+unfoldable pub unrecorded_line : (path : List ℕ) (moment : ℕ) → List ℕ
+unrecorded_line path moment = codes "unrecorded " ++ (path ++ (codes " " ++ (decimal moment ++ codes "\n")))
+
+unfoldable pub quiet_line : PromiseId → List ℕ
+quiet_line id = codes "quiet " ++ (id_text id ++ codes "\n")
+
+unfoldable pub clash_line : PromiseId → (first second : ℕ) (rule : List ℕ) → List ℕ
+clash_line id first second rule =
+    codes "clash " ++ (id_text id ++ (codes " " ++ (decimal first ++ (codes " " ++ (decimal second ++ (codes " " ++ (rule ++ codes "\n")))))))
+
+unfoldable pub edits_line : (number all : ℕ) → List ℕ
+edits_line number all = codes "edits " ++ (decimal number ++ (codes " of " ++ (decimal all ++ codes "\n")))
 
 -- a word and a number
 unfoldable pub number_line : (word : List ℕ) (number : ℕ) → List ℕ
@@ -126,3 +147,9 @@ line_of (Demo number) = number_line (codes "demo") number
 line_of (DemoRepaired number) = number_line (codes "repaired") number
 line_of (Changes number) = number_line (codes "changes") number
 line_of (Rerun entries) = number_line (codes "rerun") entries
+line_of (History id repaired changes failed opened last) = history_line id repaired changes failed opened last
+line_of (Unrecorded path moment) = unrecorded_line path moment
+line_of (Runs number) = number_line (codes "runs") number
+line_of (Quiet id) = quiet_line id
+line_of (Clash id first second rule) = clash_line id first second rule
+line_of (Edits number all) = edits_line number all

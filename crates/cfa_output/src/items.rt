@@ -47,6 +47,18 @@ pub enum Item {
     Changes(u64),
     /// `rerun L`: how many entries the second run of a demo added to the site's log.
     Rerun(u64),
+    /// `ID repaired R changes C failed F open O last MOMENT`: what a journal tells of a promise.
+    History(PromiseId, u64, u64, u64, u64, u64),
+    /// `unrecorded PATH MOMENT`: a file's content changed between two recorded writes. The path is put as it stands.
+    Unrecorded(Name, u64),
+    /// `runs N`: how many runs a journal tells of.
+    Runs(u64),
+    /// `quiet ID`: the edits of a promise always settle.
+    Quiet(PromiseId),
+    /// `clash ID FIRST SECOND RULE`: the first two edits of a promise that clash, by their numbers, and the rule.
+    Clash(PromiseId, u64, u64, Name),
+    /// `edits Q of T`: how many scripts of a policy always settle, and how many it has.
+    Edits(u64, u64),
 }
 
 /// Whether a rerun would change nothing, or why that isn't claimed.

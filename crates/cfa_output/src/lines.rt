@@ -1,7 +1,7 @@
 // The lines that are put.
 ghost use Rattle.std.specs.Prelude.{◌≡◌, IfOk};
 ghost use Rattle.std.specs.String.{string_bytes};
-ghost use Rattle.cfa_output.specs.Lines.{id_text, refused_line, source_long_line, journal_bad_line, journal_long_line, repaired_line, failed_line, report_line, total_line, conflict_line, audit_line, number_line, line_of};
+ghost use Rattle.cfa_output.specs.Lines.{id_text, refused_line, source_long_line, journal_bad_line, journal_long_line, repaired_line, failed_line, report_line, total_line, conflict_line, audit_line, number_line, history_line, unrecorded_line, quiet_line, clash_line, edits_line, line_of};
 
 use crate::Item;
 use cfa_base::{Name, NoMemory, PromiseId};
@@ -53,6 +53,14 @@ fn text(alloc: Global, item: &Item) -> Result<String, AllocError>
         Item::DemoRepaired(number) => numbered(alloc, "repaired", *number),
         Item::Changes(number) => numbered(alloc, "changes", *number),
         Item::Rerun(entries) => numbered(alloc, "rerun", *entries),
+        Item::History(id, repaired, changes, failed, opened, last) => {
+            history(alloc, id, (*repaired, *changes, *failed, *opened), *last)
+        }
+        Item::Unrecorded(path, moment) => unrecorded(alloc, path, *moment),
+        Item::Runs(number) => numbered(alloc, "runs", *number),
+        Item::Quiet(id) => quiet(alloc, id),
+        Item::Clash(id, first, second, rule) => clash(alloc, id, *first, *second, rule),
+        Item::Edits(number, all) => edits(alloc, *number, *all),
     }
 }
 
@@ -184,4 +192,58 @@ fn numbered(alloc: Global, word: &str, number: u64) -> Result<String, AllocError
     ensures { IfOk result (λ text. string_bytes text ≡ number_line word.now number) }
 {
     format!(in alloc; "{word} {number}\n")
+}
+
+#[tactic(auto, unfolding(crate::specs::Lines::history_line))]
+fn history(
+    alloc: Global,
+    id: &PromiseId,
+    counts: (u64, u64, u64, u64),
+    last: u64,
+) -> Result<String, AllocError>
+    ensures { IfOk result (λ text. string_bytes text
+        ≡ history_line id.now counts.0 counts.1 counts.2 counts.3 last) }
+{
+    let (repaired, changes, failed, opened) = counts;
+    let id = id_of(alloc, id)?;
+    format!(in alloc; "{id} repaired {repaired} changes {changes} failed {failed} open {opened} last {last}\n")
+}
+
+#[tactic(auto, unfolding(crate::specs::Lines::unrecorded_line))]
+fn unrecorded(alloc: Global, path: &Name, moment: u64) -> Result<String, AllocError>
+    ensures { IfOk result (λ text. string_bytes text ≡ unrecorded_line path.now moment) }
+{
+    let path = path.as_str();
+    format!(in alloc; "unrecorded {path} {moment}\n")
+}
+
+#[tactic(auto, unfolding(crate::specs::Lines::quiet_line))]
+fn quiet(alloc: Global, id: &PromiseId) -> Result<String, AllocError>
+    ensures { IfOk result (λ text. string_bytes text ≡ quiet_line id.now) }
+{
+    let id = id_of(alloc, id)?;
+    format!(in alloc; "quiet {id}\n")
+}
+
+#[tactic(auto, unfolding(crate::specs::Lines::clash_line))]
+fn clash(
+    alloc: Global,
+    id: &PromiseId,
+    first: u64,
+    second: u64,
+    rule: &Name,
+) -> Result<String, AllocError>
+    ensures { IfOk result
+        (λ text. string_bytes text ≡ clash_line id.now first second rule.now) }
+{
+    let id = id_of(alloc, id)?;
+    let rule = rule.as_str();
+    format!(in alloc; "clash {id} {first} {second} {rule}\n")
+}
+
+#[tactic(auto, unfolding(crate::specs::Lines::edits_line))]
+fn edits(alloc: Global, number: u64, all: u64) -> Result<String, AllocError>
+    ensures { IfOk result (λ text. string_bytes text ≡ edits_line number all) }
+{
+    format!(in alloc; "edits {number} of {all}\n")
 }

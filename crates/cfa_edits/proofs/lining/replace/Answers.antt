@@ -1,4 +1,4 @@
 use Rattle.cfa_edits.proofs.lining.replace.Goals as goal
 
 pub returns-clause-ok : goal.returns-clause-ok
-returns-clause-ok c = rw c.in_ok-matcher.ensures at c.write_over.ensures.ok
+returns-clause-ok c = rw (c.in_ok-matcher.ensures, c.in_ok-compiled.ensures) at c.write_over.ensures.ok

@@ -1,7 +1,7 @@
 use Rattle.std.proofs.Common.{refl}
 use Rattle.cfa_base.proofs.PatternLemmas.{pattern_of_reading, no_pattern_of_refusal}
 use Rattle.cfa_base.specs.Patterns.{is_pattern}
-use Rattle.cfa_base.proofs.patterns.compile.Goals as goal
+use Rattle.cfa_base.proofs.patterns.compiled.compile.Goals as goal
 
 pub returns-in-Ok-clause-reads : goal.returns-in-Ok-clause-reads
 unfolding is_pattern
