@@ -206,7 +206,9 @@ fn history(
 {
     let (repaired, changes, failed, opened) = counts;
     let id = id_of(alloc, id)?;
-    format!(in alloc; "{id} repaired {repaired} changes {changes} failed {failed} open {opened} last {last}\n")
+    format!(in alloc;
+        "{id} repaired {repaired} changes {changes} failed {failed} open {opened} last {last}\n"
+    )
 }
 
 #[tactic(auto, unfolding(crate::specs::Lines::unrecorded_line))]
