@@ -10,4 +10,8 @@ mod AlikeLemmas
 mod StandingLemmas
 mod StepLemmas
 mod TurnLemmas
+mod CalleeLemmas
+mod WorkLemmas
+mod SameLemmas
+mod DepthLemmas
 mod FrameRows

@@ -4,3 +4,4 @@ pub mod Weights
 pub mod Growing
 pub mod Standing
 pub mod Steps
+pub mod Depths

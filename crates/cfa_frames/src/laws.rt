@@ -1,5 +1,6 @@
 // What holds of the moves of every stack.
-ghost use Rattle.std.specs.Prelude.{◌≡◌, ◌<◌, ℕ, true, false, List, [], ◌∷◌, length};
+ghost use Rattle.std.specs.Prelude.{◌≡◌, ◌+◌, ◌<◌, ℕ, true, false, List, [], ◌∷◌, length};
+ghost use Rattle.cfa_frames.specs.Depths.{calls_before, run_with};
 ghost use Rattle.cfa_frames.specs.Frames.{Frame, Stack, beginning, rest};
 ghost use Rattle.cfa_frames.specs.Growing.{AnswerAlike, CourseGrows, NextGrows};
 ghost use Rattle.cfa_frames.specs.Moves.{Meets, come_to, ended, ending, entered, moved};
@@ -8,14 +9,16 @@ ghost use Rattle.cfa_frames.specs.Standing.{AreNested, AreShorter, IsNested, Nex
 ghost use Rattle.cfa_frames.specs.Weights.{IsLighter, weight};
 ghost use Rattle.cfa_outcomes.specs.declared.outcomes.Outcome.{Outcome};
 ghost use Rattle.cfa_resolve.specs.declared.instances.Instance.{Instance};
+ghost use Rattle.cfa_schema.specs.Valid.{Valid};
 ghost use Rattle.cfa_states.specs.History.{History};
 ghost use Rattle.cfa_states.specs.Levels.{outcomes_of};
-ghost use Rattle.cfa_states.specs.Passes.{goes, run};
+ghost use Rattle.cfa_states.specs.Passes.{Calls, all_calls, calls_of, goes, run};
 ghost use Rattle.cfa_states.specs.Tellers.{Teller};
 ghost use Rattle.cfa_states.specs.Views.{Setting};
 ghost use Rattle.cfa_statuses.specs.declared.levels.Status.{Status};
 
 use cfa_resolve::{instances_are_few, instances_are_named};
+use cfa_schema::{chains_are_short, served_bundles_stand};
 
 /// The stack with which a run begins comes to the whole run. A move leaves what the history so far
 /// and the stack still come to as it was, and so does each answer as the teller tells. Where nothing
@@ -95,4 +98,18 @@ pub fn frames_stay_nested()
         → AreShorter (length f.home.path) frames }
 {
     instances_are_named();
+}
+
+/// No history of a valid policy ends or goes on otherwise for want of depth. A run has as many levels
+/// of calls as its policy has blocks: with more of them it is the same, and so it is whatever calls
+/// behind the last level do, since none is made there.
+pub fn calls_never_lack_depth()
+    ensures same { (s : Setting) (t : Teller) → run_with s t (all_calls s t) ≡ run s t }
+    ensures deeper { (s : Setting) (t : Teller) (n : ℕ) → Valid s.policy
+        → run_with s t (calls_of s t (n + length s.policy)) ≡ run s t }
+    ensures never_past_the_last { (s : Setting) (t : Teller) (others : Calls) → Valid s.policy
+        → run_with s t (calls_before s t others (length s.policy)) ≡ run s t }
+{
+    chains_are_short();
+    served_bundles_stand();
 }
