@@ -1,0 +1,6 @@
+pub mod Lines
+pub mod Plain
+pub mod References
+pub mod Sizes
+pub mod Texts
+pub mod Validity
