@@ -1,16 +1,16 @@
 -- How the line of a promise is read: whatever stands behind it, its tokens are the promise of its number.
-use Rattle.std.proofs.Common.{◌≡◌, refl, sym, ◌∙◌, ap, subst, ℕ, zero, suc, ◌+◌, ◌%◌, ◌<◌, ◌==◌, List, [], ◌∷◌, ◌++◌, Some, None, if◌then◌else◌, codes, append_assoc, arith}
+use Rattle.std.proofs.Common.{◌≡◌, refl, sym, ◌∙◌, ap, subst, ℕ, zero, suc, ◌+◌, ◌%◌, ◌<◌, ◌==◌, List, [], ◌∷◌, ◌++◌, None, if◌then◌else◌, codes, append_assoc, arith}
 use Rattle.std.specs.Fmt.{decimal}
 use Rattle.cfa_base.specs.declared.places.Place.{Place}
-use Rattle.cfa_base.specs.declared.tokens.Kind.TheVariants.{Word, Text}
+use Rattle.cfa_base.specs.declared.tokens.Kind.TheVariants.{Text}
 use Rattle.cfa_base.specs.Tokens.{Token}
-use Rattle.cfa_base.specs.Lexing.{content_of, place_past, Scans, Lexes, a_separator, a_token}
+use Rattle.cfa_base.specs.Lexing.{content_of, place_past, Lexes, a_separator, a_token}
 use Rattle.cfa_base.specs.lemmas.Taking.{takes_word, takes_text, takes_fat_arrow, takes_comma, takes_semicolon, takes_open_paren, takes_close_paren}
 use Rattle.cfa_tree.specs.Tree.{text, AttributeTree, PromiseTree}
 use Rattle.cfa_tree.specs.Grammar.{token, Levels, depth_limit, one_fewer, Item, an_item, a_text, a_call, some_args, args_end, attribute, Attributes, last_attribute, next_attribute, no_promisee, Promises, a_promise}
 use Rattle.cfa_demo.specs.Policies.{ended, promising, content, promise_line}
 use Rattle.cfa_demo_laws.specs.Trees.{at, quoted, behind_text, value_place, next_place, file_of, class_of, promise_by, promise_tree}
-use Rattle.cfa_demo_laws.proofs.Plain.{IsPlain, decimal_is_plain, file_is_plain, class_is_plain, quoted_plain, content_plain, OnLine, past_quoted}
+use Rattle.cfa_demo_laws.proofs.Plain.{decimal_is_plain, file_is_plain, class_is_plain, quoted_plain, content_plain, OnLine, past_quoted}
 
 -- ---- what the lines say, with each text in its quotes
 

@@ -1,9 +1,8 @@
 -- A plain text refers to nothing: it has no reference, and is no list reference.
-use Rattle.std.proofs.Common.{◌≡◌, refl, ◌∙◌, ap, ℕ, Bool, true, false, ◌&&◌, ◌||◌, ◌==◌, inl, inr, List, [], ◌∷◌, map, Option, Some, None, arith}
-use Rattle.std.specs.Prelude.{not, is_some}
+use Rattle.std.proofs.Common.{◌≡◌, refl, ◌∙◌, ap, ℕ, Bool, true, false, ◌||◌, inl, inr, List, [], ◌∷◌, map, None, arith}
+use Rattle.std.specs.Prelude.{not}
 use Rattle.std.specs.List.{filter_map, list_any}
-use Rattle.cfa_base.specs.declared.places.Place.{Place}
-use Rattle.cfa_vars.specs.References.{reference_at, Piece, literal, begun_by, pieces, name_in, names_in, list_reference_of}
+use Rattle.cfa_vars.specs.References.{reference_at, literal, begun_by, pieces, name_in, names_in, list_reference_of}
 use Rattle.cfa_values.specs.Scope.{has_broken_reference, names_or_list, names_referred, refers_out, is_empty_list, is_literal}
 use Rattle.cfa_demo_laws.proofs.Plain.{IsPlainByte, IsPlain, other_byte}
 

@@ -1,5 +1,5 @@
 -- The text of a demo is a text that isn't too long.
-use Rattle.std.proofs.Common.{◌≡◌, ℕ, zero, suc, ◌+◌, ◌*◌, ◌%◌, ◌^◌, ◌<◌, ◌≤◌, ◌==◌, sym, subst, ap, ◌∙◌, Bool, true, ◌&&◌, List, [], ◌∷◌, ◌++◌, codes, length, length-append, refl, arith}
+use Rattle.std.proofs.Common.{◌≡◌, ℕ, zero, suc, ◌*◌, ◌%◌, ◌<◌, ◌≤◌, sym, subst, Bool, true, ◌&&◌, List, [], ◌∷◌, ◌++◌, codes, length, length-append, refl, arith}
 use Rattle.std.specs.Fmt.{decimal}
 use Rattle.std.specs.Prelude.{nat_lt}
 use Rattle.std.specs.Str.{IsAscii}
@@ -7,7 +7,7 @@ use Rattle.std.proofs.lemmas.Bool.{ltb-true, and_parts}
 use Rattle.std.proofs.lemmas.Fmt.{length-decimal-le, IsAscii-decimal}
 use Rattle.std.proofs.lemmas.Str.{IsAscii-append, IsUtf8-from_ascii}
 use Rattle.cfa_lexer.specs.Lexed.{IsText}
-use Rattle.cfa_demo.specs.Policies.{ended, promise_line, demo_text}
+use Rattle.cfa_demo.specs.Policies.{ended, promise_line}
 use Rattle.cfa_demo_laws.specs.Laws.{DemoIsText}
 use Rattle.cfa_demo_laws.proofs.Lines.{ended_0, ended_1, ended_2, ended_3}
 use Rattle.cfa_demo_laws.proofs.Texts.{opened, closed, lines_of, no_lines, one_line_more, in_parts}

@@ -1,6 +1,5 @@
 -- The text of a demo is read to its tree.
-use Rattle.std.proofs.Common.{◌≡◌, refl, sym, ◌∙◌, ap, subst, ℕ, zero, suc, ◌+◌, ◌≤◌, List, [], ◌∷◌, ◌++◌, None, codes, append_assoc, append-nil, add-one, arith}
-use Rattle.cfa_base.specs.declared.places.Place.{Place}
+use Rattle.std.proofs.Common.{◌≡◌, refl, sym, ◌∙◌, ap, subst, ℕ, zero, suc, ◌+◌, ◌≤◌, List, [], ◌∷◌, ◌++◌, None, codes, append_assoc, append-nil, arith}
 use Rattle.cfa_base.specs.declared.tokens.Kind.TheVariants.{CloseBrace}
 use Rattle.cfa_base.specs.Tokens.{Token}
 use Rattle.cfa_base.specs.Lexing.{first_place, Lexes, ends, a_separator, a_token}
@@ -8,8 +7,8 @@ use Rattle.cfa_base.specs.lemmas.Taking.{takes_word, takes_text, takes_fat_arrow
 use Rattle.cfa_tree.specs.Tree.{PromiseTree, PolicyTree}
 use Rattle.cfa_tree.specs.Grammar.{token, depth_limit, an_item, a_text, a_list, some_items, items_end, attribute, Promises, no_promise, a_section, no_section, last_word, no_params, some_params, no_more, one_more, Policy, no_block, a_bundle, a_body}
 use Rattle.cfa_demo.specs.Policies.{ended, text_of, opening, ending, promise_line, promise_lines, demo_text}
-use Rattle.cfa_demo_laws.specs.Trees.{at, promise_tree, promise_trees, main_bundle, perms_body, classes_body, demo_tree}
-use Rattle.cfa_demo_laws.specs.Laws.{most_promises, DemoReads}
+use Rattle.cfa_demo_laws.specs.Trees.{at, promise_tree, promise_trees, perms_body, classes_body, demo_tree}
+use Rattle.cfa_demo_laws.specs.Laws.{DemoReads}
 use Rattle.cfa_demo_laws.proofs.Lines.{line_is_read}
 
 -- ---- the text in its parts

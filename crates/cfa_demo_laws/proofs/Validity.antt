@@ -1,5 +1,5 @@
 -- No line of the table of refusals applies to the tree of a demo.
-use Rattle.std.proofs.Common.{◌≡◌, refl, sym, ◌∙◌, ap, subst, ℕ, zero, suc, ◌+◌, ◌%◌, ◌<◌, ◌≤◌, Bool, true, false, ◌&&◌, ◌||◌, ◌==◌, ◌⊎◌, inl, inr, List, [], ◌∷◌, ◌++◌, map, Option, Some, None, codes, arith}
+use Rattle.std.proofs.Common.{◌≡◌, refl, sym, ◌∙◌, ap, subst, ℕ, zero, suc, ◌+◌, ◌%◌, ◌<◌, ◌≤◌, true, false, ◌&&◌, ◌||◌, inl, inr, List, [], ◌∷◌, ◌++◌, Some, codes, arith}
 use Rattle.std.specs.Prelude.{not, is_some}
 use Rattle.std.specs.Fmt.{decimal}
 use Rattle.std.specs.List.{All, Contains, flat_map}
@@ -7,25 +7,21 @@ use Rattle.std.proofs.lemmas.List.Concat.{flat_map-append}
 use Rattle.std.proofs.lemmas.List.Elements.{All-nil}
 use Rattle.cfa_base.specs.declared.places.Place.{Place}
 use Rattle.cfa_base.specs.Lexing.{place_after}
-use Rattle.cfa_tree.specs.Tree.{text, PromiseTree, PolicyTree}
-use Rattle.cfa_calls.specs.Cycles.{Call}
-use Rattle.cfa_kinds.specs.declared.kinds.BodyType.TheVariants as bodies
+use Rattle.cfa_tree.specs.Tree.{text}
 use Rattle.cfa_kinds.specs.declared.kinds.Form.{Form}
 use Rattle.cfa_kinds.specs.declared.kinds.Form.TheVariants.{AnyText, Boolean}
 use Rattle.cfa_kinds.specs.declared.kinds.PromiseType.TheVariants as promises
 use Rattle.cfa_kinds.specs.Forms.{has_form, is_boolean}
 use Rattle.cfa_kinds.specs.Kinds.{bundle_type, promise_type, body_type, shared_attribute, outcome_attribute, files_attribute, perms_attribute, classes_body_attribute, promise_attribute}
 use Rattle.cfa_vars.specs.References.{reference_at, pieces, list_reference_of}
-use Rattle.cfa_values.specs.declared.refusals.Refusal.{Refusal}
 use Rattle.cfa_values.specs.declared.refusals.Code.TheVariants.{WrongValue, ReferenceOutOfScope}
 use Rattle.cfa_values.specs.Attributes.{attributes_refusals}
-use Rattle.cfa_values.specs.Definitions.{Definitions, BodyHead, body_named}
+use Rattle.cfa_values.specs.Definitions.{Definitions, body_named}
 use Rattle.cfa_values.specs.Refusals.{only_if}
 use Rattle.cfa_values.specs.Scope.{in_bundle, names_referred, refers_out, is_literal, is_constant}
-use Rattle.cfa_values.specs.Values.{Setting, may_name, text_scope, is_list_reference, is_wrong_text, text_refusals, item_refusals, body_found, body_refusals}
-use Rattle.cfa_served.specs.Control.{sequence_of}
+use Rattle.cfa_values.specs.Values.{Setting, may_name, text_scope, is_list_reference, is_wrong_text, text_refusals, body_found}
 use Rattle.cfa_schema.specs.Defined.{definitions_of, has_sequence}
-use Rattle.cfa_schema.specs.Valid.{promise_refusals, block_refusals, refusals, calls_of, patterns_of, promiser_pattern, KnownPattern, IsPattern, Applies, NoneApplies, Valid}
+use Rattle.cfa_schema.specs.Valid.{promise_refusals, block_refusals, refusals, calls_of, patterns_of, promiser_pattern, KnownPattern, IsPattern, NoneApplies}
 use Rattle.cfa_demo_laws.specs.Trees.{at, behind_text, value_place, next_place, file_of, class_of, attributes_by, promise_by, promise_tree, promise_trees, main_bundle, perms_body, classes_body, demo_tree}
 use Rattle.cfa_demo_laws.specs.Laws.{DemoIsValid}
 use Rattle.cfa_demo_laws.proofs.Plain.{IsPlain, decimal_is_plain, file_is_plain, class_is_plain}

@@ -4,7 +4,7 @@ use Rattle.std.specs.Prelude.{ℕ, zero, suc, ◌+◌, ◌%◌, ◌==◌, List, 
 use Rattle.std.specs.Fmt.{decimal}
 use Rattle.cfa_base.specs.declared.places.Place.{Place}
 use Rattle.cfa_base.specs.Lexing.{place_after}
-use Rattle.cfa_tree.specs.Tree.{ValueTree, text, list, call, value_trees, AttributeTree, PromiseTree, NamedTree, BlockTree, bundle, body, PolicyTree}
+use Rattle.cfa_tree.specs.Tree.{text, list, call, value_trees, AttributeTree, PromiseTree, NamedTree, BlockTree, bundle, body, PolicyTree}
 
 -- ---- places
 

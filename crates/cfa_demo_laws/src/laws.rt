@@ -1,5 +1,7 @@
 // Laws over the definition of the demo policy.
-ghost use Rattle.cfa_demo_laws.specs.Laws.{DemoIsText, DemoReads, DemoIsValid};
+ghost use Rattle.cfa_demo_laws.specs.Laws.{DemoIsText, DemoReads, DemoIsValid, DemoIsValidAs, DemoIsOneTree, DemoIsNeverRefused};
+
+use cfa_sources::a_policy_has_one_answer;
 
 /// The text of a demo is read to its tree, and nothing of it is refused.
 pub fn demos_are_read()
@@ -11,3 +13,12 @@ pub fn demos_are_read()
 pub fn demos_are_valid()
     ensures { DemoIsValid }
 {}
+
+/// Under its name a demo is taken as the policy of its tree, of no other tree, and is never refused.
+pub fn demos_are_taken()
+    ensures valid_as { DemoIsValidAs }
+    ensures one_tree { DemoIsOneTree }
+    ensures never_refused { DemoIsNeverRefused }
+{
+    a_policy_has_one_answer();
+}
