@@ -1,7 +1,12 @@
+pub mod Acting
 pub mod Lines
 pub mod Plain
 pub mod References
+pub mod Resolutions
+pub mod Resolving
+pub mod Simple
 pub mod Sizes
 pub mod Taken
 pub mod Texts
 pub mod Validity
+pub mod Works

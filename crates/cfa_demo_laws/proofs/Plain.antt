@@ -1,7 +1,7 @@
 -- Texts of small letters, digits and `/` alone, as the names and the contents of a demo are: in quotes each is a quoted text
 -- with itself as its content, and a place behind it is on the same line.
 use Rattle.std.proofs.Common.{◌≡◌, refl, ◌∙◌, ap, ℕ, ◌-◌, ◌≤◌, ◌<◌, false, ◌==◌, ◌⊎◌, inl, inr, List, [], ◌∷◌, ◌++◌, length, take, arith}
-use Rattle.std.specs.Prelude.{IsTrue, ⊤}
+use Rattle.std.specs.Prelude.{IsTrue, ⊤, codes}
 use Rattle.std.specs.Fmt.{decimal}
 use Rattle.std.specs.Str.Parse.{AllDigits}
 use Rattle.std.proofs.lemmas.Bool.{ne_eqb}
@@ -41,6 +41,12 @@ file_is_plain k below =
 
 pub class_is_plain : (k : ℕ) → k < 10000 → IsPlain (class_of k)
 class_is_plain k below = (inr (omega arith, omega arith), decimal_is_plain k below)
+
+pub true_is_plain : IsPlain (codes "true")
+true_is_plain = (inr (omega arith, omega arith), (inr (omega arith, omega arith), (inr (omega arith, omega arith), (inr (omega arith, omega arith), tt))))
+
+pub mode_is_plain : IsPlain (codes "644")
+mode_is_plain = (inl (omega arith, omega arith), (inl (omega arith, omega arith), (inl (omega arith, omega arith), tt)))
 
 -- ---- in quotes
 

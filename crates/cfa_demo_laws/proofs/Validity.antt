@@ -24,7 +24,7 @@ use Rattle.cfa_schema.specs.Defined.{definitions_of, has_sequence}
 use Rattle.cfa_schema.specs.Valid.{promise_refusals, block_refusals, refusals, calls_of, patterns_of, promiser_pattern, KnownPattern, IsPattern, NoneApplies}
 use Rattle.cfa_demo_laws.specs.Trees.{at, behind_text, value_place, next_place, file_of, class_of, attributes_by, promise_by, promise_tree, promise_trees, main_bundle, perms_body, classes_body, demo_tree}
 use Rattle.cfa_demo_laws.specs.Laws.{DemoIsValid}
-use Rattle.cfa_demo_laws.proofs.Plain.{IsPlain, decimal_is_plain, file_is_plain, class_is_plain}
+use Rattle.cfa_demo_laws.proofs.Plain.{IsPlain, true_is_plain, mode_is_plain, decimal_is_plain, file_is_plain, class_is_plain}
 use Rattle.cfa_demo_laws.proofs.References.{plain_is_no_list, plain_is_literal, plain_stays}
 
 -- ---- plain texts
@@ -43,12 +43,6 @@ text_passes s form content place p is =
     λ i. only_if (form_is_right form content p is i) WrongValue place ++ scope_passes s content place p i
 
 -- ---- attributes of the promises
-
-true_is_plain : IsPlain (codes "true")
-true_is_plain = (inr (omega arith, omega arith), (inr (omega arith, omega arith), (inr (omega arith, omega arith), (inr (omega arith, omega arith), tt))))
-
-mode_is_plain : IsPlain (codes "644")
-mode_is_plain = (inl (omega arith, omega arith), (inl (omega arith, omega arith), (inl (omega arith, omega arith), tt)))
 
 -- the policy defines a body of this type and name, with one parameter
 abbrev Defines : Definitions → (type_word name : List ℕ) → Type 0

@@ -1,2 +1,3 @@
 pub mod Laws
+pub mod Resolved
 pub mod Trees

@@ -1,5 +1,6 @@
 // Laws over the definition of the demo policy.
 ghost use Rattle.cfa_demo_laws.specs.Laws.{DemoIsText, DemoReads, DemoIsValid, DemoIsValidAs, DemoIsOneTree, DemoIsNeverRefused};
+ghost use Rattle.cfa_demo_laws.specs.Resolved.{DemoCountsOne, DemoNeverDisturbs};
 
 use cfa_sources::a_policy_has_one_answer;
 
@@ -22,3 +23,9 @@ pub fn demos_are_taken()
 {
     a_policy_has_one_answer();
 }
+
+/// Each promise of a demo counts one visit, and no act of its instances disturbs an act of an instance of the demo.
+pub fn demos_are_undisturbed()
+    ensures one_visit { DemoCountsOne }
+    ensures undisturbed { DemoNeverDisturbs }
+{}

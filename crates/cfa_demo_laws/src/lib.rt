@@ -1,6 +1,7 @@
-//! Laws of the demo policy, whatever the number of its promises: what is read of its text, and that it is valid and never refused.
+//! Laws of the demo policy, whatever the number of its promises: what is read of its text, that it is valid and never refused, and
+//! that none of its promises disturbs another.
 #![tactic(auto)]
 
 mod laws;
 
-pub use laws::{demos_are_read, demos_are_taken, demos_are_valid};
+pub use laws::{demos_are_read, demos_are_taken, demos_are_undisturbed, demos_are_valid};
