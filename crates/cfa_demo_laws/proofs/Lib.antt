@@ -1,4 +1,6 @@
 pub mod Acting
+pub mod Counted
+pub mod Fits
 pub mod Lines
 pub mod Plain
 pub mod References

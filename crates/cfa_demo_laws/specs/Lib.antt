@@ -1,3 +1,4 @@
 pub mod Laws
 pub mod Resolved
+pub mod Runs
 pub mod Trees

@@ -1,6 +1,7 @@
 // Laws over the definition of the demo policy.
 ghost use Rattle.cfa_demo_laws.specs.Laws.{DemoIsText, DemoReads, DemoIsValid, DemoIsValidAs, DemoIsOneTree, DemoIsNeverRefused};
 ghost use Rattle.cfa_demo_laws.specs.Resolved.{DemoCountsOne, DemoNeverDisturbs};
+ghost use Rattle.cfa_demo_laws.specs.Runs.{DemoRunsFit};
 
 use cfa_sources::a_policy_has_one_answer;
 
@@ -28,4 +29,9 @@ pub fn demos_are_taken()
 pub fn demos_are_undisturbed()
     ensures one_visit { DemoCountsOne }
     ensures undisturbed { DemoNeverDisturbs }
+{}
+
+/// No run of a demo counts more visits than it may.
+pub fn demo_runs_fit()
+    ensures { DemoRunsFit }
 {}

@@ -4,4 +4,6 @@
 
 mod laws;
 
-pub use laws::{demos_are_read, demos_are_taken, demos_are_undisturbed, demos_are_valid};
+pub use laws::{
+    demo_runs_fit, demos_are_read, demos_are_taken, demos_are_undisturbed, demos_are_valid,
+};
