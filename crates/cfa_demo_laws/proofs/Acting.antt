@@ -1,31 +1,28 @@
 -- What the promise of a number acts on: its file alone, which is created, given the number as its content, or the permissions 644.
-use Rattle.std.proofs.Common.{◌≡◌, refl, sym, ◌∙◌, ap, subst, ℕ, zero, suc, ◌+◌, ◌-◌, ◌%◌, ◌^◌, ◌<◌, ◌≤◌, ◌==◌, ◌⊎◌, inl, inr, Bool, true, false, cond, List, [], ◌∷◌, ◌++◌, map, length, take, drop, ◌&&◌, codes, Option, Some, None, if◌then◌else◌, append-nil, arith}
+use Rattle.std.proofs.Common.{◌≡◌, refl, sym, ◌∙◌, ap, subst, ℕ, zero, suc, ◌-◌, ◌<◌, ◌≤◌, ◌==◌, inl, inr, Bool, true, false, cond, List, [], ◌∷◌, ◌++◌, map, length, take, drop, ◌&&◌, codes, Option, Some, None, if◌then◌else◌, append-nil, arith}
 use Rattle.std.specs.Prelude.{⊤, not, nat_le, find, filter, is_none}
 use Rattle.std.specs.Fmt.{decimal}
 use Rattle.std.specs.List.{AllByRecursion as Each, flat_map, list_all, slice_split, onto_first}
 use Rattle.std.specs.Str.{bytes_eq}
 use Rattle.std.specs.Str.Parse.{AllDigits}
 use Rattle.std.proofs.lemmas.Bool.{ne_eqb, le-leb}
-use Rattle.std.proofs.lemmas.Fmt.{decimal_is_IsNumeral, length-decimal-le}
+use Rattle.std.proofs.lemmas.Fmt.{decimal_is_IsNumeral}
 use Rattle.std.proofs.lemmas.List.Splits.{slice_split-cons_no}
 use Rattle.std.proofs.lemmas.Str.Parse.{digit_from_value}
-use Rattle.cfa_base.specs.declared.places.Place.{Place}
-use Rattle.cfa_base.specs.declared.places.PromiseId.{PromiseId}
 use Rattle.cfa_base.specs.lemmas.EqualTexts.{texts_apart}
 use Rattle.cfa_base.specs.lemmas.Lists.{each_append}
 use Rattle.cfa_outside.specs.Paths.{is_rooted, is_component, components, joined, path_of}
 use Rattle.cfa_acts.specs.declared.acts.Act.{Act}
 use Rattle.cfa_acts.specs.declared.acts.Act.TheVariants.{Create, MakeDir, Delete, Content, Copy, Edit, Perms, Start, Stop, Enable, Disable, Restart, Bust}
-use Rattle.cfa_vars.specs.References.{literal, pieces}
+use Rattle.cfa_vars.specs.References.{literal}
 use Rattle.cfa_vars.specs.Named.{thing_at}
 use Rattle.cfa_vars.specs.Scopes.{InScope}
-use Rattle.cfa_vars.specs.Expansion.{Chosen, scalar, filled_piece, filled, first_unresolved, within_limit, done_or_too_long, told_of, expanded}
+use Rattle.cfa_vars.specs.Expansion.{Chosen, scalar, filled_piece, filled, within_limit, done_or_too_long, told_of, expanded}
 use Rattle.cfa_vars.specs.declared.expanding.Expanded.TheVariants.{Done}
 use Rattle.cfa_bodies.specs.Bodies.{Bodies}
-use Rattle.cfa_scripts.specs.declared.scripting.Scripted.{Scripted}
 use Rattle.cfa_resolve.specs.FileActs.{truth, is_directory_form, target_of, delete_acts, copy_acts, create_by, create_acts, content_acts, perms_acts, acts_at, acts_by, file_acts}
 use Rattle.cfa_demo_laws.specs.Trees.{file_of}
-use Rattle.cfa_demo_laws.proofs.Plain.{IsPlainByte, IsPlain, decimal_is_plain, file_is_plain}
+use Rattle.cfa_demo_laws.proofs.Plain.{IsPlainByte, IsPlain, file_is_plain}
 use Rattle.cfa_demo_laws.proofs.References.{plain_pieces, plain_names_none}
 
 abbrev pub IsActOf : ℕ → Act → Type 0

@@ -1,33 +1,24 @@
 -- No run of a demo counts too many visits: none of its promises has a guard, and each counts one visit in each of three passes.
-use Rattle.std.proofs.Common.{◌≡◌, refl, sym, ◌∙◌, ap, subst, ℕ, zero, suc, ◌+◌, ◌%◌, ◌<◌, ◌≤◌, Bool, true, false, cond, List, [], ◌∷◌, ◌++◌, map, length, length-append, codes, Option, Some, None, arith}
-use Rattle.std.specs.Fmt.{decimal}
-use Rattle.std.specs.List.{AllByRecursion as Each, flat_map}
-use Rattle.cfa_base.specs.declared.places.Place.{Place}
-use Rattle.cfa_base.specs.Lexing.{place_after}
-use Rattle.cfa_base.specs.lemmas.Lists.{each_append}
+use Rattle.std.proofs.Common.{◌≡◌, refl, sym, ap, subst, ℕ, zero, suc, ◌+◌, ◌≤◌, Bool, true, false, cond, List, [], ◌∷◌, ◌++◌, map, length, length-append, codes, Option, arith}
+use Rattle.std.specs.List.{AllByRecursion as Each}
 use Rattle.cfa_tree.specs.Tree.{ExprTree, PromiseTree, PolicyTree}
 use Rattle.cfa_kinds.specs.declared.kinds.PromiseType.{PromiseType}
 use Rattle.cfa_kinds.specs.declared.kinds.PromiseType.TheVariants as promises
-use Rattle.cfa_kinds.specs.Kinds.{bundle_type, promise_type, files_attribute, outcome_attribute}
+use Rattle.cfa_kinds.specs.Kinds.{bundle_type, promise_type}
 use Rattle.cfa_statuses.specs.declared.levels.Status.{Status}
 use Rattle.cfa_statuses.specs.declared.levels.Status.TheVariants.{Yes}
-use Rattle.cfa_values.specs.Attributes.{value_of}
 use Rattle.cfa_served.specs.Control.{sequence_of}
 use Rattle.cfa_served.specs.Served.{bundle_of, common_bundles_of}
-use Rattle.cfa_vars.specs.References.{list_reference_of}
-use Rattle.cfa_defines.specs.OwnTexts.{text_or_list, own_reads, scalar_names}
 use Rattle.cfa_resolve.specs.Resolution.{resolution}
 use Rattle.cfa_states.specs.History.{History, Home, Where, within, Begun, visits_in}
-use Rattle.cfa_states.specs.Numbered.{Numbered, numbered_from, numbered_in, agent_types, is_type, of_type}
+use Rattle.cfa_states.specs.Numbered.{Numbered, numbered_from, agent_types, is_type, of_type}
 use Rattle.cfa_states.specs.Levels.{GoesTo, IsTooLarge}
 use Rattle.cfa_states.specs.Passes.{Course, goes, too_large, Calls, instances_from, kept_by, guarded, reach, promises_from, types_from, passes, all_calls, common_passes, run}
 use Rattle.cfa_states.specs.Tellers.{Teller}
 use Rattle.cfa_states.specs.Views.{Setting, guard_status, reached_in_history}
-use Rattle.cfa_demo_laws.specs.Trees.{at, behind_text, file_of, class_of, attributes_by, promise_by, promise_tree, promise_trees, main_bundle, demo_tree}
+use Rattle.cfa_demo_laws.specs.Trees.{promise_tree, promise_trees, demo_tree}
 use Rattle.cfa_demo_laws.specs.Runs.{DemoRunsFit}
-use Rattle.cfa_demo_laws.proofs.Plain.{IsPlain, true_is_plain, mode_is_plain, decimal_is_plain, file_is_plain, class_is_plain}
 use Rattle.cfa_demo_laws.proofs.Simple.{Simple, promise_is_simple, IsOfNumber, each_of_number}
-use Rattle.cfa_demo_laws.proofs.References.{plain_is_no_list, plain_names_none}
 use Rattle.cfa_demo_laws.proofs.Counted.{AddsAtMost, then_goes, adds_then, times, adds_each, times_one, adds_weaker, instances_add, reached_adds}
 use Rattle.cfa_demo_laws.proofs.Resolving.{instances_act, one_visit}
 

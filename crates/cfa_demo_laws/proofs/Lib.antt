@@ -6,9 +6,11 @@ pub mod Plain
 pub mod References
 pub mod Resolutions
 pub mod Resolving
+pub mod Settled
 pub mod Simple
 pub mod Sizes
 pub mod Taken
 pub mod Texts
 pub mod Validity
+pub mod Walks
 pub mod Works

@@ -1,5 +1,5 @@
 -- What the promises of a demo resolve to, in whatever view.
-use Rattle.std.proofs.Common.{◌≡◌, refl, sym, ap, subst, ℕ, ◌≤◌, ◌<◌, false, List}
+use Rattle.std.proofs.Common.{sym, subst, ℕ, ◌≤◌, List}
 use Rattle.std.specs.Prelude.{Contains}
 use Rattle.std.specs.List.{AllByRecursion as Each}
 use Rattle.std.proofs.lemmas.List.Elements.{All-contains, All-from_recursion}
@@ -7,14 +7,13 @@ use Rattle.cfa_acts.specs.declared.acts.Act.{Act}
 use Rattle.cfa_kinds.specs.declared.kinds.PromiseType.TheVariants as promises
 use Rattle.cfa_resolve.specs.declared.instances.Instance.{Instance}
 use Rattle.cfa_resolve.specs.declared.instances.Resolved.{Resolved}
-use Rattle.cfa_resolve.specs.declared.instances.Work.{Work}
 use Rattle.cfa_resolve.specs.Resolution.{reached_at, resolution}
 use Rattle.cfa_tree.specs.Tree.{PromiseTree}
 use Rattle.cfa_demo_laws.specs.Trees.{demo_tree}
 use Rattle.cfa_demo_laws.specs.Resolved.{IsOfDemo, DemoCountsOne, HasAct, DemoNeverDisturbs}
 use Rattle.cfa_demo_laws.proofs.Acting.{IsActOf}
 use Rattle.cfa_demo_laws.proofs.Resolving.{one_visit}
-use Rattle.cfa_demo_laws.proofs.Simple.{Simple, promise_is_simple, IsOfNumber, of_number}
+use Rattle.cfa_demo_laws.proofs.Simple.{Simple, promise_is_simple, of_number}
 use Rattle.cfa_demo_laws.proofs.Works.{DoesFor, instances_do, never_disturbs}
 
 contained : {X : Type 0} (P : X → Type 0) (xs : List X) (x : X) → Each P xs → Contains xs x → P x

@@ -1,5 +1,5 @@
 -- A files promise whose texts refer to nothing and that has no edit bundle: its instances have acts, and it counts one visit.
-use Rattle.std.proofs.Common.{◌≡◌, refl, sym, ◌∙◌, ap, subst, ℕ, zero, suc, ◌+◌, ◌≤◌, Bool, true, false, List, [], ◌∷◌, ◌++◌, length, codes, Option, Some, None, arith}
+use Rattle.std.proofs.Common.{◌≡◌, sym, ap, subst, ℕ, ◌≤◌, Bool, true, false, List, [], ◌∷◌, Option, Some, None, arith}
 use Rattle.std.specs.Prelude.{⊤, option_map}
 use Rattle.std.specs.List.{AllByRecursion as Each, cons_option, flat_map, list_any}
 use Rattle.cfa_acts.specs.declared.acts.Act.TheVariants.{Bust}
@@ -14,7 +14,6 @@ use Rattle.cfa_defines.specs.declared.reads.Read.{Read}
 use Rattle.cfa_defines.specs.OwnTexts.{own_reads, scalar_names, first_lacking, has_too_many, has_too_long, choices_among, found_or_too_long, combined_by, combined}
 use Rattle.cfa_kinds.specs.declared.kinds.PromiseType.{PromiseType}
 use Rattle.cfa_kinds.specs.declared.kinds.PromiseType.TheVariants as promises
-use Rattle.cfa_vars.specs.Scopes.{InScope}
 use Rattle.cfa_vars.specs.Expansion.{Chosen}
 use Rattle.cfa_vars.specs.Choices.{lists_among, all_choices}
 use Rattle.cfa_scripts.specs.declared.scripting.Scripted.{Scripted}
@@ -24,7 +23,7 @@ use Rattle.cfa_resolve.specs.declared.instances.Work.{Work}
 use Rattle.cfa_resolve.specs.declared.instances.Work.TheVariants.{Acts, Call, Report}
 use Rattle.cfa_resolve.specs.Instances.{Reached, work_by, timed, minutes_in, made_instance, handed_instance}
 use Rattle.cfa_scripts.specs.EditScripts.{walked}
-use Rattle.cfa_resolve.specs.Resolution.{caller_of, edit_call, walked_for, scripted_in, visits_in, made_by_script, made_by, made, instance_in, made_for, instances_for, inner_visits, resolved_as, resolution}
+use Rattle.cfa_resolve.specs.Resolution.{caller_of, edit_call, walked_for, scripted_in, visits_in, made_by_script, made_by, made, instance_in, made_for, instances_for, resolved_as, resolution}
 
 abbrev pub IsActs : Work → Type 0
 IsActs (Acts acts) = ⊤

@@ -1,7 +1,7 @@
 -- The instances of a demo's promises, in whatever view: each acts on the file of its promise alone, and no act of one disturbs an
 -- act of another or of itself.
-use Rattle.std.proofs.Common.{◌≡◌, refl, sym, ◌∙◌, ap, subst, ℕ, zero, suc, ◌+◌, ◌%◌, ◌<◌, ◌≤◌, Bool, true, false, ◌&&◌, ◌||◌, List, [], ◌∷◌, ◌++◌, length, drop, codes, Option, Some, None, arith}
-use Rattle.std.specs.Prelude.{⊤, not}
+use Rattle.std.proofs.Common.{◌≡◌, refl, sym, ◌∙◌, ap, subst, ℕ, zero, suc, ◌<◌, ◌≤◌, Bool, true, false, ◌&&◌, ◌||◌, List, [], length, drop, codes, Option, Some, None, arith}
+use Rattle.std.specs.Prelude.{not}
 use Rattle.std.specs.Fmt.{decimal}
 use Rattle.std.specs.List.{AllByRecursion as Each}
 use Rattle.std.specs.Str.{bytes_eq}
@@ -21,11 +21,10 @@ use Rattle.cfa_vars.specs.Scopes.{InScope, look, key_of}
 use Rattle.cfa_vars.specs.Expansion.{Chosen, scalar, expanded}
 use Rattle.cfa_functions.specs.Calls.{expanded_text}
 use Rattle.cfa_bodies.specs.Bodies.{Bodies, whole_or_empty, datum_given, bodies_of}
-use Rattle.cfa_scripts.specs.declared.scripting.Scripted.{Scripted}
 use Rattle.cfa_resolve.specs.declared.instances.Work.{Work}
 use Rattle.cfa_resolve.specs.declared.instances.Work.TheVariants.{Acts, Call, Report}
 use Rattle.cfa_resolve.specs.FileActs.{file_acts}
-use Rattle.cfa_resolve.specs.Instances.{Reached, done_text, promiser_in, text_of, work_by}
+use Rattle.cfa_resolve.specs.Instances.{Reached, done_text, work_by}
 use Rattle.cfa_resolve.specs.Resolution.{walked_for, scripted_in, reached_at, resolution}
 use Rattle.cfa_demo_laws.specs.Trees.{file_of, promise_by, demo_tree}
 use Rattle.cfa_demo_laws.proofs.Plain.{decimal_is_plain, file_is_plain}

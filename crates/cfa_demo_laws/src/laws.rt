@@ -1,7 +1,7 @@
 // Laws over the definition of the demo policy.
 ghost use Rattle.cfa_demo_laws.specs.Laws.{DemoIsText, DemoReads, DemoIsValid, DemoIsValidAs, DemoIsOneTree, DemoIsNeverRefused};
 ghost use Rattle.cfa_demo_laws.specs.Resolved.{DemoCountsOne, DemoNeverDisturbs};
-ghost use Rattle.cfa_demo_laws.specs.Runs.{DemoRunsFit};
+ghost use Rattle.cfa_demo_laws.specs.Runs.{DemoRunsFit, DemoWalksAreSure};
 
 use cfa_sources::a_policy_has_one_answer;
 
@@ -31,7 +31,8 @@ pub fn demos_are_undisturbed()
     ensures undisturbed { DemoNeverDisturbs }
 {}
 
-/// No run of a demo counts more visits than it may.
-pub fn demo_runs_fit()
-    ensures { DemoRunsFit }
+/// No run of a demo counts more visits than it may, no promise of it is unsettled, and each visit surely comes.
+pub fn demos_are_walked()
+    ensures fits { DemoRunsFit }
+    ensures sure { DemoWalksAreSure }
 {}

@@ -5,5 +5,5 @@
 mod laws;
 
 pub use laws::{
-    demo_runs_fit, demos_are_read, demos_are_taken, demos_are_undisturbed, demos_are_valid,
+    demos_are_read, demos_are_taken, demos_are_undisturbed, demos_are_valid, demos_are_walked,
 };
