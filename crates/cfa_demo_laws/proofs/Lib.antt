@@ -1,3 +1,4 @@
+pub mod Accepts
 pub mod Acting
 pub mod Counted
 pub mod Fits

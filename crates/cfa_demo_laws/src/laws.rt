@@ -1,4 +1,5 @@
 // Laws over the definition of the demo policy.
+ghost use Rattle.cfa_demo_laws.specs.Accepted.{DemoIsAccepted};
 ghost use Rattle.cfa_demo_laws.specs.Laws.{DemoIsText, DemoReads, DemoIsValid, DemoIsValidAs, DemoIsOneTree, DemoIsNeverRefused};
 ghost use Rattle.cfa_demo_laws.specs.Resolved.{DemoCountsOne, DemoNeverDisturbs};
 ghost use Rattle.cfa_demo_laws.specs.Runs.{DemoRunsFit, DemoWalksAreSure};
@@ -35,4 +36,9 @@ pub fn demos_are_undisturbed()
 pub fn demos_are_walked()
     ensures fits { DemoRunsFit }
     ensures sure { DemoWalksAreSure }
+{}
+
+/// The analysis of a demo finds no conflict.
+pub fn demos_are_accepted()
+    ensures { DemoIsAccepted }
 {}
