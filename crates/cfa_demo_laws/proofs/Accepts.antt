@@ -1,12 +1,11 @@
 -- No two acts of a demo meet, so that its analysis finds no conflict.
-use Rattle.std.proofs.Common.{◌≡◌, refl, sym, ◌∙◌, ap, subst, ℕ, ◌+◌, ◌≤◌, Bool, true, false, cond, ◌==◌, List, [], ◌∷◌, ◌++◌, map, Option, Some, None, if◌then◌else◌}
-use Rattle.std.specs.Prelude.{filter, find}
+use Rattle.std.proofs.Common.{◌≡◌, refl, ◌∙◌, ap, ℕ, ◌+◌, Bool, true, false, cond, ◌==◌, List, [], ◌∷◌, ◌++◌, map, Option, Some, if◌then◌else◌}
+use Rattle.std.specs.Prelude.{filter}
 use Rattle.std.specs.List.{AllByRecursion as Each, flat_map}
 use Rattle.cfa_base.specs.lemmas.Lists.{each_append}
 use Rattle.cfa_acts.specs.declared.acts.Act.{Act}
 use Rattle.cfa_acts.specs.declared.acts.Act.TheVariants.{Create, MakeDir, Delete, Content, Copy, Edit, Perms, Start, Stop, Enable, Disable, Restart, Bust}
 use Rattle.cfa_acts.specs.Disturbs.{disturbs}
-use Rattle.cfa_statuses.specs.declared.levels.Status.{Status}
 use Rattle.cfa_statuses.specs.declared.levels.Status.TheVariants.{Yes}
 use Rattle.cfa_resolve.specs.declared.instances.Instance.{Instance}
 use Rattle.cfa_resolve.specs.declared.instances.Work.{Work}
@@ -18,9 +17,9 @@ use Rattle.cfa_states.specs.Levels.{IsTooLarge}
 use Rattle.cfa_states.specs.Passes.{Course, goes, too_large, run}
 use Rattle.cfa_states.specs.Tellers.{all_kept, open_walk, acts_of}
 use Rattle.cfa_states.specs.Views.{Setting}
-use Rattle.cfa_states.specs.Walks.{listed_instances, walked}
+use Rattle.cfa_states.specs.Walks.{walked}
 use Rattle.cfa_conflict.specs.declared.verdicts.Verdict.TheVariants.{Accepted}
-use Rattle.cfa_conflict.specs.Conflicts.{is_live, first_visit, is_visited_after, unsettled_conflict, restart_of, restarts_of, unsure_by, unsure_at, undone, undone_by, undone_by_other, undone_by_later, undone_in, undone_from, conflicts_at, conflicts_from, conflicts, live_instances, first_or_accepted, verdict_of}
+use Rattle.cfa_conflict.specs.Conflicts.{is_live, first_visit, is_visited_after, unsettled_conflict, restart_of, unsure_by, unsure_at, undone, undone_by, undone_by_other, undone_by_later, undone_from, conflicts_at, conflicts_from, conflicts, live_instances, first_or_accepted, verdict_of}
 use Rattle.cfa_conflict.specs.Analyses.{verdict_over, analysis_of}
 use Rattle.cfa_demo_laws.specs.Accepted.{DemoIsAccepted}
 use Rattle.cfa_demo_laws.proofs.Acting.{IsActOf}
