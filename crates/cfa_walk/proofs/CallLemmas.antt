@@ -24,10 +24,12 @@ use Rattle.cfa_states.specs.Levels.{GoesTo, IsTooLarge, is_quiet, EndedAs, Fault
 use Rattle.cfa_states.specs.Numbered.{Numbered, name_of, numbered_in, params_of}
 use Rattle.cfa_states.specs.Builds.{BuiltOn}
 use Rattle.cfa_states.specs.Passes.{Course, goes, bind, activation, called_by, calls_of}
-use Rattle.cfa_walk.specs.Steps.{passes_level, call_course, BeginsCall, CallEnds}
+use Rattle.cfa_visits.specs.Calling.{BeginsCall}
+use Rattle.cfa_walk.specs.Steps.{passes_level, call_course, CallEnds}
 use Rattle.cfa_states.specs.Tellers.{Teller, worst_in, inner_path}
 use Rattle.cfa_states.specs.Views.{Setting, Home, shared_names}
 use Rattle.cfa_states.specs.lemmas.Courses.{goes_weaker, passed_bind}
+use Rattle.cfa_visits.specs.lemmas.Calls.{begun_kept, unshared}
 use Rattle.cfa_walk.proofs.LevelLemmas.{quietly_behind, later_same}
 use Rattle.cfa_states.specs.lemmas.Keeping.{keeps_begun}
 use Rattle.cfa_states.specs.lemmas.Spared.{spare_none, spare_then, spare_begun, inner_has_newline}
@@ -67,29 +69,6 @@ module _ (instance : Instance) (name : List ℕ) (given : List Datum) (is_call :
 ended : (instance : Instance) (name : List ℕ) (given : List Datum) → instance.work ≡ Call name given → (worst : Outcome) (h : History) → worst ≡ worst_in h (inner_path instance) →
     EndedAs instance.work instance worst h
 ended instance name given is_call worst h is = subst (λ (work : Work). EndedAs work instance worst h) (sym is_call) is
-
-begun_kept : (path : List ℕ) (given : List Datum) (h : History) → worst_in (Begun path given ∷ h) path ≡ Kept
-begun_kept path given h = rw (same_text path, worst_in) refl
-
-unshared : (policy : PolicyTree) (s : Setting) (instance : Instance) → HasPlainNames policy → s.policy ≡ policy → is_listed (shared_names s.policy) (inner_path instance) ≡ false
-unshared policy s instance plain same =
-    ap (λ (p : PolicyTree). is_listed (shared_names p) (inner_path instance)) same ∙ plain (inner_path instance) (inner_has_newline instance)
-
--- ---- how a call begins
-
--- its parameters are set in an activation of its path
-module _ (path its_path name : List ℕ) (status : Status) (is : its_path ≡ path) (a a' : Activation) (of : IsOf its_path name status a) (same : IsSame a a') where
-  pub bound_is : IsOf path name status a'
-  bound_is = record { path = same.path ∙ (of.path ∙ is); bundle = same.bundle ∙ of.bundle; status = same.status ∙ of.status }
-
-  pub bound_begins : (params : List NamedTree) (given : List Datum) (st st' : State) →
-      ((s : Setting) (state : State) (h : History) (values : List Datum) → Keeps s state h → is_listed (shared_names s.policy) its_path ≡ false →
-      Stands s state a (Begun its_path values ∷ h)) →
-      ((s : Setting) (h : History) → Stands s st a h → Stands s st' a' (bind a.path params given h)) → BeginsCall path params given st st' a'
-  bound_begins params given st st' begins binds = λ s h keeps own.
-      subst (λ (x : List ℕ). Stands s st' a' (bind x params given (Begun x given ∷ h))) is
-      (subst (λ (x : List ℕ). Stands s st' a' (bind x params given (Begun its_path given ∷ h))) of.path
-      (binds s (Begun its_path given ∷ h) (begins s st h given keeps (ap (λ (x : List ℕ). is_listed (shared_names s.policy) x) is ∙ own))))
 
 -- ---- how a call ends
 

@@ -26,36 +26,6 @@ use Rattle.cfa_states.specs.Views.{Setting, Home, guard_status}
 use Rattle.cfa_states.specs.lemmas.Built.{calls_kept, promises_kept}
 use Rattle.cfa_walk.proofs.LevelLemmas.{QuietKeeps, then_assoc, then_same, each_one, quiet_is, quiet_nothing, quiet_then, quiet_stops}
 
--- ---- types
-
-same_type : (type : PromiseType) → is_type type type ≡ true
-same_type Vars = refl
-same_type Classes = refl
-same_type Files = refl
-same_type Methods = refl
-same_type Services = refl
-same_type Reports = refl
-same_type DeleteLines = refl
-same_type FieldEdits = refl
-same_type InsertLines = refl
-same_type ReplacePatterns = refl
-
-pub is_same_type : (type other : PromiseType) → other ≡ type → is_type type other ≡ true
-is_same_type type other same = ap (λ x. is_type type x) same ∙ same_type type
-
-pub is_other_type : (type other : PromiseType) → (other ≡ type → ⊥) → is_type type other ≡ false
-is_other_type Vars Vars other = absurd (other refl)
-is_other_type Classes Classes other = absurd (other refl)
-is_other_type Files Files other = absurd (other refl)
-is_other_type Methods Methods other = absurd (other refl)
-is_other_type Services Services other = absurd (other refl)
-is_other_type Reports Reports other = absurd (other refl)
-is_other_type DeleteLines DeleteLines other = absurd (other refl)
-is_other_type FieldEdits FieldEdits other = absurd (other refl)
-is_other_type InsertLines InsertLines other = absurd (other refl)
-is_other_type ReplacePatterns ReplacePatterns other = absurd (other refl)
-is_other_type type found other = refl
-
 pub other_is_classes : (type : PromiseType) → IsTrue (is_in_common type) → (type ≡ Vars → ⊥) → type ≡ Classes
 other_is_classes Vars common other = absurd (other refl)
 other_is_classes Classes common other = refl
@@ -67,24 +37,6 @@ other_is_classes DeleteLines common other = cc
 other_is_classes FieldEdits common other = cc
 other_is_classes InsertLines common other = cc
 other_is_classes ReplacePatterns common other = cc
-
-type_agrees : (type : PromiseType) → sameb the_types type type ≡ true
-type_agrees Vars = refl
-type_agrees Classes = refl
-type_agrees Files = refl
-type_agrees Methods = refl
-type_agrees Services = refl
-type_agrees Reports = refl
-type_agrees DeleteLines = refl
-type_agrees FieldEdits = refl
-type_agrees InsertLines = refl
-type_agrees ReplacePatterns = refl
-
-pub types_agree : (type other : PromiseType) → true ≡ sameb the_types type other → type ≡ other
-types_agree type other e = same_true the_types (search rules) _ _ (sym e)
-
-pub types_differ : (type other : PromiseType) → false ≡ sameb the_types type other → type ≡ other → ⊥
-types_differ type other e same = false≢true (e ∙ ap (λ x. sameb the_types type x) (sym same) ∙ type_agrees type)
 
 -- ---- a promise of a common bundle
 

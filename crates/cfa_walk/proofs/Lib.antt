@@ -1,14 +1,10 @@
 pub mod CallLemmas
 pub mod CommonLemmas
 pub mod CountLemmas
-pub mod EndingLemmas
-pub mod FactLemmas
 pub mod LevelLemmas
 pub mod ListingLemmas
 pub mod LoopLemmas
 pub mod PassLemmas
 pub mod QuietLemmas
-pub mod RememberedLemmas
-pub mod ServedLemmas
 pub mod VisitLemmas
 pub mod WalkLemmas

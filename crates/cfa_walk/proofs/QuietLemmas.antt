@@ -9,7 +9,8 @@ use Rattle.cfa_tree.specs.Tree.{BlockTree, PolicyTree}
 use Rattle.cfa_served.specs.Served.{common_bundles_of}
 use Rattle.cfa_states.specs.declared.states.State.{State}
 use Rattle.cfa_states.specs.declared.activations.Activation.{Activation}
-use Rattle.cfa_walk.specs.Steps.{Walk, IsClear, KeepsClear, HasQuietlyGone, QuietWalkDone, common_walk, commons_walk, passes_walk, common_type_level, common_level}
+use Rattle.cfa_walk.specs.Steps.{Walk, KeepsClear, HasQuietlyGone, QuietWalkDone, common_walk, commons_walk, passes_walk, common_type_level, common_level}
+use Rattle.cfa_visits.specs.Clear.{IsClear}
 use Rattle.cfa_states.specs.Builds.{BuiltOn}
 use Rattle.cfa_states.specs.History.{History, everywhere}
 use Rattle.cfa_states.specs.Kept.{Keeps, Stands, IsOf, IsUntouched, SpareLocals, home_of}

@@ -12,7 +12,8 @@ use Rattle.cfa_served.specs.Served.{bundle_of}
 use Rattle.cfa_tree.specs.Tree.{NamedTree, BlockTree, PolicyTree}
 use Rattle.cfa_states.specs.declared.states.State.{State}
 use Rattle.cfa_states.specs.declared.activations.Activation.{Activation}
-use Rattle.cfa_walk.specs.Steps.{Walk, IsClear, HasQuietlyGone, QuietWalkDone, passes_walk, HasGone, WalkDone, WalkEnds, agent_walk, sequence_walk, bundle_walk, passes_level, to_state}
+use Rattle.cfa_walk.specs.Steps.{Walk, HasQuietlyGone, QuietWalkDone, passes_walk, HasGone, WalkDone, WalkEnds, agent_walk, sequence_walk, bundle_walk, passes_level, to_state}
+use Rattle.cfa_visits.specs.Clear.{IsClear}
 use Rattle.cfa_states.specs.Builds.{BuiltOn}
 use Rattle.cfa_states.specs.History.{History, Event, Begun, within}
 use Rattle.cfa_states.specs.Kept.{Keeps, Stands, IsOf}

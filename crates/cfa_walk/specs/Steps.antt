@@ -40,6 +40,7 @@ use Rattle.cfa_served.specs.Served.{bundle_of}
 use Rattle.cfa_base.specs.Index.{is_listed}
 use Rattle.cfa_states.specs.Waits.{waits_in}
 use Rattle.cfa_states.specs.declared.endings.Ending.{Ending}
+use Rattle.cfa_visits.specs.Clear.{IsClear}
 use Rattle.cfa_walk.specs.declared.listing.WalkErr.{WalkErr}
 use Rattle.cfa_walk.specs.declared.listing.WalkErr.TheVariants as refusals
 
@@ -88,66 +89,6 @@ module _ (depth : ℕ) where
   call_course instance (Acts acts) status s t h = goes h
   call_course instance (Report content) status s t h = goes h
 
--- an instance of the activation of this path, whose promise is one that a policy may have
-abbrev pub IsAt : (path : List ℕ) → Instance → Type 0
-IsAt path instance = (instance.path ≡ path) × IsCounted instance.source
-
-abbrev pub AreCounted : List Numbered → Type 0
-AreCounted ps = All (λ (p : Numbered). IsCounted p.id) ps
-
--- what a promise resolves to, where it is reached
-abbrev pub resolution_at : Setting → Home → Numbered → History → Resolved
-resolution_at s home p h =
-    resolution (reached_in_history s h home p.type p)
-
-abbrev pub reached_event : Home → Numbered → (guard : Status) → Resolved → History → History
-reached_event home p guard resolved h = Reached home p guard false resolved.visits ∷ h
-
--- the instances among what was found out, if anything was
-abbrev pub instances_of : Option Found → List Instance
-instances_of None = []
-instances_of (Some found) = found.resolved.instances
-
-abbrev pub found_by : Option Found → Result (Unit {0}) Stop → Result (List Instance) Stop
-found_by kept (Ok done) = Ok (instances_of kept)
-found_by kept (Err stop) = Err stop
-
--- what stops a run in which a promise isn't resolved
-abbrev pub stop_of : ResolveErr → Stop
-stop_of TooLarge = Visits
-stop_of (PatternTooBig text) = Pattern text
-stop_of NoMemory = Memory
-
--- the visits of a promise are counted, and what is unsettled in its edits is noted
-abbrev pub counted_in : Resolved → State → State
-counted_in resolved st = record st {
-  left = st.left - resolved.visits;
-  log = logged_blames (filter_map (blame_edit (source_of st.environment)) resolved.unsettled) st.log;
-}
-
--- the visits of a promise were counted, and these are its instances
-module _ (policy : PolicyTree) (p : Numbered) (guard : Status) where
-  abbrev pub Counts : (st st' : State) → (a a' : Activation) → Result (List Instance) Stop → Type 0
-  Counts st st' a a' (Ok instances) =
-      (s : Setting) (home : Home) (status : Status) (h : History) → StandsAt policy s home status st a h →
-      (instances ≡ (resolution_at s home p h).instances)
-      × (IsTrue (nat_le ((resolution_at s home p h).visits + visits_in h) most_visits)
-      × StandsAt policy s home status st' a' (reached_event home p guard (resolution_at s home p h) h))
-  Counts st st' a a' (Err (Outside object)) = ⊥
-  Counts st st' a a' (Err Memory) = ⊤
-  Counts st st' a a' (Err Visits) =
-      (s : Setting) (home : Home) (status : Status) (h : History) → StandsAt policy s home status st a h →
-      nat_le ((resolution_at s home p h).visits + visits_in h) most_visits ≡ false
-  Counts st st' a a' (Err (Pattern text)) =
-      (s : Setting) (home : Home) (status : Status) (h : History) → StandsAt policy s home status st a h →
-      BuiltWhere s guard h home p text
-
--- an activation of a called bundle has begun, and its parameters are set
-abbrev pub BeginsCall : (path : List ℕ) → (params : List NamedTree) → (given : List Datum) → (st st' : State) → Activation → Type 0
-BeginsCall path params given st st' a =
-    (s : Setting) (h : History) → Keeps s st h → is_listed (shared_names s.policy) path ≡ false →
-    Stands s st' a (bind path params given (Begun path given ∷ h))
-
 -- a call's bundle was gone through
 module _ {W X : Type 0} (teller : X → Teller) (agrees : W → X → Type 0) (behind : W → X → History → Type 0) (policy : PolicyTree) where
   abbrev pub HasCalled : (depth : ℕ) → Instance → Status → (w w' : W) → (st st' : State) → (called : Outcome) → Type 0
@@ -194,22 +135,11 @@ is_in_common Vars = true
 is_in_common Classes = true
 is_in_common type = false
 
--- a bundle of a checked policy, without where it lies in memory
-abbrev pub seen_bundle : Bundle → BlockTree
-seen_bundle b = plain_block (block_of b)
-
 -- whole bundles, by the setting and who tells
 abbrev pub Walk : Type 0
 Walk = Setting → Teller → History → Course
 
 -- ---- common bundles, where nothing is told
-
--- nothing is local to any path
-pub record IsClear (h : History) : Type 0 where
-  pub locals : (path class : List ℕ) → locally h path class ≡ No
-  pub sources : (path class : List ℕ) → local_source h path class ≡ None
-  pub worst : (path : List ℕ) → worst_in h path ≡ Kept
-  pub waits : (s : Setting) (path : List ℕ) → waits_in s h path ≡ None
 
 abbrev pub KeepsClear : PolicyTree → Setting → State → History → Type 0
 KeepsClear policy s st h = (s.policy ≡ policy) × (Keeps s st h × IsClear h)
@@ -243,13 +173,6 @@ commons_walk blocks s t = commons_from s t blocks
 
 abbrev pub passes_walk : Walk
 passes_walk s t = common_passes s t 3
-
--- a scope may be referred to from everywhere
-abbrev pub IsShared : PolicyTree → (name : List ℕ) → Type 0
-IsShared policy name = is_listed (shared_names policy) name ≡ true
-
-abbrev pub HasSharedName : PolicyTree → BlockTree → Type 0
-HasSharedName policy block = IsShared policy (name_of block)
 
 -- ---- bundles of the sequence
 
@@ -306,14 +229,3 @@ bundle_walk name s t = in_sequence s t name (bundle_of s.policy name)
 
 abbrev pub sequence_walk : List (List ℕ) → Walk
 sequence_walk names s t = sequence_from s t names
-
--- The classes that are raised for how an instance ended, or may end.
-
-abbrev pub raise_ending : Instance → Ending → Status → History → History
-raise_ending instance ending status h = raise_lists instance (outcomes_in ending) (outcomes_in ending) status h
-
--- The promises of each bundle that is found have ids that a policy may have.
-
-abbrev pub HasCountedIds : PolicyTree → Type 0
-HasCountedIds policy =
-    (name : List ℕ) (block : BlockTree) → bundle_of policy name ≡ Some block → AreCounted (numbered_in block)

@@ -2,12 +2,8 @@
 #![tactic(auto)]
 
 mod contexts;
-mod counting;
-mod ending;
-mod facts;
 mod listing;
 mod passing;
-mod remembered;
 mod scenes;
 mod tellers;
 mod visiting;

@@ -6,14 +6,15 @@ ghost use Rattle.cfa_schema.specs.Seen.{tree_of};
 ghost use Rattle.cfa_states.specs.Kept.{AreLater, GuardsRepeat, RowHolds, RowsHold, guard_now, seen_numbered};
 ghost use Rattle.cfa_states.specs.Levels.{Ends, HasPlainNames};
 ghost use Rattle.cfa_states.specs.Numbered.{agent_types};
-ghost use Rattle.cfa_walk.specs.Steps.{AreCounted, acting_level, reach_level, type_level, pass_level, passes_level};
+ghost use Rattle.cfa_visits.specs.Bundles.{AreCounted};
+ghost use Rattle.cfa_walk.specs.Steps.{acting_level, reach_level, type_level, pass_level, passes_level};
 
-use crate::counting::{count_instances, instances_of};
 use crate::scenes::Scene;
 use crate::tellers::Teller;
 use crate::visiting::visit_each;
 use cfa_base::Patterns;
 use cfa_kinds::PromiseType;
+use cfa_visits::{count_instances, instances_of};
 use cfa_output::Stop;
 use cfa_states::{
     Activation, Found, Numbered, State, guard_known, pass_over, reach_classes, reach_vars,

@@ -1,59 +1,29 @@
 // Visits of instances, and the calls in them.
-ghost use Rattle.std.specs.Prelude.{◌≡◌, ◌≢◌, ◌∷◌, All, IfOk, OnOk, map};
+ghost use Rattle.std.specs.Prelude.{◌≡◌, ◌≢◌, ◌∷◌, All, IfOk, OnOk};
 ghost use Rattle.cfa_outcomes.specs.Environments.{mark_of};
 ghost use Rattle.cfa_schema.specs.Laws.{IsCounted};
 ghost use Rattle.cfa_schema.specs.Seen.{tree_of};
-ghost use Rattle.cfa_tree.specs.Plain.{plain_named};
 ghost use Rattle.cfa_states.specs.History.{History, Listed};
-ghost use Rattle.cfa_states.specs.Kept.{AreLater, IsLater, IsOf, Keeps};
+ghost use Rattle.cfa_states.specs.Kept.{AreLater, IsLater, Keeps};
 ghost use Rattle.cfa_states.specs.Levels.{Ends, HasPlainNames};
 ghost use Rattle.cfa_states.specs.Passes.{visit_status};
-ghost use Rattle.cfa_states.specs.Tellers.{inner_path};
 ghost use Rattle.cfa_states.specs.Views.{Setting};
 ghost use Rattle.cfa_states.specs.Waits.{waits_in};
-ghost use Rattle.cfa_walk.specs.Steps.{IsAt, BeginsCall, CallEnds, visit_level, instances_level};
+ghost use Rattle.cfa_visits.specs.Counting.{IsAt};
+ghost use Rattle.cfa_walk.specs.Steps.{CallEnds, visit_level, instances_level};
 
-use crate::ending::{end_visit, visit_status};
-use crate::facts::ids_are_counted;
 use crate::passing::go_through;
-use crate::remembered::remembered_in;
 use crate::scenes::Scene;
 use crate::tellers::Teller;
 use cfa_base::{Name, NoMemory, Parts, Patterns};
+use cfa_visits::{begin_call, end_visit, ids_are_counted, remembered_in, visit_status};
 use cfa_outcomes::Outcome;
 use cfa_output::Stop;
 use cfa_resolve::{Instance, Work};
-use cfa_states::{Activation, State, bind, inner_path};
+use cfa_states::{Activation, State};
 use cfa_statuses::Status;
-use cfa_tree::Named;
 use cfa_vars::Datum;
 use std::alloc::Global;
-
-// Begins an activation of the bundle of a call, with its parameters set.
-fn begin_call(
-    alloc: Global,
-    instance: &Instance,
-    name: &Name,
-    given: &Parts<Datum>,
-    status: Status,
-    params: &[Named],
-    state: &mut State,
-) -> Result<Activation, NoMemory>
-    ensures is_of { IfOk result (IsOf (inner_path instance.now) name.now status) }
-    ensures stands { IfOk result (BeginsCall (inner_path instance.now)
-        (map plain_named params.now) given.now state.old state.new) }
-    ensures later { OnOk result (IsLater state.old state.new) }
-{
-    let path = inner_path(alloc, instance)?;
-    let mut activation = Activation::of_call(alloc, path, name, status)?;
-    match bind(alloc, params, given.as_slice(), state, &mut activation) {
-        Ok(()) => Ok(activation),
-        Err(error) => {
-            drop(activation);
-            Err(error)
-        }
-    }
-}
 
 // Goes through the bundle of a call, and answers its worst outcome.
 #[cycle(passes)]

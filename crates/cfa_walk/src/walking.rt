@@ -3,20 +3,20 @@ ghost use Rattle.std.specs.Prelude.{◌≡◌, [], ◌∷◌, ℕ, All, IsTrue, 
 ghost use Rattle.cfa_schema.specs.Seen.{tree_of};
 ghost use Rattle.cfa_served.specs.Served.{bundle_of};
 ghost use Rattle.cfa_tree.specs.Tree.{PolicyTree};
-ghost use Rattle.cfa_walk.specs.Steps.{is_in_common, seen_bundle, IsShared, QuietWalkDone, WalkEnds, common_walk, commons_walk, passes_walk, agent_walk, bundle_walk, sequence_walk, common_level, common_type_level, to_state};
+ghost use Rattle.cfa_visits.specs.Bundles.{seen_bundle, IsShared};
+ghost use Rattle.cfa_walk.specs.Steps.{is_in_common, QuietWalkDone, WalkEnds, common_walk, commons_walk, passes_walk, agent_walk, bundle_walk, sequence_walk, common_level, common_type_level, to_state};
 ghost use Rattle.cfa_walk.specs.declared.contexts.Context.{Context as AnyContext};
 ghost use Rattle.cfa_states.specs.Levels.{FaultsAre, PatternsAre, QuietDone};
 ghost use Rattle.cfa_states.specs.Kept.{Keeps, seen_numbered};
 ghost use Rattle.cfa_walk.specs.Settings.{setting_of};
 ghost use Rattle.cfa_walk.specs.Walked.{HasRun, HasRunTo};
 
-use crate::facts::{ids_are_counted, names_are_plain};
 use crate::passing::go_through;
-use crate::remembered::remembered_in;
 use crate::scenes::Scene;
 use crate::{Context, Teller};
 use cfa_base::{Name, Patterns};
 use cfa_kinds::{BundleType, PromiseType, bundle_type};
+use cfa_visits::{ids_are_counted, names_are_plain, remembered_in};
 use cfa_output::Stop;
 use cfa_schema::Checked;
 use cfa_states::{

@@ -8,9 +8,12 @@ use Rattle.cfa_kinds.specs.declared.kinds.PromiseType.TheVariants.{Vars}
 use Rattle.cfa_schema.specs.Laws.{IsCounted}
 use Rattle.cfa_outcomes.specs.Environments.{mark_of}
 use Rattle.cfa_served.specs.Served.{bundle_of}
-use Rattle.cfa_walk.specs.Steps.{seen_bundle, instances_of, IsAt, AreCounted, BeginsCall, CallEnds, visit_level, instances_level, acting_level, type_level, types_level, pass_level, passes_level}
+use Rattle.cfa_visits.specs.Bundles.{seen_bundle, AreCounted}
+use Rattle.cfa_visits.specs.Calling.{BeginsCall}
+use Rattle.cfa_visits.specs.Counting.{instances_of, IsAt}
+use Rattle.cfa_walk.specs.Steps.{CallEnds, visit_level, instances_level, acting_level, type_level, types_level, pass_level, passes_level}
 use Rattle.cfa_states.specs.Kept.{GuardsRepeat, RowHolds, RowsHold, seen_numbered}
-use Rattle.cfa_walk.proofs.ServedLemmas.{all_held, found_name}
+use Rattle.cfa_visits.specs.lemmas.Served.{all_held, found_name}
 use Rattle.cfa_walk.proofs.+passes.Goals.{passing::reach_type-then-eq+in_ok-reach, passing::reach_type-else-eq}
 use Rattle.cfa_resolve.specs.declared.instances.Instance.{Instance}
 use Rattle.cfa_resolve.specs.Resolution.{is_acting}
@@ -25,10 +28,11 @@ use Rattle.cfa_states.specs.Tellers.{inner_path}
 use Rattle.cfa_tree.specs.Plain.{plain_named}
 use Rattle.cfa_tree.specs.Tree.{NamedTree}
 use Rattle.cfa_base.specs.lemmas.Firsts.{one_taken}
-use Rattle.cfa_walk.proofs.CommonLemmas.{in_parts, of_item, is_same_type, is_other_type, types_agree, types_differ}
+use Rattle.cfa_walk.proofs.CommonLemmas.{in_parts, of_item}
+use Rattle.cfa_visits.specs.lemmas.Types.{is_same_type, is_other_type, types_agree, types_differ}
 use Rattle.cfa_states.specs.lemmas.Statuses.{statuses_agree, statuses_differ}
 use Rattle.cfa_states.specs.lemmas.Later.{are_same, are_then, later_same, later_then, state_ok, with_state}
-use Rattle.cfa_walk.proofs.RememberedLemmas.{then_are, before_next, guard_read, repeated_before, inside_map, row_at, row_ok, rows_set, seen_at}
+use Rattle.cfa_visits.specs.lemmas.Remembered.{then_are, before_next, guard_read, repeated_before, inside_map, row_at, row_ok, rows_set, seen_at}
 use Rattle.cfa_walk.proofs.LoopLemmas.{loop_begins, loop_goes_on, loop_stops}
 use Rattle.cfa_walk.proofs.PassLemmas.{type_keeps, visit_keeps, first_stops, second_stops, passes_end, type_begins, type_goes_on, type_leaves, type_stops, reached_unset, reached_vars, reached_classes, reached_acting, reached_left, left_type, acting_type, no_answer}
 use Rattle.cfa_walk.proofs.CountLemmas.{acting_ends, count_stops}

@@ -5,7 +5,7 @@ use Rattle.cfa_states.specs.Kept.{AreLater, RowsHold, seen_numbered}
 use Rattle.cfa_states.specs.Levels.{Ends}
 use Rattle.cfa_states.specs.Numbered.{agent_types}
 use Rattle.cfa_walk.specs.Steps.{instances_level, type_level, types_level}
-use Rattle.cfa_walk.proofs.RememberedLemmas.{BeforeHolds}
+use Rattle.cfa_visits.specs.Remembering.{BeforeHolds}
 use Rattle.cfa_walk.proofs.+passes.Given as goal
 
 abbrev pub decreases-visiting::activate : goal.decreases-visiting::activate

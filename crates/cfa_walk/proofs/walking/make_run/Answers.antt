@@ -1,10 +1,11 @@
 use Rattle.std.proofs.Common.{◌∙◌, List, ℕ, All, subst, sym}
 use Rattle.cfa_base.specs.lemmas.Results.{on_err}
 use Rattle.cfa_schema.specs.Seen.{tree_of}
-use Rattle.cfa_walk.specs.Steps.{IsShared, to_state}
+use Rattle.cfa_visits.specs.Bundles.{IsShared}
+use Rattle.cfa_walk.specs.Steps.{to_state}
 use Rattle.cfa_walk.specs.Settings.{setting_of}
 use Rattle.cfa_walk.specs.Walked.{HasRunTo}
-use Rattle.cfa_walk.proofs.ServedLemmas.{sequence_shared}
+use Rattle.cfa_visits.specs.lemmas.Served.{sequence_shared}
 use Rattle.cfa_walk.proofs.WalkLemmas.{run_stops, sequence_ends}
 use Rattle.cfa_walk.proofs.walking.make_run.Goals as goal
 

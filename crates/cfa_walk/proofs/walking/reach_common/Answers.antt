@@ -5,7 +5,8 @@ use Rattle.cfa_resolve.specs.Resolution.{is_acting}
 use Rattle.cfa_states.specs.Kept.{seen_numbered}
 use Rattle.cfa_walk.specs.Steps.{common_type_level}
 use Rattle.cfa_walk.proofs.LevelLemmas.{quiet_nothing}
-use Rattle.cfa_walk.proofs.CommonLemmas.{is_same_type, is_other_type, other_is_classes, types_agree, types_differ, other_left, common_unset, common_vars, common_classes}
+use Rattle.cfa_walk.proofs.CommonLemmas.{other_is_classes, other_left, common_unset, common_vars, common_classes}
+use Rattle.cfa_visits.specs.lemmas.Types.{is_same_type, is_other_type, types_agree, types_differ}
 use Rattle.cfa_states.specs.lemmas.Statuses.{statuses_agree, statuses_differ, flipped, flipped_true}
 use Rattle.cfa_walk.proofs.walking.reach_common.Goals as goal
 

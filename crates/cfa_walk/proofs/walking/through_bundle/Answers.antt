@@ -1,14 +1,14 @@
 use Rattle.std.proofs.Common.{◌≡◌, ◌∙◌, [], ◌∷◌, List, map, subst, ap, sym}
 use Rattle.cfa_base.specs.lemmas.Options.{some_at}
 use Rattle.cfa_schema.specs.Seen.{tree_of}
-use Rattle.cfa_walk.specs.Steps.{seen_bundle, AreCounted}
+use Rattle.cfa_visits.specs.Bundles.{seen_bundle, AreCounted}
 use Rattle.cfa_statuses.specs.declared.levels.Status.TheVariants.{Yes}
 use Rattle.cfa_states.specs.declared.numbered.Numbered.{Numbered as Held}
 use Rattle.cfa_states.specs.History.{History, Begun}
 use Rattle.cfa_states.specs.Kept.{Keeps, Stands, IsOf, GuardsRepeat, RowsHold, seen_numbered}
 use Rattle.cfa_states.specs.Numbered.{numbered_in}
 use Rattle.cfa_states.specs.Views.{Setting}
-use Rattle.cfa_walk.proofs.ServedLemmas.{found_name}
+use Rattle.cfa_visits.specs.lemmas.Served.{found_name}
 use Rattle.cfa_walk.proofs.WalkLemmas.{agent_gone}
 use Rattle.cfa_walk.proofs.walking.through_bundle.Goals as goal
 

@@ -1,6 +1,6 @@
 use Rattle.std.proofs.Common.{◌∙◌, ap, length, map}
 use Rattle.cfa_base.specs.lemmas.Options.{some_at}
-use Rattle.cfa_walk.specs.Steps.{seen_bundle}
+use Rattle.cfa_visits.specs.Bundles.{seen_bundle}
 use Rattle.cfa_statuses.specs.declared.levels.Status.TheVariants.{Yes}
 use Rattle.cfa_states.specs.History.{History}
 use Rattle.cfa_states.specs.Kept.{Keeps, Stands, IsOf, IsUntouched, seen_numbered}

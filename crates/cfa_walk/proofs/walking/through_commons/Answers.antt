@@ -5,10 +5,11 @@ use Rattle.cfa_tree.specs.declared.blocks.Bundle.{Bundle}
 use Rattle.cfa_tree.specs.Tree.{BlockTree}
 use Rattle.cfa_schema.specs.Seen.{tree_of}
 use Rattle.cfa_served.specs.Served.{common_bundles_of}
-use Rattle.cfa_walk.specs.Steps.{Walk, QuietWalkDone, IsShared, commons_walk, passes_walk, seen_bundle}
+use Rattle.cfa_visits.specs.Bundles.{IsShared, seen_bundle}
+use Rattle.cfa_walk.specs.Steps.{Walk, QuietWalkDone, commons_walk, passes_walk}
 use Rattle.cfa_states.specs.Passes.{then_on}
 use Rattle.cfa_walk.proofs.QuietLemmas.{commons_keep, twice_keeps, walk_then, walk_stops, commons_thrice}
-use Rattle.cfa_walk.proofs.ServedLemmas.{commons_shared}
+use Rattle.cfa_visits.specs.lemmas.Served.{commons_shared}
 use Rattle.cfa_walk.proofs.walking.through_commons.Goals as goal
 
 abbrev seen : Bor Bundle → BlockTree

@@ -3,7 +3,8 @@ use Rattle.std.specs.Prelude.{Ok, Err}
 use Rattle.cfa_base.specs.lemmas.Results.{on_err}
 use Rattle.cfa_tree.specs.declared.blocks.Bundle.{Bundle}
 use Rattle.cfa_tree.specs.Tree.{BlockTree}
-use Rattle.cfa_walk.specs.Steps.{QuietWalkDone, IsShared, commons_walk, seen_bundle}
+use Rattle.cfa_visits.specs.Bundles.{IsShared, seen_bundle}
+use Rattle.cfa_walk.specs.Steps.{QuietWalkDone, commons_walk}
 use Rattle.cfa_base.specs.lemmas.Firsts.{one_taken}
 use Rattle.cfa_walk.proofs.CommonLemmas.{in_parts, of_item}
 use Rattle.cfa_walk.proofs.QuietLemmas.{commons_nothing, commons_then, commons_stop}

@@ -1,7 +1,8 @@
 use Rattle.std.proofs.Common.{◌≡◌, All, Bor, take, map}
 use Rattle.cfa_tree.specs.declared.blocks.Bundle.{Bundle}
 use Rattle.cfa_tree.specs.Tree.{PolicyTree}
-use Rattle.cfa_walk.specs.Steps.{HasQuietlyGone, IsShared, commons_walk, seen_bundle}
+use Rattle.cfa_visits.specs.Bundles.{IsShared, seen_bundle}
+use Rattle.cfa_walk.specs.Steps.{HasQuietlyGone, commons_walk}
 use Rattle.cfa_walk.proofs.walking.through_each.Given as goal
 
 -- the first bundles were gone through

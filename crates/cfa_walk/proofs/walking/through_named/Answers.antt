@@ -2,7 +2,7 @@ use Rattle.std.proofs.Common.{◌≡◌, ◌∙◌, Some, sym, ap}
 use Rattle.cfa_schema.specs.Seen.{tree_of}
 use Rattle.cfa_served.specs.Served.{bundle_of}
 use Rattle.cfa_kinds.specs.Kinds.{bundle_type}
-use Rattle.cfa_walk.specs.Steps.{seen_bundle}
+use Rattle.cfa_visits.specs.Bundles.{seen_bundle}
 use Rattle.cfa_walk.proofs.WalkLemmas.{named_gone}
 use Rattle.cfa_walk.proofs.walking.through_named.Goals as goal
 

@@ -1,0 +1,4 @@
+mod CallLemmas
+mod CountLemmas
+mod EndingLemmas
+mod FactLemmas
