@@ -1,5 +1,6 @@
--- What holds of each event but an actuation, and of one history after the other, holds of a move and of an answer.
-use Rattle.std.proofs.Common.{◌≡◌, ℕ, zero, suc, ◌+◌, Bool, true, false, List, [], ◌∷◌, length, Option, Some, None, refl, nat_le}
+-- What holds of each event that a teller needn't hear of, and of one history after the other, holds of a move; and of an answer
+-- what holds besides of each event but an actuation.
+use Rattle.std.proofs.Common.{◌≡◌, ℕ, zero, suc, ◌+◌, Bool, IsTrue, true, false, List, [], ◌∷◌, length, Option, Some, None, refl, nat_le}
 use Rattle.cfa_defines.specs.ClassPromises.{Raise, raises_of}
 use Rattle.cfa_defines.specs.FirstMaybe.{first_maybe_of_guard}
 use Rattle.cfa_defines.specs.VarsPromises.{setting_choices, count_choices, data_set}
@@ -16,6 +17,7 @@ use Rattle.cfa_resolve.specs.declared.instances.Work.{Work}
 use Rattle.cfa_resolve.specs.declared.instances.Work.TheVariants.{Acts, Call, Report}
 use Rattle.cfa_served.specs.Served.{bundle_of}
 use Rattle.cfa_states.specs.History.{History, Event, Home, Where, everywhere, Begun, Set, Raised, Reached, Listed, Told, mark_in, visits_in}
+use Rattle.cfa_states.specs.Levels.{is_quiet}
 use Rattle.cfa_states.specs.Numbered.{Numbered, params_of, is_type}
 use Rattle.cfa_states.specs.Passes.{Course, goes, too_large, most_visits, visit_status, within_limit, reached, vars_reached, classes_reached, set_each, raise_all, raise_each, raise_event, raise_lists, raised_to, in_every_list, classes_for, handed, sets_variable, bind, told}
 use Rattle.cfa_states.specs.Tellers.{inner_path}
@@ -29,13 +31,22 @@ use Rattle.cfa_frames.specs.Frames.{Ahead, Doing, Frame, Stack, asked, idle, run
 use Rattle.cfa_frames.specs.Moves.{FrameNext, stays, leaves, goes_past, Next, goes_on, is_too_large, ending, doing_need, frames_need, need_of, reached_by, resolved_next, kept_next, guarded_next, promise_next, pass_next, type_next, visit_next, instance_next, frame_next, activated, by_type_next, named_next, ahead_next, frame_moved, doing_moved, frames_moved, moved, with_doing, doing_skipped, frames_skipped, skipped, begun_by, doing_entered, frames_entered, entered, doing_ended, frames_ended, ended}
 use Rattle.cfa_frames.specs.Steps.{is_actuation}
 
+-- what a teller needn't hear of is no actuation
+pub quiet_is_none : (event : Event) → IsTrue (is_quiet event) → is_actuation event ≡ false
+quiet_is_none (Begun path given) quiet = refl
+quiet_is_none (Set path name datum) quiet = refl
+quiet_is_none (Raised place class status source) quiet = refl
+quiet_is_none (Reached home promise guard sets visits) quiet = refl
+quiet_is_none (Listed instance status) quiet = absurd cc
+quiet_is_none (Told instance outcomes) quiet = absurd cc
+
 -- the history of what comes next is so related to the one before
 abbrev pub NextHas : (History → History → Type 0) → History → Next → Type 0
 NextHas R h (goes_on st k) = R h k
 NextHas R h (is_too_large k) = R h k
 
 module _ (R : History → History → Type 0) (same : (h : History) → R h h) (joined : (h k m : History) → R h k → R k m → R h m)
-    (came : (event : Event) (h : History) → is_actuation event ≡ false → R h (event ∷ h)) where
+    (came : (event : Event) (h : History) → IsTrue (is_quiet event) → R h (event ∷ h)) where
   bind_has : (path : List ℕ) (params : List NamedTree) (given : List Datum) (h : History) → R h (bind path params given h)
   bind_has path [] given h = same h
   bind_has path (p ∷ params) [] h = same h
@@ -203,53 +214,57 @@ module _ (R : History → History → Type 0) (same : (h : History) → R h h) (
     next_has h k (goes_on st m) first next = joined h k m first next
     next_has h k (is_too_large m) first next = joined h k m first next
 
-    begun_has : (depth : ℕ) (i : Instance) (status : Status) (w : Work) (frames : List Frame) (a : Ahead) (h : History) → NextHas R h (begun_by s depth i status w frames a h)
+    pub begun_has : (depth : ℕ) (i : Instance) (status : Status) (w : Work) (frames : List Frame) (a : Ahead) (h : History) → NextHas R h (begun_by s depth i status w frames a h)
     begun_has depth i status (Acts acts) frames a h = same h
     begun_has depth i status (Report content) frames a h = same h
     begun_has zero i status (Call name given) frames a h = came (Begun (inner_path i) []) h refl
     begun_has (suc n) i status (Call name given) frames a h = activated_has n (inner_path i) status given (bundle_of s.policy name) frames a h
 
-    doing_entered_has : (d : Doing) (f : Frame) (frames : List Frame) (a : Ahead) (h : History) → NextHas R h (doing_entered s d f frames a h)
-    doing_entered_has (asked i status) f frames a h =
-        next_has h (Listed i status ∷ h) (doing_entered s (asked i status) f frames a h) (came (Listed i status) h refl)
-        (begun_has f.depth i status i.work (with_doing f (running i status) ∷ frames) a (Listed i status ∷ h))
-    doing_entered_has idle f frames a h = same h
-    doing_entered_has (running i status) f frames a h = same h
+  -- ---- answers
 
-    frames_entered_have : (frames : List Frame) (a : Ahead) (h : History) → NextHas R h (frames_entered s frames a h)
-    frames_entered_have [] a h = same h
-    frames_entered_have (f ∷ frames) a h = doing_entered_has f.doing f frames a h
+  module _ (heard : (event : Event) (h : History) → is_actuation event ≡ false → R h (event ∷ h)) where
+    module _ (s : Setting) where
+      doing_entered_has : (d : Doing) (f : Frame) (frames : List Frame) (a : Ahead) (h : History) → NextHas R h (doing_entered s d f frames a h)
+      doing_entered_has (asked i status) f frames a h =
+          next_has s h (Listed i status ∷ h) (doing_entered s (asked i status) f frames a h) (heard (Listed i status) h refl)
+          (begun_has s f.depth i status i.work (with_doing f (running i status) ∷ frames) a (Listed i status ∷ h))
+      doing_entered_has idle f frames a h = same h
+      doing_entered_has (running i status) f frames a h = same h
 
-    pub entered_has : (st : Stack) (h : History) → NextHas R h (entered s st h)
-    entered_has st h = frames_entered_have st.frames st.ahead h
+      frames_entered_have : (frames : List Frame) (a : Ahead) (h : History) → NextHas R h (frames_entered s frames a h)
+      frames_entered_have [] a h = same h
+      frames_entered_have (f ∷ frames) a h = doing_entered_has f.doing f frames a h
 
-  -- ---- answers that ask no policy
+      pub entered_has : (st : Stack) (h : History) → NextHas R h (entered s st h)
+      entered_has st h = frames_entered_have st.frames st.ahead h
 
-  doing_skipped_has : (d : Doing) (f : Frame) (frames : List Frame) (a : Ahead) (h : History) → NextHas R h (doing_skipped d f frames a h)
-  doing_skipped_has (asked i status) f frames a h = joined h (Listed i status ∷ h) (Told i [] ∷ Listed i status ∷ h) (came (Listed i status) h refl) (came (Told i []) (Listed i status ∷ h) refl)
-  doing_skipped_has idle f frames a h = same h
-  doing_skipped_has (running i status) f frames a h = same h
+    -- ---- answers that ask no policy
 
-  frames_skipped_have : (frames : List Frame) (a : Ahead) (h : History) → NextHas R h (frames_skipped frames a h)
-  frames_skipped_have [] a h = same h
-  frames_skipped_have (f ∷ frames) a h = doing_skipped_has f.doing f frames a h
+    doing_skipped_has : (d : Doing) (f : Frame) (frames : List Frame) (a : Ahead) (h : History) → NextHas R h (doing_skipped d f frames a h)
+    doing_skipped_has (asked i status) f frames a h = joined h (Listed i status ∷ h) (Told i [] ∷ Listed i status ∷ h) (heard (Listed i status) h refl) (heard (Told i []) (Listed i status ∷ h) refl)
+    doing_skipped_has idle f frames a h = same h
+    doing_skipped_has (running i status) f frames a h = same h
 
-  pub skipped_has : (st : Stack) (h : History) → NextHas R h (skipped st h)
-  skipped_has st h = frames_skipped_have st.frames st.ahead h
+    frames_skipped_have : (frames : List Frame) (a : Ahead) (h : History) → NextHas R h (frames_skipped frames a h)
+    frames_skipped_have [] a h = same h
+    frames_skipped_have (f ∷ frames) a h = doing_skipped_has f.doing f frames a h
 
-  -- where the telling itself is so
-  doing_ended_has : (os : List Outcome) (d : Doing) (f : Frame) (frames : List Frame) (a : Ahead) (h : History) →
-      ((i : Instance) (status : Status) → doing_need d ≡ ending i status → R h (Told i os ∷ h)) → NextHas R h (doing_ended os d f frames a h)
-  doing_ended_has os (running i status) f frames a h tells =
-      joined h (Told i os ∷ h) (told i os status h) (tells i status refl) (told_raises i os status h)
-  doing_ended_has os idle f frames a h tells = same h
-  doing_ended_has os (asked i status) f frames a h tells = same h
+    pub skipped_has : (st : Stack) (h : History) → NextHas R h (skipped st h)
+    skipped_has st h = frames_skipped_have st.frames st.ahead h
 
-  frames_ended_have : (os : List Outcome) (frames : List Frame) (a : Ahead) (h : History) →
-      ((i : Instance) (status : Status) → frames_need frames a ≡ ending i status → R h (Told i os ∷ h)) → NextHas R h (frames_ended os frames a h)
-  frames_ended_have os [] a h tells = same h
-  frames_ended_have os (f ∷ frames) a h tells = doing_ended_has os f.doing f frames a h tells
+    -- where the telling itself is so
+    doing_ended_has : (os : List Outcome) (d : Doing) (f : Frame) (frames : List Frame) (a : Ahead) (h : History) →
+        ((i : Instance) (status : Status) → doing_need d ≡ ending i status → R h (Told i os ∷ h)) → NextHas R h (doing_ended os d f frames a h)
+    doing_ended_has os (running i status) f frames a h tells =
+        joined h (Told i os ∷ h) (told i os status h) (tells i status refl) (told_raises i os status h)
+    doing_ended_has os idle f frames a h tells = same h
+    doing_ended_has os (asked i status) f frames a h tells = same h
 
-  pub ended_has : (os : List Outcome) (st : Stack) (h : History) →
-      ((i : Instance) (status : Status) → need_of st ≡ ending i status → R h (Told i os ∷ h)) → NextHas R h (ended os st h)
-  ended_has os st h tells = frames_ended_have os st.frames st.ahead h tells
+    frames_ended_have : (os : List Outcome) (frames : List Frame) (a : Ahead) (h : History) →
+        ((i : Instance) (status : Status) → frames_need frames a ≡ ending i status → R h (Told i os ∷ h)) → NextHas R h (frames_ended os frames a h)
+    frames_ended_have os [] a h tells = same h
+    frames_ended_have os (f ∷ frames) a h tells = doing_ended_has os f.doing f frames a h tells
+
+    pub ended_has : (os : List Outcome) (st : Stack) (h : History) →
+        ((i : Instance) (status : Status) → need_of st ≡ ending i status → R h (Told i os ∷ h)) → NextHas R h (ended os st h)
+    ended_has os st h tells = frames_ended_have os st.frames st.ahead h tells

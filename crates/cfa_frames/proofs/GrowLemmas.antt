@@ -1,10 +1,10 @@
 -- What has happened stays.
-use Rattle.std.proofs.Common.{◌≡◌, ◌∙◌, ℕ, zero, suc, Bool, true, false, List, [], ◌∷◌, ◌++◌, refl, ap, sym, subst, arith, append_assoc}
+use Rattle.std.proofs.Common.{◌≡◌, ◌∙◌, ℕ, zero, suc, Bool, IsTrue, true, false, List, [], ◌∷◌, ◌++◌, refl, ap, sym, subst, arith, append_assoc}
 use Rattle.cfa_outcomes.specs.declared.outcomes.Outcome.{Outcome}
 use Rattle.cfa_resolve.specs.Laws.{InstancesAreFew}
 use Rattle.cfa_resolve.specs.declared.instances.Instance.{Instance}
 use Rattle.cfa_states.specs.History.{History, Event, Told}
-use Rattle.cfa_states.specs.Levels.{outcomes_of}
+use Rattle.cfa_states.specs.Levels.{is_quiet, outcomes_of}
 use Rattle.cfa_states.specs.Passes.{Course, goes, too_large}
 use Rattle.cfa_states.specs.Tellers.{Teller}
 use Rattle.cfa_states.specs.Views.{Setting}
@@ -29,8 +29,11 @@ grows_then h k m hk km =
 one_came : (event : Event) (h : History) → Grows h (event ∷ h)
 one_came event h = (event ∷ [], refl)
 
-came : (event : Event) (h : History) → is_actuation event ≡ false → Grows h (event ∷ h)
+came : (event : Event) (h : History) → IsTrue (is_quiet event) → Grows h (event ∷ h)
 came event h quiet = one_came event h
+
+heard : (event : Event) (h : History) → is_actuation event ≡ false → Grows h (event ∷ h)
+heard event h none = one_came event h
 
 -- ---- moves and answers
 
@@ -42,15 +45,15 @@ pub moved_grows : (s : Setting) (st : Stack) (h : History) → NextGrows h (move
 moved_grows s st h = has_grown h (moved s st h) (moved_has Grows stays_same grows_then came s st h)
 
 pub entered_grows : (s : Setting) (st : Stack) (h : History) → NextGrows h (entered s st h)
-entered_grows s st h = has_grown h (entered s st h) (entered_has Grows stays_same grows_then came s st h)
+entered_grows s st h = has_grown h (entered s st h) (entered_has Grows stays_same grows_then came heard s st h)
 
 pub skipped_grows : (st : Stack) (h : History) → NextGrows h (skipped st h)
-skipped_grows st h = has_grown h (skipped st h) (skipped_has Grows stays_same grows_then came st h)
+skipped_grows st h = has_grown h (skipped st h) (skipped_has Grows stays_same grows_then came heard st h)
 
 pub ended_grows : (os : List Outcome) (st : Stack) (h : History) → NextGrows h (ended os st h)
 ended_grows os st h =
     has_grown h (ended os st h)
-    (ended_has Grows stays_same grows_then came os st h (λ (i : Instance) (status : Status) need. one_came (Told i os) h))
+    (ended_has Grows stays_same grows_then came heard os st h (λ (i : Instance) (status : Status) need. one_came (Told i os) h))
 
 pub next_grows : (h k : History) (x : Next) → Grows h k → NextGrows k x → NextGrows h x
 next_grows h k (goes_on st m) first next = grows_then h k m first next

@@ -6,6 +6,7 @@ mod LightLemmas
 mod RunLemmas
 mod AddLemmas
 mod GrowLemmas
+mod HearLemmas
 mod AlikeLemmas
 mod StandingLemmas
 mod StepLemmas

@@ -89,7 +89,7 @@ called_fits policy name = bundle_fits (heaviest policy) (find (is_bundle_of name
 
 -- ---- what waits for no answer
 
-ahead_skips_not : (commons : List BlockTree) (rounds : ℕ) (sequence : List (List ℕ)) (i : Instance) (status : Status) → ahead_need commons rounds sequence ≡ skipping i status → ⊥
+pub ahead_skips_not : (commons : List BlockTree) (rounds : ℕ) (sequence : List (List ℕ)) (i : Instance) (status : Status) → ahead_need commons rounds sequence ≡ skipping i status → ⊥
 ahead_skips_not (block ∷ commons) rounds sequence i status is = cc
 ahead_skips_not [] (suc n) sequence i status is = cc
 ahead_skips_not [] zero (name ∷ sequence) i status is = cc

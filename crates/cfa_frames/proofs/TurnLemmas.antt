@@ -1,12 +1,12 @@
 -- What a step adds to a history, and what steps come to, each with its own teller.
-use Rattle.std.proofs.Common.{◌==◌, ◌≡◌, ◌∙◌, inl, inr, ℕ, zero, suc, ◌+◌, ◌<◌, ◌≤◌, Bool, true, false, List, [], ◌∷◌, ◌++◌, length, get_or, replicate, All, refl, ap, sym, subst, arith}
+use Rattle.std.proofs.Common.{◌==◌, ◌≡◌, ◌∙◌, inl, inr, ℕ, zero, suc, ◌+◌, ◌<◌, ◌≤◌, Bool, IsTrue, true, false, List, [], ◌∷◌, ◌++◌, length, get_or, replicate, All, refl, ap, sym, subst, arith}
 use Rattle.cfa_outcomes.specs.declared.outcomes.Outcome.{Outcome}
 use Rattle.cfa_resolve.specs.Laws.{InstancesAreFew}
 use Rattle.cfa_resolve.specs.declared.instances.Instance.{Instance}
 use Rattle.cfa_resolve.specs.declared.instances.Work.{Work}
 use Rattle.cfa_resolve.specs.declared.instances.Work.TheVariants.{Acts, Call, Report}
 use Rattle.cfa_states.specs.History.{History, Event, Told}
-use Rattle.cfa_states.specs.Levels.{outcomes_of}
+use Rattle.cfa_states.specs.Levels.{is_quiet, outcomes_of}
 use Rattle.cfa_states.specs.Passes.{Course, goes, too_large, told, run}
 use Rattle.cfa_states.specs.Tellers.{Teller}
 use Rattle.cfa_states.specs.Views.{Setting}
@@ -16,7 +16,7 @@ use Rattle.cfa_frames.specs.Growing.{Grows, CourseGrows, NextGrows}
 use Rattle.cfa_frames.specs.Moves.{Meets, Next, goes_on, is_too_large, Need, nothing, skipping, ending, over, doing_need, frames_need, need_of, moved, doing_ended, frames_ended, ended, asked_next, answered}
 use Rattle.cfa_frames.specs.Steps.{has_acts, awaits_actuation, is_actuation, actuations_in, unless_last, step_within, step, IsQuiet, HasActuated, IsWhole, StepAlike, after_steps, begun, IsOver, course_at, EndsAs, history_at, AlwaysTells, by_turns, Turn, stepped_if, interleaved, handed_if, handed_to}
 use Rattle.cfa_frames.specs.Weights.{weight, IsLighter}
-use Rattle.cfa_frames.proofs.AddLemmas.{NextHas, moved_has, skipped_has, entered_has, ended_has, told_raises}
+use Rattle.cfa_frames.proofs.AddLemmas.{NextHas, quiet_is_none, moved_has, skipped_has, entered_has, ended_has, told_raises}
 use Rattle.cfa_frames.proofs.AlikeLemmas.{answered_alike}
 use Rattle.cfa_frames.proofs.AnswerLemmas.{ending_is, over_is}
 use Rattle.cfa_frames.proofs.GrowLemmas.{answered_grows, grows_then, stays_same, rest_grows}
@@ -36,6 +36,9 @@ quiet_then h k m first next = next ∙ first
 quiet_came : (event : Event) (h : History) → is_actuation event ≡ false → IsQuiet h (event ∷ h)
 quiet_came event h is = ap (λ (b : Bool). elim b [ true ↦ suc (actuations_in h) | false ↦ actuations_in h ]) is
 
+came_quietly : (event : Event) (h : History) → IsTrue (is_quiet event) → IsQuiet h (event ∷ h)
+came_quietly event h quiet = quiet_came event h (quiet_is_none event quiet)
+
 counted : (event : Event) (h : History) → is_actuation event ≡ true → actuations_in (event ∷ h) ≡ suc (actuations_in h)
 counted event h is = ap (λ (b : Bool). elim b [ true ↦ suc (actuations_in h) | false ↦ actuations_in h ]) is
 
@@ -49,7 +52,7 @@ told_counts_one i (o ∷ os) is some = is
 
 told_one : (i : Instance) (os : List Outcome) (status : Status) (h : History) → has_acts i.work ≡ true → (os ≡ [] → ⊥) → actuations_in (told i os status h) ≡ suc (actuations_in h)
 told_one i os status h is some =
-    told_raises IsQuiet quiet_same quiet_then quiet_came i os status h ∙ counted (Told i os) h (told_counts_one i os is some)
+    told_raises IsQuiet quiet_same quiet_then came_quietly i os status h ∙ counted (Told i os) h (told_counts_one i os is some)
 
 one_more_counts : (b : Bool) (n : ℕ) → n ≤ elim b [ true ↦ suc n | false ↦ n ]
 one_more_counts true n = omega arith
@@ -91,14 +94,14 @@ module _ (s : Setting) (t : Teller) where
   -- ---- what comes before it
 
   asked_quiet : (b : Bool) (st : Stack) (h : History) → NextHas IsQuiet h (asked_next s t b st h)
-  asked_quiet true st h = skipped_has IsQuiet quiet_same quiet_then quiet_came st h
-  asked_quiet false st h = entered_has IsQuiet quiet_same quiet_then quiet_came s st h
+  asked_quiet true st h = skipped_has IsQuiet quiet_same quiet_then came_quietly quiet_came st h
+  asked_quiet false st h = entered_has IsQuiet quiet_same quiet_then came_quietly quiet_came s st h
 
   answered_quiet : (x : Need) (st : Stack) (h : History) → need_of st ≡ x → awaits_actuation x ≡ false → NextHas IsQuiet h (answered s t x st h)
-  answered_quiet nothing st h need is = moved_has IsQuiet quiet_same quiet_then quiet_came s st h
+  answered_quiet nothing st h need is = moved_has IsQuiet quiet_same quiet_then came_quietly s st h
   answered_quiet (skipping i status) st h need is = asked_quiet (t.skips h i) st h
   answered_quiet (ending i status) st h need is =
-      ended_has IsQuiet quiet_same quiet_then quiet_came (outcomes_of t h i i.work) st h (λ (j : Instance) (other : Status) so.
+      ended_has IsQuiet quiet_same quiet_then came_quietly quiet_came (outcomes_of t h i i.work) st h (λ (j : Instance) (other : Status) so.
       quiet_came (Told j (outcomes_of t h i i.work)) h (told_quiet j (outcomes_of t h i i.work)
       (ap (λ (i : Instance). has_acts i.work) (ending_is j i other status (sym so ∙ need)) ∙ is)))
   answered_quiet over st h need is = refl

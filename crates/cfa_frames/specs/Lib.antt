@@ -3,5 +3,6 @@ pub mod Moves
 pub mod Weights
 pub mod Growing
 pub mod Standing
+pub mod Hearing
 pub mod Steps
 pub mod Depths

@@ -3,6 +3,7 @@ ghost use Rattle.std.specs.Prelude.{◌≡◌, ◌+◌, ◌<◌, ℕ, true, fals
 ghost use Rattle.cfa_frames.specs.Depths.{calls_before, run_with};
 ghost use Rattle.cfa_frames.specs.Frames.{Frame, Stack, beginning, rest};
 ghost use Rattle.cfa_frames.specs.Growing.{AnswerAlike, CourseGrows, NextGrows};
+ghost use Rattle.cfa_frames.specs.Hearing.{NextQuietly};
 ghost use Rattle.cfa_frames.specs.Moves.{Meets, come_to, ended, ending, entered, moved};
 ghost use Rattle.cfa_frames.specs.Moves.{need_of, nothing, over, skipped, skipping};
 ghost use Rattle.cfa_frames.specs.Standing.{AreNested, AreShorter, IsNested, NextIsNested};
@@ -10,7 +11,7 @@ ghost use Rattle.cfa_frames.specs.Weights.{IsLighter, weight};
 ghost use Rattle.cfa_outcomes.specs.declared.outcomes.Outcome.{Outcome};
 ghost use Rattle.cfa_resolve.specs.declared.instances.Instance.{Instance};
 ghost use Rattle.cfa_schema.specs.Valid.{Valid};
-ghost use Rattle.cfa_states.specs.History.{History};
+ghost use Rattle.cfa_states.specs.History.{History, Listed, Told};
 ghost use Rattle.cfa_states.specs.Levels.{outcomes_of};
 ghost use Rattle.cfa_states.specs.Passes.{Calls, all_calls, calls_of, goes, run};
 ghost use Rattle.cfa_states.specs.Tellers.{Teller};
@@ -82,6 +83,20 @@ pub fn histories_only_grow()
 {
     instances_are_few();
 }
+
+/// A move adds events alone that a teller needn't hear of. An answer adds what it is heard by, the
+/// visit that is listed or the instance that is told, and then such events.
+pub fn moves_are_quiet()
+    ensures moved { (s : Setting) (st : Stack) (h : History) → NextQuietly h (moved s st h) }
+    ensures skipped { (st : Stack) (h : History) (i : Instance) (status : Status)
+        → need_of st ≡ skipping i status
+        → NextQuietly (Told i [] ∷ Listed i status ∷ h) (skipped st h) }
+    ensures entered { (s : Setting) (st : Stack) (h : History) (i : Instance) (status : Status)
+        → need_of st ≡ skipping i status → NextQuietly (Listed i status ∷ h) (entered s st h) }
+    ensures ended { (st : Stack) (h : History) (i : Instance) (status : Status)
+        → (outcomes : List Outcome) → need_of st ≡ ending i status
+        → NextQuietly (Told i outcomes ∷ h) (ended outcomes st h) }
+{}
 
 /// The frames of a run stay nested: each but the innermost runs the call whose bundle is gone through
 /// above it. So the path of each is longer than those below.
