@@ -77,7 +77,8 @@ file /a one => Ok(())
 append run 5| => Ok(())
 lock 7 => Ok(())
 moment => Ok(Some(7))
-has changes => perms /a 0700 root root|gone /a|lock Z 7|
+has changes => gone /a|lock Z 7|
+has perms.tab => /a 0700 root root|
 has journal => run 4|run 5|
 has tree/a => one
 agent

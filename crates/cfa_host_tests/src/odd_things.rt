@@ -138,7 +138,37 @@ agent
 look /a/c => Ok(File(4))
 append done 2 repaired 1| => Ok(())
 lock 7 => Ok(())
+has changes => behind 204 Z 7|
+agent
+moment => Ok(Some(7))
+append open 3 main:3@4 Z| => Ok(())
+has locks.tab => Z 7|
+has changes => nothing
+append done 3 failed F1| => Ok(())
+lock 8 => Ok(())
+lock 9 => Ok(())
+has changes => behind 302 Z 8|lock Z 9|
 tables => true
 has changes => nothing
-has journal => run 4|open 1 main:1@2 Z|done 1 repaired 1|open 2 main:2@3 Z|done 2 repaired 1|
+has locks.tab => Z 9|
+has journal => run 4|open 1 main:1@2 Z|done 1 repaired 1|open 2 main:2@3 Z|done 2 repaired 1|open 3 main:3@4 Z|done 3 failed F1|
+== lock_without_its_record
+folder
+write journal run 4|open 1 main:1@2 Z|
+write changes service a running enabled 0|lock Z 3|behind 105 Z 5|
+moment => Ok(Some(3))
+append run 6| => Ok(())
+has changes => nothing
+has locks.tab => Z 3|
+has services.tab => a running enabled 0|
+agent
+moment => Ok(Some(3))
+== lock_with_its_record
+folder
+write journal run 4|open 1 main:1@2 Z|done 1 repaired 1|
+write changes lock Z 3|behind 105 Z 5|
+moment => Ok(Some(5))
+has changes => lock Z 3|behind 105 Z 5|
+tables => true
+has locks.tab => Z 5|
 ";

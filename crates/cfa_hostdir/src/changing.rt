@@ -1,6 +1,7 @@
 // Changes of a host. All texts are made before the first effect, and a row is put in memory before its line is written
 // and taken back where that fails. So an error leaves the host as it was.
 use crate::errors::{HostErr, Part, Why, at, refused};
+use crate::growing::When;
 use crate::held::Held;
 use crate::kept_rows::KeptRows;
 use crate::layout::Table;
@@ -43,6 +44,11 @@ fn lock_line(alloc: Global, key: &Key, moment: u64) -> Result<Bytes, HostErr> {
     line_of(alloc, RowChange::Lock(key.copy(), moment))
 }
 
+// The line of a lock that is set behind so many bytes of the journal.
+fn behind_line(alloc: Global, journal: u64, key: &Key, moment: u64) -> Result<Bytes, HostErr> {
+    line_of(alloc, RowChange::LockBehind(journal, key.copy(), moment))
+}
+
 // A row that was put stays where its line was written, and gives way to what it replaced where it wasn't.
 fn keep_if<V: Drop>(
     noted: Result<(), HostErr>,
@@ -68,7 +74,7 @@ impl<F: Write + OpenFile> Held<F> {
             Some(row) => gone_line(alloc, &row.0)?,
             None => return Ok(()),
         };
-        self.note(rt, Table::Perms, &line)?;
+        self.note(rt, Table::Perms, &line, When::AtOnce)?;
         self.tables.perms.remove(path);
         Ok(())
     }
@@ -164,7 +170,7 @@ impl<F: Write + OpenFile> Held<F> {
         let text = path.text().as_str();
         let row = perms_row(alloc, path, perms)?;
         let old = self.tables.perms.put_at(alloc, text, row)?;
-        let noted = self.note(rt, Table::Perms, line);
+        let noted = self.note(rt, Table::Perms, line, When::AtOnce);
         keep_if(noted, &mut self.tables.perms, text, old)
     }
 
@@ -194,10 +200,12 @@ impl<F: Write + OpenFile> Held<F> {
         let line = service_line(alloc, name, row)?;
         let kept = (name.copy(alloc)?, row);
         let old = self.tables.services.put_at(alloc, text, kept)?;
-        let noted = self.note(rt, Table::Services, &line);
+        let noted = self.note(rt, Table::Services, &line, When::AtOnce);
         keep_if(noted, &mut self.tables.services, text, old)
     }
 
+    // Sets a lock. Where the record before it waits for its sync, the lock waits too, and its row tells behind how many bytes of
+    // the journal it counts: the two stand in two files, and a disk may write either first.
     fn put_lock<R: Files<File = F>>(
         &mut self,
         rt: &R,
@@ -206,15 +214,36 @@ impl<F: Write + OpenFile> Held<F> {
         moment: u64,
     ) -> Result<(), HostErr> {
         let text = key.text();
-        let line = lock_line(alloc, key, moment)?;
+        let (line, when) = match self.waiting_at() {
+            Some(journal) => (behind_line(alloc, journal, key, moment)?, When::Later),
+            None => (lock_line(alloc, key, moment)?, When::AtOnce),
+        };
         let row = (key.copy(), moment);
         let old = self.tables.locks.put_at(alloc, text, row)?;
-        let noted = self.note(rt, Table::Locks, &line);
+        let noted = self.note(rt, Table::Locks, &line, when);
         keep_if(noted, &mut self.tables.locks, text, old)
     }
 
+    // Brings what waits for a sync to the disk, where a change can't wait with it, or be synced with it.
+    fn settle_before(&mut self, change: &Change) -> Result<(), HostErr> {
+        match change {
+            Change::Append(_) => self.settle_lock(),
+            Change::PutLock(_, _) => {
+                if self.waiting_at().is_some() {
+                    return Ok(());
+                }
+                self.settle()
+            }
+            Change::PutFile(_, _)
+            | Change::PutDir(_)
+            | Change::Remove(_)
+            | Change::SetPerms(_, _)
+            | Change::PutService(_, _) => self.settle(),
+        }
+    }
+
     /// Makes a change. It lasts when this returns, and was made in order. A record that tells that a repair was done lasts when
-    /// the next change or `write_tables` returns.
+    /// the next change or `write_tables` returns, and so does a lock that is set behind it.
     pub fn change<R: Files<File = F>>(
         &mut self,
         rt: &R,
@@ -222,9 +251,7 @@ impl<F: Write + OpenFile> Held<F> {
         change: &Change,
     ) -> Result<(), HostErr> {
         self.make_ready(rt, alloc)?;
-        if !matches!(change, Change::Append(_)) {
-            self.settle_journal()?;
-        }
+        self.settle_before(change)?;
         let made = match change {
             Change::PutFile(path, bytes) => {
                 self.put_leaf(rt, alloc, path, Leaf::File(bytes.as_slice()))

@@ -146,7 +146,8 @@ impl<F: Write + OpenFile> Held<F> {
     }
 
     // Brings what agents before left to the disk: the folder, the journal and the changed rows, and all folders of the
-    // tree where one was stopped in a repair.
+    // tree where one was stopped in a repair. The changed rows are written into the tables before the journal grows, so that
+    // the row of a lock that doesn't count never comes to count.
     fn bring_left<R: Files<File = F>>(&mut self, rt: &R, alloc: Global) -> Result<(), HostErr> {
         let root = self.layout.root.as_str();
         at(Part::Folder, self.settled.settle(rt, alloc, above(root)))?;
@@ -157,7 +158,7 @@ impl<F: Write + OpenFile> Held<F> {
         if self.is_open && !matches!(kind_at(rt, tree)?, Kind::Missing) {
             at(Part::Tree, self.settled.settle_beneath(rt, alloc, tree))?;
         }
-        Ok(())
+        self.fold(rt, alloc)
     }
 
     /// Makes the host ready to be changed: what agents before left is on the disk before anything is built on it.
@@ -183,9 +184,25 @@ impl<F: Write + OpenFile> Held<F> {
         self.settled.settle_above(rt, alloc, folder, from)
     }
 
-    /// Brings the last record to the disk, where that isn't done.
-    pub fn settle_journal(&mut self) -> Result<(), HostErr> {
+    /// Brings the row of the last lock to the disk, where that isn't done. It counts for nothing as long as the record before it
+    /// isn't there.
+    pub fn settle_lock(&mut self) -> Result<(), HostErr> {
+        at(Part::Changes, self.changes.settle())
+    }
+
+    /// Brings the last record, and the row of the lock behind it, to the disk, where that isn't done.
+    pub fn settle(&mut self) -> Result<(), HostErr> {
+        self.settle_lock()?;
         at(Part::Journal, self.journal.settle())
+    }
+
+    /// The length of the journal, where its last record waits for a sync: what is built on that record can wait with it.
+    pub fn waiting_at(&self) -> Option<u64> {
+        if self.journal.is_pending() && !self.changes.is_pending() {
+            Some(self.journal.len())
+        } else {
+            None
+        }
     }
 
     /// What stands at a real path of the host. Where it is in the directory in which a file was found last, it is walked
@@ -271,10 +288,11 @@ impl<F: Write + OpenFile> Held<F> {
         rt: &R,
         table: Table,
         line: &Bytes,
+        when: When,
     ) -> Result<(), HostErr> {
         self.changed.set(table);
         let root = self.layout.root.as_str();
-        let noted = self.changes.append(rt, root, line.as_slice(), When::AtOnce);
+        let noted = self.changes.append(rt, root, line.as_slice(), when);
         at(Part::Changes, noted)
     }
 
@@ -307,18 +325,12 @@ impl<F: Write + OpenFile> Held<F> {
         }
     }
 
-    /// Brings all that was done to the disk, writes each table that has changed rows, and then takes these rows' lines away.
-    /// Where that is cut off at any place, the lines still tell the rows.
-    pub fn write_tables<R: Files<File = F>>(
-        &mut self,
-        rt: &R,
-        alloc: Global,
-    ) -> Result<(), HostErr> {
-        self.settle_journal()?;
+    // Writes each table that has changed rows, and then takes these rows' lines away. Where that is cut off at any place, the
+    // lines still tell the rows.
+    fn fold<R: Files<File = F>>(&mut self, rt: &R, alloc: Global) -> Result<(), HostErr> {
         if self.changes.len() == 0 {
             return Ok(());
         }
-        self.make_ready(rt, alloc)?;
         for table in [Table::Perms, Table::Services, Table::Locks] {
             if self.changed.has(table) {
                 at(table.part(), self.write_table(rt, alloc, table))?;
@@ -330,6 +342,20 @@ impl<F: Write + OpenFile> Held<F> {
         let by_rows = self.tables.count().saturating_mul(CHANGES_PER_ROW);
         self.most_changes = by_rows.max(LEAST_CHANGES);
         Ok(())
+    }
+
+    /// Brings all that was done to the disk, and writes the tables where rows changed since they were written.
+    pub fn write_tables<R: Files<File = F>>(
+        &mut self,
+        rt: &R,
+        alloc: Global,
+    ) -> Result<(), HostErr> {
+        self.settle()?;
+        if self.changes.len() == 0 {
+            return Ok(());
+        }
+        self.make_ready(rt, alloc)?;
+        self.fold(rt, alloc)
     }
 
     /// Writes the tables where the changed rows have become long, so that each row is written a few times at most.

@@ -72,11 +72,11 @@ impl<R: Files + Drop> HostSite<R> {
         }
     }
 
-    /// Brings the last record to the disk, and tells whether all that was changed is there. To be asked at the end of a command:
-    /// a record that tells that a repair was done is synced with what follows it.
+    /// Brings the last record, and the lock behind it, to the disk, and tells whether all that was changed is there. To be asked
+    /// at the end of a command: a record that tells that a repair was done is synced with what follows it.
     pub fn settle(&mut self) -> bool {
         match &mut self.host.held {
-            Some(held) => held.settle_journal().is_ok(),
+            Some(held) => held.settle().is_ok(),
             None => true,
         }
     }

@@ -152,7 +152,9 @@ impl HostTables {
                 Ok(())
             }
             RowChange::Service(name, row) => self.put_service(alloc, name, row),
-            RowChange::Lock(key, moment) => self.put_lock(alloc, key, moment),
+            RowChange::Lock(key, moment) | RowChange::LockBehind(_, key, moment) => {
+                self.put_lock(alloc, key, moment)
+            }
         }
     }
 

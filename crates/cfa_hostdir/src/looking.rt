@@ -1,4 +1,7 @@
 // What stands at a real path. No symbolic link is followed: each component is looked at by itself.
+ghost use Rattle.std.specs.Prelude.{◌≡◌, ◌==◌, ◌&&◌, not, length};
+ghost use Rattle.cfa_outside.specs.Worlds.{is_below};
+
 use crate::errors::{HostErr, Why, refused};
 use std::fs::Metadata;
 use std::io::{ErrorKind, Read};
@@ -71,10 +74,22 @@ pub fn folder_of(path: &str) -> Result<&str, HostErr> {
     }
 }
 
+// Whether the other path begins with this one and a slash.
+fn goes_on(path: &[u8], other: &[u8]) -> bool
+    ensures { result ≡ is_below path.now other.now }
+{
+    if other.len() <= path.len() {
+        return false;
+    }
+    let front = &other[..path.len()];
+    front == path && other[path.len()] == b'/'
+}
+
 /// Whether the path is beneath a directory. Nothing is beneath an empty path.
-pub fn is_beneath(path: &str, directory: &str) -> bool {
-    let (path, directory) = (path.as_bytes(), directory.as_bytes());
-    !directory.is_empty() && path.starts_with(directory) && path.get(directory.len()) == Some(&b'/')
+pub fn is_beneath(path: &str, directory: &str) -> bool
+    ensures { result ≡ (not (length directory.now == 0) && is_below directory.now path.now) }
+{
+    !directory.is_empty() && goes_on(directory.as_bytes(), path.as_bytes())
 }
 
 /// Whether a component of the path ends at this place.

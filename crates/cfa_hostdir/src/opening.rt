@@ -102,19 +102,23 @@ fn before_zeros(bytes: &[u8]) -> &[u8] {
     }
 }
 
-// Takes the rows that changed since, and gives the length of their whole lines. A last line that was cut off is none.
+// Takes the rows that changed since and that count where the journal has so many bytes, and gives the length of all whole lines.
+// A last line that was cut off is none.
 fn take_changes<R: Files>(
     rt: &R,
     alloc: Global,
     layout: &Layout,
     tables: &mut HostTables,
+    journal: u64,
 ) -> Result<u64, HostErr> {
     let text = read_if_there(rt, alloc, layout.changes.as_str(), MOST_TABLE_BYTES)?;
     let bytes = before_zeros(text.as_slice());
     let (changes, torn) = read_rows::<RowChanges>(alloc, bytes)?;
     let len = (bytes.len() as u64).saturating_sub(torn.len() as u64);
     for change in changes {
-        tables.take_change(alloc, change)?;
+        if change.counts_at(journal) {
+            tables.take_change(alloc, change)?;
+        }
     }
     Ok(len)
 }
@@ -191,40 +195,43 @@ fn ends_open<F: Read + Seek>(file: &mut F, end: u64) -> Result<bool, HostErr> {
     Ok(word == *b"open ")
 }
 
-/// The journal as it was found: the length of its whole lines, and whether the last one tells of a repair that was begun.
+/// The journal as it was found: its length, that of its whole lines, and whether the last one tells of a repair that was begun.
 #[derive(Clone, Copy)]
 struct Ending {
+    found: u64,
     len: u64,
     is_open: bool,
 }
 
-// Takes a last line that was cut off away.
-fn cut_to<R: Files>(rt: &R, path: &str, len: u64) -> Result<(), HostErr> {
+// Takes a last line of the journal that was cut off away.
+fn cut_journal<R: Files>(rt: &R, path: &str, ending: Ending) -> Result<(), HostErr> {
+    if ending.len == ending.found {
+        return Ok(());
+    }
     let mut options = OpenOptions::new();
     options.write(true);
-    answer_of(options.open(rt, path)?.set_len(len))
+    answer_of(options.open(rt, path)?.set_len(ending.len))
 }
 
-// The end of the journal, without a last line that was cut off.
-fn cut_journal<R: Files>(rt: &R, path: &str) -> Result<Ending, HostErr> {
-    let len = match kind_at(rt, path)? {
+// The end of the journal.
+fn ending_of<R: Files>(rt: &R, path: &str) -> Result<Ending, HostErr> {
+    let found = match kind_at(rt, path)? {
         Kind::Missing => {
             return Ok(Ending {
+                found: 0,
                 len: 0,
                 is_open: false,
             });
         }
-        Kind::File(found) => found.size,
+        Kind::File(file) => file.size,
         Kind::Dir | Kind::Other => return Err(refused(Why::OfAnotherKind)),
     };
     let mut file = fs::open(rt, path)?;
-    let whole = whole_lines(&mut file, len)?;
-    let is_open = ends_open(&mut file, whole)?;
-    if whole < len {
-        cut_to(rt, path, whole)?;
-    }
+    let len = whole_lines(&mut file, found)?;
+    let is_open = ends_open(&mut file, len)?;
     Ok(Ending {
-        len: whole,
+        found,
+        len,
         is_open,
     })
 }
@@ -234,9 +241,11 @@ fn open_tables<R: Files>(
     rt: &R,
     alloc: Global,
     layout: &Layout,
+    journal: u64,
 ) -> Result<(HostTables, u64), HostErr> {
     let mut tables = written_tables(rt, alloc, layout)?;
-    let len = at(Part::Changes, take_changes(rt, alloc, layout, &mut tables))?;
+    let taken = take_changes(rt, alloc, layout, &mut tables, journal);
+    let len = at(Part::Changes, taken)?;
     Ok((tables, len))
 }
 
@@ -257,8 +266,10 @@ fn open_held<R: Files>(
     folder: R::File,
 ) -> Result<Held<R::File>, HostErr> {
     at(Part::Tree, look_at_tree(rt, layout.tree.as_str()))?;
-    let (tables, len) = open_tables(rt, alloc, &layout)?;
-    let ending = at(Part::Journal, cut_journal(rt, layout.journal.as_str()))?;
+    let ending = at(Part::Journal, ending_of(rt, layout.journal.as_str()))?;
+    let (tables, len) = open_tables(rt, alloc, &layout, ending.len)?;
+    let cut = cut_journal(rt, layout.journal.as_str(), ending);
+    at(Part::Journal, cut)?;
     let journal = growing(alloc, layout.journal.as_str(), ending.len)?;
     let changes = growing(alloc, layout.changes.as_str(), len)?;
     let changed = if len == 0 {

@@ -1,6 +1,6 @@
 -- Changed rows that are read again over what they were read over change nothing.
 use Rattle.std.proofs.Common.{◌≡◌, ℕ, List, [], ◌∷◌, true, false, cond, Some, None, refl, sym, ap, subst, ◌∙◌, ⊎_elim, inl, inr}
-use Rattle.std.specs.Prelude.{◌⊎◌}
+use Rattle.std.specs.Prelude.{◌⊎◌, nat_le}
 use Rattle.std.specs.FinMap as map
 use Rattle.std.specs.Cmp.Lexicographic.{nat_list_cmp_total}
 use Rattle.std.specs.Ordering.{eq_by_cmp}
@@ -9,8 +9,8 @@ use Rattle.cfa_base.specs.lemmas.TextMaps.{same_texts}
 use Rattle.cfa_outside.specs.declared.worlds.Perms.{Perms}
 use Rattle.cfa_outside.specs.declared.worlds.ServiceRow.{ServiceRow}
 use Rattle.cfa_tables.specs.declared.row_changes.RowChange.{RowChange}
-use Rattle.cfa_tables.specs.declared.row_changes.RowChange.TheVariants.{Permissions, Gone, Service, Lock}
-use Rattle.cfa_tables.specs.ReadOver.{HostRows, with_change, read_over, ArePartlyWritten}
+use Rattle.cfa_tables.specs.declared.row_changes.RowChange.TheVariants.{Permissions, Gone, Service, Lock, LockBehind}
+use Rattle.cfa_tables.specs.ReadOver.{HostRows, counts_at, with_change, read_over, ArePartlyWritten}
 
 -- at a key, a change of a map tells what stands there from then on, or leaves what stood there
 abbrev TellsAt : {X : Type 0} → (TextMap X → TextMap X) → List ℕ → Type 0
@@ -71,61 +71,85 @@ perms_by (Permissions path perms) m = map.insert m path perms
 perms_by (Gone path) m = map.remove m path
 perms_by (Service name row) m = m
 perms_by (Lock key moment) m = m
+perms_by (LockBehind length key moment) m = m
 
 abbrev services_by : RowChange → TextMap ServiceRow → TextMap ServiceRow
 services_by (Permissions path perms) m = m
 services_by (Gone path) m = m
 services_by (Service name row) m = map.insert m name row
 services_by (Lock key moment) m = m
+services_by (LockBehind length key moment) m = m
 
 abbrev locks_by : RowChange → TextMap ℕ → TextMap ℕ
 locks_by (Permissions path perms) m = m
 locks_by (Gone path) m = m
 locks_by (Service name row) m = m
 locks_by (Lock key moment) m = map.insert m key moment
+locks_by (LockBehind length key moment) m = map.insert m key moment
 
 perms-tell : (change : RowChange) (q : List ℕ) → TellsAt (perms_by change) q
 perms-tell (Permissions path perms) q = put-tells path perms q
 perms-tell (Gone path) q = gone-tells path q
 perms-tell (Service name row) q = nothing-tells q
 perms-tell (Lock key moment) q = nothing-tells q
+perms-tell (LockBehind length key moment) q = nothing-tells q
 
 services-tell : (change : RowChange) (q : List ℕ) → TellsAt (services_by change) q
 services-tell (Permissions path perms) q = nothing-tells q
 services-tell (Gone path) q = nothing-tells q
 services-tell (Service name row) q = put-tells name row q
 services-tell (Lock key moment) q = nothing-tells q
+services-tell (LockBehind length key moment) q = nothing-tells q
 
 locks-tell : (change : RowChange) (q : List ℕ) → TellsAt (locks_by change) q
 locks-tell (Permissions path perms) q = nothing-tells q
 locks-tell (Gone path) q = nothing-tells q
 locks-tell (Service name row) q = nothing-tells q
 locks-tell (Lock key moment) q = put-tells key moment q
+locks-tell (LockBehind length key moment) q = put-tells key moment q
 
--- each table has the changed rows of its own
-abbrev by_tables : RowChange → HostRows → HostRows
-by_tables change rows = record { perms = perms_by change rows.perms; services = services_by change rows.services; locks = locks_by change rows.locks }
+-- a change that counts, or none
+abbrev if_counts : {X : Type 0} → ℕ → (RowChange → TextMap X → TextMap X) → RowChange → TextMap X → TextMap X
+if_counts journal change_by change m = cond (counts_at journal change) (change_by change m) m
 
-by_tables-is : (change : RowChange) (rows : HostRows) → with_change change rows ≡ by_tables change rows
-by_tables-is (Permissions path perms) rows = refl
-by_tables-is (Gone path) rows = refl
-by_tables-is (Service name row) rows = refl
-by_tables-is (Lock key moment) rows = refl
+if_counts-tells : {X : Type 0} (journal : ℕ) (change_by : RowChange → TextMap X → TextMap X) → ((change : RowChange) (q : List ℕ) → TellsAt (change_by change) q) → (change : RowChange) (q : List ℕ) → TellsAt (if_counts journal change_by change) q
+if_counts-tells {X} journal change_by tells change q =
+    elim (counts_at journal change) as (λ b. TellsAt (λ (m : TextMap X). cond b (change_by change m) m) q) [
+      | true ↦ tells change q
+      | false ↦ nothing-tells q
+    ]
 
-abbrev over_tables : List RowChange → HostRows → HostRows
-over_tables changes rows = record { perms = over perms_by changes rows.perms; services = over services_by changes rows.services; locks = over locks_by changes rows.locks }
+module _ (journal : ℕ) where
+  -- each table has the changed rows of its own
+  abbrev by_tables : RowChange → HostRows → HostRows
+  by_tables change rows = record { perms = if_counts journal perms_by change rows.perms; services = if_counts journal services_by change rows.services; locks = if_counts journal locks_by change rows.locks }
 
-over_tables-is : (changes : List RowChange) (rows : HostRows) → read_over changes rows ≡ over_tables changes rows
-over_tables-is [] rows = refl
-over_tables-is (change ∷ changes) rows = ap (read_over changes) (by_tables-is change rows) ∙ over_tables-is changes (by_tables change rows)
+  by_tables-is : (change : RowChange) (rows : HostRows) → cond (counts_at journal change) (with_change change rows) rows ≡ by_tables change rows
+  by_tables-is (Permissions path perms) rows = refl
+  by_tables-is (Gone path) rows = refl
+  by_tables-is (Service name row) rows = refl
+  by_tables-is (Lock key moment) rows = refl
+  by_tables-is (LockBehind length key moment) rows =
+      elim (nat_le length journal) as (λ b. cond b (with_change (LockBehind length key moment) rows) rows
+      ≡ record { perms = cond b rows.perms rows.perms; services = cond b rows.services rows.services; locks = cond b (map.insert rows.locks key moment) rows.locks }) [
+        | true ↦ refl
+        | false ↦ refl
+      ]
+
+  abbrev over_tables : List RowChange → HostRows → HostRows
+  over_tables changes rows = record { perms = over (if_counts journal perms_by) changes rows.perms; services = over (if_counts journal services_by) changes rows.services; locks = over (if_counts journal locks_by) changes rows.locks }
+
+  over_tables-is : (changes : List RowChange) (rows : HostRows) → read_over journal changes rows ≡ over_tables changes rows
+  over_tables-is [] rows = refl
+  over_tables-is (change ∷ changes) rows = ap (read_over journal changes) (by_tables-is change rows) ∙ over_tables-is changes (by_tables change rows)
 
 same_rows : (p p' : TextMap Perms) (s s' : TextMap ServiceRow) (l l' : TextMap ℕ) → p ≡ p' → s ≡ s' → l ≡ l' → ◌≡◌ {A = HostRows} (record { perms = p; services = s; locks = l }) (record { perms = p'; services = s'; locks = l' })
 same_rows p p' s s' l l' e f g = λ i. record { perms = e i; services = f i; locks = g i }
 
-pub read_again : (changes : List RowChange) (before now : HostRows) → ArePartlyWritten changes before now → read_over changes now ≡ read_over changes before
-read_again changes before now partly =
-    let whole = over_tables-is changes before in
-    let perms = over-partly perms_by perms-tell changes before.perms now.perms (subst (λ (rows : HostRows). (now.perms ≡ before.perms) ⊎ (now.perms ≡ rows.perms)) whole partly.perms) in
-    let services = over-partly services_by services-tell changes before.services now.services (subst (λ (rows : HostRows). (now.services ≡ before.services) ⊎ (now.services ≡ rows.services)) whole partly.services) in
-    let locks = over-partly locks_by locks-tell changes before.locks now.locks (subst (λ (rows : HostRows). (now.locks ≡ before.locks) ⊎ (now.locks ≡ rows.locks)) whole partly.locks) in
-    over_tables-is changes now ∙ same_rows _ _ _ _ _ _ perms services locks ∙ sym whole
+pub read_again : (journal : ℕ) (changes : List RowChange) (before now : HostRows) → ArePartlyWritten journal changes before now → read_over journal changes now ≡ read_over journal changes before
+read_again journal changes before now partly =
+    let whole = over_tables-is journal changes before in
+    let perms = over-partly (if_counts journal perms_by) (if_counts-tells journal perms_by perms-tell) changes before.perms now.perms (subst (λ (rows : HostRows). (now.perms ≡ before.perms) ⊎ (now.perms ≡ rows.perms)) whole partly.perms) in
+    let services = over-partly (if_counts journal services_by) (if_counts-tells journal services_by services-tell) changes before.services now.services (subst (λ (rows : HostRows). (now.services ≡ before.services) ⊎ (now.services ≡ rows.services)) whole partly.services) in
+    let locks = over-partly (if_counts journal locks_by) (if_counts-tells journal locks_by locks-tell) changes before.locks now.locks (subst (λ (rows : HostRows). (now.locks ≡ before.locks) ⊎ (now.locks ≡ rows.locks)) whole partly.locks) in
+    over_tables-is journal changes now ∙ same_rows _ _ _ _ _ _ perms services locks ∙ sym whole

@@ -20,6 +20,7 @@ use Rattle.cfa_rows.specs.lemmas.Keys.{key-lacks}
 use Rattle.cfa_rows.specs.lemmas.Numbers.{decimal-lacks}
 use Rattle.cfa_rows.specs.lemmas.Rows.{TellsRows}
 use Rattle.cfa_tables.specs.Fields.{IsFourFields}
+use Rattle.cfa_tables.specs.RowChanges.{IsBehindRow, behind_text}
 use Rattle.cfa_tables.specs.Tables.{service_text, perms_text, lock_text, running_text, enabled_text, IsServiceRow, IsPermsRow, IsLockRow, Rises}
 use Rattle.cfa_tables.proofs.FieldLemmas.{running-lacks, enabled-lacks, running_tells, enabled_tells, same_fields, four_text}
 use Rattle.cfa_tables.proofs.ModeLemmas.{octal-lacks}
@@ -150,6 +151,20 @@ locks_tell = record {
   lines = λ last row is. lock-lacks row is.0;
   rows = λ last row other is is' e. lock_tells row other is.0 is'.0 e;
 }
+
+-- Locks behind a length of the journal.
+
+pub behind_space : (row : ℕ × (List ℕ × ℕ)) (line : List ℕ) → behind_text row ≡ line → Lacks 32 line → ⊥
+unfolding behind_text
+behind_space row line same lacks = no_cut 32 line (decimal row.0) (lock_text row.1) lacks (sym same)
+
+pub behind_cut : (row : ℕ × (List ℕ × ℕ)) (line length rest : List ℕ) → IsBehindRow row → behind_text row ≡ line → IsCut 32 line length rest → (decimal row.0 ≡ length) × (lock_text row.1 ≡ rest)
+unfolding behind_text
+behind_cut row line length rest is e cut = one_cut 32 (decimal row.0) (lock_text row.1) length rest (decimal-lacks 32 row.0 refl is.0) cut.first (e ∙ cut.whole)
+
+pub behind_of : (length : ℕ) (row : List ℕ × ℕ) (line front rest : List ℕ) → decimal length ≡ front → lock_text row ≡ rest → IsCut 32 line front rest → behind_text (length, row) ≡ line
+unfolding behind_text
+behind_of length row line front rest e f cut = rw (e, f) (sym cut.whole)
 
 -- Places.
 

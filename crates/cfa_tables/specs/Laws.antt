@@ -19,6 +19,7 @@ pub record WritesTables {X : Type 0} (form : List ℕ × X → List ℕ) (IsRow 
   pub table : (rows : TextMap X) → All IsRow (map.entries rows) → IsTable form IsRow (written form (map.entries rows)) (map.entries rows)
   pub reads_back : (rows : TextMap X) (other : List (List ℕ × X)) → All IsRow (map.entries rows) → IsTable form IsRow (written form (map.entries rows)) other → other ≡ map.entries rows
 
--- changed rows that are read over tables of which some have them already give the rows that they gave before
+-- changed rows that are read over tables of which some have them already give the rows that they gave before, where the
+-- journal has as many bytes as before
 abbrev pub ReadAgain : Type 0
-ReadAgain = (changes : List RowChange) (before now : HostRows) → ArePartlyWritten changes before now → read_over changes now ≡ read_over changes before
+ReadAgain = (journal : ℕ) (changes : List RowChange) (before now : HostRows) → ArePartlyWritten journal changes before now → read_over journal changes now ≡ read_over journal changes before

@@ -17,8 +17,9 @@ pub fn kept_rows_are_tables()
     ensures locks { WritesTables lock_text IsLockRow }
 {}
 
-/// Changed rows that are read over tables of which some have them already give the rows that they gave before. Such tables are
-/// what an agent leaves that is stopped between two of them, or before it takes the lines of the changed rows away.
+/// Changed rows that are read over tables of which some have them already give the rows that they gave before, where the journal
+/// has as many bytes as before. Such tables are what an agent leaves that is stopped between two of them, or before it takes the
+/// lines of the changed rows away.
 pub fn changes_are_read_again()
     ensures { ReadAgain }
 {}

@@ -1,12 +1,13 @@
 // Rows that changed since the tables were written, as lines of a file of their own.
 ghost use Rattle.std.specs.Prelude.{◌≡◌, ◌++◌, [], ◌∷◌, codes, IfOk, OnOk};
 ghost use Rattle.cfa_rows.specs.Rows.{Reads, ◌then◌};
+ghost use Rattle.cfa_tables.specs.ReadOver.{counts_at};
 ghost use Rattle.cfa_tables.specs.RowChanges.{IsRowChange, IsNext, change_text};
 
 use crate::fields::{append_text, read_path};
 use crate::rows::{
-    append_lock_row, append_perms_row, append_service_row, read_lock_row, read_perms_row,
-    read_service_row,
+    append_behind_row, append_lock_row, append_perms_row, append_service_row, read_behind_row,
+    read_lock_row, read_perms_row, read_service_row,
 };
 use cfa_base::{Bytes, Key, Name, NoMemory};
 use cfa_outside::{Path, Perms, ServiceRow};
@@ -22,6 +23,20 @@ pub enum RowChange {
     Gone(Path),
     Service(Name, ServiceRow),
     Lock(Key, u64),
+    /// The row of a lock that was set behind a record of the journal. It counts where the journal has so many bytes.
+    LockBehind(u64, Key, u64),
+}
+
+impl RowChange {
+    /// Whether the row counts where the journal has so many bytes.
+    pub fn counts_at(&self, journal: u64) -> bool
+        ensures { result ≡ counts_at journal self.now }
+    {
+        match self {
+            RowChange::LockBehind(length, _, _) => *length <= journal,
+            _ => true,
+        }
+    }
 }
 
 fn read_permissions(alloc: Global, fields: &[u8]) -> Result<Option<RowChange>, NoMemory>
@@ -60,6 +75,15 @@ fn read_lock(fields: &[u8]) -> Option<RowChange>
     }
 }
 
+fn read_behind(fields: &[u8]) -> Option<RowChange>
+    ensures { Reads change_text IsRowChange (codes "behind" then fields.now) result }
+{
+    match read_behind_row(fields) {
+        Some((length, (key, moment))) => Some(RowChange::LockBehind(length, key, moment)),
+        None => None,
+    }
+}
+
 // The changed row that a line is.
 fn read_change(alloc: Global, line: &[u8]) -> Result<Option<RowChange>, NoMemory>
     ensures { IfOk result (Reads change_text IsRowChange line.now) }
@@ -75,6 +99,8 @@ fn read_change(alloc: Global, line: &[u8]) -> Result<Option<RowChange>, NoMemory
         read_service(alloc, fields)
     } else if is_text(word, "lock") {
         Ok(read_lock(fields))
+    } else if is_text(word, "behind") {
+        Ok(read_behind(fields))
     } else {
         Ok(None)
     }
@@ -101,6 +127,10 @@ fn append_change(alloc: Global, bytes: &mut Bytes, change: &RowChange) -> Result
         RowChange::Lock(key, moment) => {
             bytes.append(b"lock ")?;
             append_lock_row(alloc, bytes, key, *moment)
+        }
+        RowChange::LockBehind(length, key, moment) => {
+            bytes.append(b"behind ")?;
+            append_behind_row(alloc, bytes, *length, key, *moment)
         }
     }
 }

@@ -1,6 +1,7 @@
 // The rows of tables, read and written as lines without their newline.
 ghost use Rattle.std.specs.Prelude.{◌≡◌, ◌++◌, IfOk, OnOk};
 ghost use Rattle.cfa_rows.specs.Rows.{Reads};
+ghost use Rattle.cfa_tables.specs.RowChanges.{IsBehindRow, behind_text};
 ghost use Rattle.cfa_tables.specs.Tables.{service_text, perms_text, lock_text, IsServiceRow, IsPermsRow, IsLockRow};
 
 use crate::fields::{
@@ -78,6 +79,22 @@ pub fn read_lock_row(line: &[u8]) -> Option<(Key, u64)>
     Some((key, moment))
 }
 
+/// The row of a lock behind a length of the journal that a line is.
+pub fn read_behind_row(line: &[u8]) -> Option<(u64, (Key, u64))>
+    ensures { Reads behind_text IsBehindRow line.now result }
+{
+    let Some((length, row)) = cut(line, b' ') else {
+        return None;
+    };
+    let Some(length) = read_number(length) else {
+        return None;
+    };
+    let Some(row) = read_lock_row(row) else {
+        return None;
+    };
+    Some((length, row))
+}
+
 /// Adds the line of a service's row, without its newline.
 #[tactic(auto, unfolding(crate::specs::Tables::service_text))]
 pub fn append_service_row(
@@ -134,4 +151,20 @@ pub fn append_lock_row(
     bytes.append(key.digits())?;
     bytes.append(b" ")?;
     append_number(alloc, bytes, moment)
+}
+
+/// Adds the line of a lock's row behind a length of the journal, without its newline.
+#[tactic(auto, unfolding(crate::specs::RowChanges::behind_text))]
+pub fn append_behind_row(
+    alloc: Global,
+    bytes: &mut Bytes,
+    length: u64,
+    key: &Key,
+    moment: u64,
+) -> Result<(), NoMemory>
+    ensures { OnOk result (bytes.new ≡ bytes.old ++ behind_text (length, (key.now, moment))) }
+{
+    append_number(alloc, bytes, length)?;
+    bytes.append(b" ")?;
+    append_lock_row(alloc, bytes, key, moment)
 }
