@@ -214,7 +214,7 @@ impl<'a> Seen<'a> {
 
     // What the command doesn't take of the options that were given.
     fn not_its_own(&self, command: &'a str) -> Option<WordsFault<'a>> {
-        let takes_define = command == "run" || command == "check";
+        let takes_define = command == "run" || command == "check" || command == "edits";
         if command != "run" {
             if let Some(option) = self.locks.or(self.strict) {
                 return Some(WordsFault::NotItsOwn(command, option));
@@ -234,7 +234,7 @@ impl<'a> Seen<'a> {
         match command {
             "help" => return Some(WordsFault::Help),
             "version" => return Some(WordsFault::Version),
-            "run" | "check" | "show" | "audit" | "demo" => {}
+            "run" | "check" | "show" | "audit" | "demo" | "edits" | "history" => {}
             _ => return Some(WordsFault::UnknownCommand(command)),
         }
         if self.file.is_none() {

@@ -6,6 +6,8 @@ const USAGE: &str = "usage: diwalmeq run POLICY [-K] [-D CLASSES] [--strict]
        diwalmeq check POLICY [-D CLASSES]
        diwalmeq show POLICY
        diwalmeq audit JOURNAL
+       diwalmeq history JOURNAL
+       diwalmeq edits POLICY [-D CLASSES]
        diwalmeq demo NUMBER
 ";
 
@@ -14,6 +16,8 @@ run     brings the host in the folder `host` of this folder to the state that th
 check   tells whether the policy is accepted, or names its first fault or conflict; touches no host
 show    prints the policy in its canonical text
 audit   tells of each run in a journal, as host/journal
+history tells of each promise in a journal, and of files that something else changed
+edits   tells which scripts of line edits always settle; touches no host
 demo    runs a policy of so many promises, from 1 to 10000, twice on the host in the folder `host`, and tells what each run did
 
 -K, --no-lock         run without locks: look at each promise, and tell whether a rerun would change nothing

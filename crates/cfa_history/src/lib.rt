@@ -9,5 +9,5 @@ mod rows;
 
 pub use gaps::Gap;
 pub use histories::{History, history_of};
-pub use laws::no_more_records;
+pub use laws::{no_more_records, rows_are_one};
 pub use rows::Row;

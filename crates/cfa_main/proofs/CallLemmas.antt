@@ -18,21 +18,24 @@ use Rattle.cfa_output.specs.declared.ends.Failure.TheVariants.{Refused, Stopped}
 use Rattle.cfa_output.specs.Lines.{words_line, moment_line, memory_line, visits_line, pattern_line, stop_line}
 use Rattle.cfa_sources.specs.Sources.{Texts}
 use Rattle.cfa_states.specs.Views.{Setting}
-use Rattle.cfa_conflict.specs.Analyses.{AnalysisBuilds, analysis_of}
+use Rattle.cfa_states.specs.Passes.{run}
+use Rattle.cfa_states.specs.Tellers.{open_walk}
+use Rattle.cfa_conflict.specs.Analyses.{analysis_of}
 use Rattle.cfa_agent.specs.Actuations.{Mark}
 use Rattle.cfa_agent.specs.Marks.{marks_of}
 use Rattle.cfa_agent.specs.Ran.{added, IfBothTold, started, StopsRun}
 use Rattle.cfa_main.specs.declared.ends.End.{End}
 use Rattle.cfa_main.specs.declared.ends.End.TheVariants.{Ended, PromiseFailed, InConflict}
 use Rattle.cfa_main.specs.declared.work.Work.{Work}
-use Rattle.cfa_main.specs.declared.work.Work.TheVariants.{Run, Judge, Show}
+use Rattle.cfa_main.specs.declared.work.Work.TheVariants.{Run, Judge, Search, Show}
 use Rattle.cfa_main.specs.Calls as calls
 use Rattle.cfa_main.specs.declared.work.PolicyRun.{PolicyRun}
-use Rattle.cfa_main.specs.Calls.{IsAnalysedIn, runs, judges, Does, RefusesRequest, TakesRequest, AsksTask, AsksUnaccepted, IsUnaccepted, TakenIsNotRefused, ran}
+use Rattle.cfa_main.specs.Calls.{IsAnalysedIn, IsBuiltFor, runs, judges, searches, Does, RefusesRequest, TakesRequest, AsksTask, AsksUnaccepted, IsUnaccepted, TakenIsNotRefused, ran}
 use Rattle.cfa_main.specs.Done.{IsDone, IsPut, Stands, Puts, HasFault, refused_with, status_of}
 use Rattle.cfa_main.specs.Ends.{IsEnd, IsStop, IsNotDone, IsRun, IsAnalysed, IsObeying, AsksRun, AsksNoRun, AsksAnalysis, AsksToObey, AsksTaken, AsksRefused, RefusesCall, of_words, of_moment, of_request, PutsRefusal, IsUnread, ReadsInTurn, PutsLast, StopsReading, StopsAtSite, AnalysisBuilt, RunBuilt, RefusesBefore, RefusesInRun, RefusesText, before_work, in_run, StopsAtPattern, stops_before, stops_in_run, StopsAtVisits, by_analysis, by_run}
 use Rattle.cfa_main.specs.Stages.{RunPerformed, RunsPolicy, Obeys, setting_in, task_of, IsAsked, OnlyRefused, Prepared, OneSetting, MayRun, PolicyRan, not_made, made, Performed, PutsEnd, PutsStop, status_of_stop, Called, not_prepared, ended, stopped_at_work}
 use Rattle.cfa_agent.specs.lemmas.Hosts.{adds_none}
+use Rattle.cfa_main.proofs.SearchLemmas.{search_done, search_put}
 use Rattle.cfa_main.proofs.Told.{untouched_both, both_weaker, both, along, fault_along, fault_before}
 use Rattle.cfa_main.proofs.WorkLemmas.{no_conflict, judged_by, judges_told, judged_done, judged_put, does_made, does_judged, made_accepted, cut_off_by, obeys_strict, text_done, text_put, IsNoSink, IsOfSite, work_stop, never_shown, untouched_at_stop, runs_by_site, patterns_by_stop, patterns_at_end, untouched_without_run, failed_runs, obeys_conflict}
 
@@ -118,18 +121,24 @@ one_strictness texts moment (request.Run policy options) s t l k m n r q = r.str
 one_strictness texts moment (request.Show policy) s t l k m n r q = absurd r
 one_strictness texts moment (request.Check policy classes) s t l k m n r q = absurd r
 one_strictness texts moment (request.Audit journal) s t l k m n r q = absurd r
+one_strictness texts moment (request.Edits policy classes) s t l k m n r q = absurd r
+one_strictness texts moment (request.History journal) s t l k m n r q = absurd r
 
 run_analysed : (request : Request) → IsRun request → IsAnalysed request
 run_analysed (request.Run policy options) is = tt
 run_analysed (request.Show policy) is = absurd is
 run_analysed (request.Check policy classes) is = tt
 run_analysed (request.Audit journal) is = absurd is
+run_analysed (request.Edits policy classes) is = absurd is
+run_analysed (request.History journal) is = absurd is
 
 obeying_analysed : (request : Request) → IsObeying request → IsAnalysed request
 obeying_analysed (request.Run policy options) is = tt
 obeying_analysed (request.Show policy) is = absurd is
 obeying_analysed (request.Check policy classes) is = tt
 obeying_analysed (request.Audit journal) is = absurd is
+obeying_analysed (request.Edits policy classes) is = tt
+obeying_analysed (request.History journal) is = absurd is
 
 asks_to_obey : (words : List (List ℕ)) (moment : ℕ) (told : Option Library) (work : Work) → IsAsked words moment told work → Obeys work → AsksToObey words
 asks_to_obey words moment told work a obeys = (a.request, a.asked_is, a.is_work.obeys obeys)
@@ -160,6 +169,9 @@ module _ (words : List (List ℕ)) (moment : ℕ) (lib : Library) (request : Req
     calls.work_done (judges (setting_in policy)) asks in_time taken (judges_told (analysis_of (setting_in policy)) end out out' p.judged.told),
     judged_done (analysis_of (setting_in policy)) t out out' end n is p.judged.told,
   ))
+  work_stands (Search policy) end n is p taken = untouched_both _ site site' p.site_is (λ t.
+      let does = search_done (setting_in policy) (run (setting_in policy) open_walk) t out out' end n is p.searched.told in
+      (does.0, calls.work_done (searches (setting_in policy)) asks in_time taken does.1, does.2))
   work_stands (Show text) end n is p taken = untouched_both _ site site' p.site_is (λ t. (
     calls.shown text,
     calls.work_done (task_of (Show text)) asks in_time taken refl,
@@ -184,6 +196,9 @@ module _ (words : List (List ℕ)) (moment : ℕ) (lib : Library) (request : Req
     calls.work_done (judges (setting_in policy)) asks in_time taken (judges_told (analysis_of (setting_in policy)) end out out' p.judged.told),
     judged_put (analysis_of (setting_in policy)) out out' end n is p.judged.told,
   )
+  work_puts (Search policy) end n is p taken three w marks =
+      let does = search_put (setting_in policy) (run (setting_in policy) open_walk) out out' end n is p.searched.told in
+      (does.0, calls.work_done (searches (setting_in policy)) asks in_time taken does.1, does.2)
   work_puts (Show text) end n is p taken three w marks = (calls.shown text, calls.work_done (task_of (Show text)) asks in_time taken refl, text_put text out out' end n is p.puts)
 
 -- ---- the call
@@ -323,6 +338,7 @@ module _ (words : List (List ℕ)) (moment : ℕ) (inputs inputs' : Shown Librar
   untouched_unaccepted one (Run order) mid result a (made may q) lib told u = absurd (unaccepted_not_made one order a may lib (taken_at inputs.told lib moment a.request (Run order) told a.is_work.taken) u)
   untouched_unaccepted one (Run order) mid result a (not_made obeyed q) lib told u = q.site_is
   untouched_unaccepted one (Judge policy) mid result a q lib told u = q.site_is
+  untouched_unaccepted one (Search policy) mid result a q lib told u = q.site_is
   untouched_unaccepted one (Show text) mid result a q lib told u = q.site_is
 
   pub unaccepted : OneSetting → CalledHere → IfSome inputs.told (λ lib. AsksUnaccepted words moment lib.texts → Untouched site site')
@@ -488,16 +504,27 @@ module _ (words : List (List ℕ)) (moment : ℕ) (inputs inputs' : Shown Librar
         too_large = q.judged.too_large refl;
       }) p.work.is_work.taken)
       q.site_is q.judged.patterns_are (along visits_line out mid out' q.judged.stopped put)
+  limit_of_visits one (Search policy) mid p q put = by_analysis (asks_to_obey words moment inputs.told (Search policy) p.work tt)
+      (some_weaker inputs.told _ _ (λ lib told taken. record {
+        task = task_of (Search policy);
+        setting = setting_in policy;
+        asks = asked_task words moment inputs.told (Search policy) p.work lib taken;
+        in_time = p.work.in_time;
+        obeys = refl;
+        too_large = q.searched.too_large refl;
+      }) p.work.is_work.taken)
+      q.site_is q.searched.patterns_are (along visits_line out mid out' q.searched.stopped put)
   limit_of_visits one (Show text) mid p q put = absurd (never_shown moment site site' out mid pats pats' text Visits q tt)
 
   analysed_at_pattern : (work : Work) (text : List ℕ) (mid : Shown (List ℕ)) → IsAsked words moment inputs.told work → StopsHere work (Pattern text) mid → AsksAnalysis words
   analysed_at_pattern (Run order) text mid a q = (a.request, a.asked_is, run_analysed a.request (a.is_work.runs tt))
   analysed_at_pattern (Judge policy) text mid a q = (a.request, a.asked_is, obeying_analysed a.request (a.is_work.obeys tt))
+  analysed_at_pattern (Search policy) text mid a q = (a.request, a.asked_is, obeying_analysed a.request (a.is_work.obeys tt))
   analysed_at_pattern (Show shown) text mid a q = absurd (never_shown moment site site' out mid pats pats' shown (Pattern text) q tt)
 
-  -- the text is one that the analysis builds
+  -- the text is one that the analysis or the walk builds
   built_by_analysis : (work : Work) (text : List ℕ) (mid : Shown (List ℕ)) → IsAsked words moment inputs.told work → StopsHere work (Pattern text) mid →
-      (setting : Setting) → IsAnalysedIn (task_of work) setting → AnalysisBuilds setting text → AnalysisBuilt words moment inputs.told text
+      (setting : Setting) → IsAnalysedIn (task_of work) setting → IsBuiltFor (task_of work) setting text → AnalysisBuilt words moment inputs.told text
   built_by_analysis work text mid a q setting analysed built = (
     analysed_at_pattern work text mid a q,
     some_weaker inputs.told _ _ (λ lib told taken. record {
@@ -550,6 +577,15 @@ module _ (words : List (List ℕ)) (moment : ℕ) (inputs inputs' : Shown Librar
       untouched = q.site_is;
     },
     q.judged.stopped,
+  )
+  refused_working (Search policy) text mid p q = inl (
+    record {
+      text = text;
+      builds = inr (built_by_analysis (Search policy) text mid p.work q (setting_in policy) refl q.searched.built);
+      refused = q.searched.patterns_are;
+      untouched = q.site_is;
+    },
+    q.searched.stopped,
   )
   refused_working (Show shown) text mid p q = absurd (never_shown moment site site' out mid pats pats' shown (Pattern text) q tt)
 

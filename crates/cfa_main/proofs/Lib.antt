@@ -2,9 +2,11 @@ pub mod AuditLemmas
 pub mod CallLemmas
 pub mod DemoLemmas
 pub mod EndLemmas
+pub mod HistoryLemmas
 pub mod LawLemmas
 pub mod PrepareLemmas
 pub mod RunLemmas
+pub mod SearchLemmas
 pub mod SettledLemmas
 pub mod Told
 pub mod WorkLemmas

@@ -20,8 +20,8 @@ use Rattle.cfa_agent.specs.Runs.{tally_of}
 use Rattle.cfa_agent.specs.Ran.{started, IfBothTold, text_of}
 use Rattle.cfa_convergence.specs.Settled.{Settles}
 use Rattle.cfa_main.specs.declared.ends.End.{End}
-use Rattle.cfa_main.specs.declared.work.Work.TheVariants.{Run, Judge, Show}
-use Rattle.cfa_main.specs.Calls.{runs, judges, shows, TakesRequest, RefusesRequest, TakenIsNotRefused, RunsIn, ran, settled_by}
+use Rattle.cfa_main.specs.declared.work.Work.TheVariants.{Run, Judge, Search, Show}
+use Rattle.cfa_main.specs.Calls.{runs, judges, searches, shows, TakesRequest, RefusesRequest, TakenIsNotRefused, RunsIn, ran, settled_by}
 use Rattle.cfa_main.specs.Done.{IsDone, HasFault, status_of}
 use Rattle.cfa_main.specs.Ends.{IsEnd, IsStop, AsksTaken, RefusesCall, of_words, of_moment, of_request, StopsReading, StopsAtSite, StopsAtPattern, stops_before, stops_in_run, StopsAtVisits, by_analysis, by_run, EndsWith, IsSettledBy, IsUnhindered, IsDoneOrMemory}
 use Rattle.cfa_main.specs.Stages.{setting_in, task_of, OneSetting, TellsVerdict, IsInConflict, RunPerformed, PolicyRan, not_made, made, Called, not_prepared, ended, stopped_at_work}
@@ -31,18 +31,30 @@ use Rattle.cfa_main.proofs.EndLemmas.{put_behind, settled_by_line, moment_ends_o
 use Rattle.cfa_main.proofs.PrepareLemmas.{none_or_some}
 use Rattle.cfa_main.proofs.Told.{both, both_weaker, each_both}
 
--- what is run is neither judged nor shown
+-- what is run is neither judged nor searched nor shown
 run_not_judged : (texts : Texts) (moment : ℕ) (request : Request) (s t : Setting) (l m : Bool) → TakesRequest texts moment request (runs s l m) → TakesRequest texts moment request (judges t) → ⊥
 run_not_judged texts moment (request.Run policy options) s t l m r j = j
 run_not_judged texts moment (request.Show policy) s t l m r j = r
 run_not_judged texts moment (request.Check policy classes) s t l m r j = r
 run_not_judged texts moment (request.Audit journal) s t l m r j = r
+run_not_judged texts moment (request.Edits policy classes) s t l m r j = r
+run_not_judged texts moment (request.History journal) s t l m r j = r
+
+run_not_searched : (texts : Texts) (moment : ℕ) (request : Request) (s t : Setting) (l m : Bool) → TakesRequest texts moment request (runs s l m) → TakesRequest texts moment request (searches t) → ⊥
+run_not_searched texts moment (request.Run policy options) s t l m r j = j
+run_not_searched texts moment (request.Show policy) s t l m r j = r
+run_not_searched texts moment (request.Check policy classes) s t l m r j = r
+run_not_searched texts moment (request.Audit journal) s t l m r j = r
+run_not_searched texts moment (request.Edits policy classes) s t l m r j = r
+run_not_searched texts moment (request.History journal) s t l m r j = r
 
 run_not_shown : (texts : Texts) (moment : ℕ) (request : Request) (s : Setting) (text : List ℕ) (l m : Bool) → TakesRequest texts moment request (runs s l m) → TakesRequest texts moment request (shows text) → ⊥
 run_not_shown texts moment (request.Run policy options) s text l m r j = j
 run_not_shown texts moment (request.Show policy) s text l m r j = r
 run_not_shown texts moment (request.Check policy classes) s text l m r j = r
 run_not_shown texts moment (request.Audit journal) s text l m r j = r
+run_not_shown texts moment (request.Edits policy classes) s text l m r j = r
+run_not_shown texts moment (request.History journal) s text l m r j = r
 
 module _ (words : List (List ℕ)) (moment : ℕ) (inputs inputs' : Shown Library) (site site' : Shown Told) (out out' : Shown (List ℕ)) (pats pats' : Shown (List (List ℕ))) (status : ℕ) where
   abbrev CalledHere : Type 0
@@ -100,6 +112,9 @@ module _ (words : List (List ℕ)) (moment : ℕ) (inputs inputs' : Shown Librar
   settled never one meet (ended {work = Judge policy} by p performed is) end = each_some out'.told _ (λ bytes told ends. some_weaker inputs.told _ _ (λ lib lib_told taken.
       each_both _ site site' (λ before after setting r. absurd (run_not_judged lib.texts moment r.asks.request setting (setting_in policy) r.has_locks r.is_strict r.asks.takes
       (subst (λ (q : Request). TakesRequest lib.texts moment q (task_of (Judge policy))) (one_some p.work.asked_is r.asks.asked_is) taken)))) p.work.is_work.taken)
+  settled never one meet (ended {work = Search policy} by p performed is) end = each_some out'.told _ (λ bytes told ends. some_weaker inputs.told _ _ (λ lib lib_told taken.
+      each_both _ site site' (λ before after setting r. absurd (run_not_searched lib.texts moment r.asks.request setting (setting_in policy) r.has_locks r.is_strict r.asks.takes
+      (subst (λ (q : Request). TakesRequest lib.texts moment q (task_of (Search policy))) (one_some p.work.asked_is r.asks.asked_is) taken)))) p.work.is_work.taken)
   settled never one meet (ended {work = Show text} by p performed is) end = each_some out'.told _ (λ bytes told ends. some_weaker inputs.told _ _ (λ lib lib_told taken.
       each_both _ site site' (λ before after setting r. absurd (run_not_shown lib.texts moment r.asks.request setting text r.has_locks r.is_strict r.asks.takes
       (subst (λ (q : Request). TakesRequest lib.texts moment q (task_of (Show text))) (one_some p.work.asked_is r.asks.asked_is) taken)))) p.work.is_work.taken)

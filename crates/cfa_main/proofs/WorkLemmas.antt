@@ -10,6 +10,8 @@ use Rattle.cfa_output.specs.declared.ends.Stop.{Stop}
 use Rattle.cfa_output.specs.declared.ends.Stop.TheVariants.{Outside, Memory, Visits, Pattern}
 use Rattle.cfa_sources.specs.Readings.{text_too_big}
 use Rattle.cfa_states.specs.Levels.{IsTooLarge}
+use Rattle.cfa_states.specs.Passes.{run}
+use Rattle.cfa_states.specs.Tellers.{open_walk}
 use Rattle.cfa_states.specs.Views.{Setting}
 use Rattle.cfa_conflict.specs.declared.verdicts.Verdict.{Verdict}
 use Rattle.cfa_conflict.specs.declared.verdicts.Verdict.TheVariants.{Accepted, Conflict as InConflictBy}
@@ -21,10 +23,11 @@ use Rattle.cfa_agent.specs.lemmas.Hosts.{adds_none}
 use Rattle.cfa_main.specs.declared.ends.End.{End}
 use Rattle.cfa_main.specs.declared.ends.End.TheVariants.{Ended, PromiseFailed, InConflict}
 use Rattle.cfa_main.specs.declared.work.Work.{Work}
-use Rattle.cfa_main.specs.declared.work.Work.TheVariants.{Run, Judge, Show}
+use Rattle.cfa_main.specs.declared.work.Work.TheVariants.{Run, Judge, Search, Show}
 use Rattle.cfa_main.specs.Calls.{runs, judged, shown, verdict_line, RunDoes, StrictRunDoes, Judges, DoesTask, IsUnaccepted, IsCutOffBy, ObeysAnalysis}
 use Rattle.cfa_main.specs.Done.{Done, IsDone, IsPut, status_of}
-use Rattle.cfa_main.specs.Stages.{RunsPolicy, Obeys, TellsVerdict, StopsTelling, IsEndOfRun, MayRun, IsInConflict, not_made, made, Performed, TextPut, OnlyPut}
+use Rattle.cfa_main.specs.Stages.{RunsPolicy, Obeys, setting_in, TellsVerdict, StopsTelling, IsEndOfRun, MayRun, IsInConflict, not_made, made, Performed, TextPut, OnlyPut}
+use Rattle.cfa_main.proofs.SearchLemmas.{search_not_failed}
 
 -- ---- ends
 
@@ -174,6 +177,7 @@ module _ (moment : ℕ) (site site' : Shown Told) (out out' : Shown (List ℕ)) 
   work_stop (Run order) stop (not_made obeyed p) = telling_stop stop p.judged.stopped
   work_stop (Run order) stop (made may p) = p.stopped
   work_stop (Judge policy) stop p = telling_stop stop p.judged.stopped
+  work_stop (Search policy) stop p = telling_stop stop p.searched.stopped
   work_stop (Show text) stop p = put_stop text stop p
 
   only_sink : (text : List ℕ) (stop : Stop) → OnlyPut text site site' out out' pats pats' (Err stop) → IsNoSink stop → ⊥
@@ -186,6 +190,7 @@ module _ (moment : ℕ) (site site' : Shown Told) (out out' : Shown (List ℕ)) 
   pub untouched_at_stop : (work : Work) (stop : Stop) → Did work (Err stop) → ¬ RunsPolicy work → IsNoSink stop → Untouched out out'
   untouched_at_stop (Run order) stop p no_run other = absurd (no_run tt)
   untouched_at_stop (Judge policy) stop p no_run other = telling_untouched stop out out' p.judged.stopped other
+  untouched_at_stop (Search policy) stop p no_run other = telling_untouched stop out out' p.searched.stopped other
   untouched_at_stop (Show text) stop p no_run other = absurd (only_sink text stop p other)
 
   site_is_no_sink : (stop : Stop) → IsOfSite stop → IsNoSink stop
@@ -199,6 +204,7 @@ module _ (moment : ℕ) (site site' : Shown Told) (out out' : Shown (List ℕ)) 
   pub runs_by_site : (work : Work) (stop : Stop) → Did work (Err stop) → IsOfSite stop → RunsPolicy work
   runs_by_site (Run order) stop p of_site = tt
   runs_by_site (Judge policy) stop p of_site = absurd (not_of_site stop out out' p.judged.stopped of_site)
+  runs_by_site (Search policy) stop p of_site = absurd (not_of_site stop out out' p.searched.stopped of_site)
   runs_by_site (Show text) stop p of_site = absurd (only_sink text stop p (site_is_no_sink stop of_site))
 
   put_patterns : (text : List ℕ) (stop : Stop) → OnlyPut text site site' out out' pats pats' (Err stop) → Refuses (text_too_big (Some stop)) pats pats'
@@ -208,17 +214,20 @@ module _ (moment : ℕ) (site site' : Shown Told) (out out' : Shown (List ℕ)) 
   patterns_by_stop (Run order) stop (not_made obeyed p) = p.judged.patterns_are
   patterns_by_stop (Run order) stop (made may p) = p.patterns_are
   patterns_by_stop (Judge policy) stop p = p.judged.patterns_are
+  patterns_by_stop (Search policy) stop p = p.searched.patterns_are
   patterns_by_stop (Show text) stop p = put_patterns text stop p
 
   pub patterns_at_end : (work : Work) (end : End) → Did work (Ok end) → Untouched pats pats'
   patterns_at_end (Run order) end (not_made obeyed p) = p.judged.patterns_are
   patterns_at_end (Run order) end (made may p) = p.patterns_are
   patterns_at_end (Judge policy) end p = p.judged.patterns_are
+  patterns_at_end (Search policy) end p = p.searched.patterns_are
   patterns_at_end (Show text) end p = p.patterns_are
 
   pub untouched_without_run : (work : Work) (result : Result End Stop) → Did work result → ¬ RunsPolicy work → Untouched site site'
   untouched_without_run (Run order) result p no_run = absurd (no_run tt)
   untouched_without_run (Judge policy) result p no_run = p.site_is
+  untouched_without_run (Search policy) result p no_run = p.site_is
   untouched_without_run (Show text) result p no_run = p.site_is
 
   shown_not : (n : ℕ) (text : List ℕ) (end : End) → OnlyPut text site site' out out' pats pats' (Ok end) → status_of end ≡ n → 0 ≡ n
@@ -227,6 +236,7 @@ module _ (moment : ℕ) (site site' : Shown Told) (out out' : Shown (List ℕ)) 
   pub failed_runs : (work : Work) (end : End) → Did work (Ok end) → status_of end ≡ 2 → RunsPolicy work
   failed_runs (Run order) end p two = tt
   failed_runs (Judge policy) end p two = absurd (verdict_not_failed _ end out out' p.judged.told two)
+  failed_runs (Search policy) end p two = absurd (search_not_failed (setting_in policy) (run (setting_in policy) open_walk) end out out' p.searched.told two)
   failed_runs (Show text) end p two = absurd (omega (arith, shown_not 2 text end p two))
 
   -- what tells a conflict obeys its analysis, and touches nothing on the site
@@ -234,4 +244,5 @@ module _ (moment : ℕ) (site site' : Shown Told) (out out' : Shown (List ℕ)) 
   obeys_conflict (Run order) end (not_made obeyed p) three = (obeyed.conflict.0, p.site_is)
   obeys_conflict (Run order) end (made may p) three = absurd (no_conflict end p.ends three)
   obeys_conflict (Judge policy) end p three = (tt, p.site_is)
+  obeys_conflict (Search policy) end p three = (tt, p.site_is)
   obeys_conflict (Show text) end p three = absurd (omega (arith, shown_not 3 text end p three))

@@ -5,12 +5,12 @@
 -- A check tells the verdict of its analysis. A run is analysed first, makes its run, and tells in its last line whether the world that
 -- it leaves is settled: it isn't known to be where locks count, where a promise failed, where the verdict is a conflict, and where the
 -- analysis needs too many visits, the first of these being told. A strict run obeys the analysis: of a conflict it tells the verdict
--- alone.
+-- alone. `edits` walks the policy once, and tells what it finds of its scripts.
 use Rattle.std.specs.Prelude.{ℕ, ◌≡◌, ◌<◌, ◌≤◌, Bool, true, false, nat_lt, if◌then◌else◌, List, [], ◌∷◌, ◌++◌, Option, Some, None, ⊤, codes}
 use Rattle.cfa_base.specs.declared.limits.TheConstants.{LAST_MOMENT}
 use Rattle.cfa_words.specs.declared.words.Options.{Options}
 use Rattle.cfa_words.specs.declared.words.Request.{Request}
-use Rattle.cfa_words.specs.declared.words.Request.TheVariants.{Run, Show, Check, Audit}
+use Rattle.cfa_words.specs.declared.words.Request.TheVariants.{Run, Show, Check, Audit, Edits, History}
 use Rattle.cfa_words.specs.Words.{asked}
 use Rattle.cfa_outside.specs.declared.worlds.World.{World}
 use Rattle.cfa_tree.specs.Tree.{PolicyTree}
@@ -22,6 +22,8 @@ use Rattle.cfa_output.specs.Lines.{words_line, moment_line, number_line, conflic
 use Rattle.cfa_sources.specs.Sources.{Texts, ReadsFile, RefusesFile}
 use Rattle.cfa_sources.specs.Checks.{Refuses, IsValidAs}
 use Rattle.cfa_states.specs.Levels.{IsTooLarge}
+use Rattle.cfa_states.specs.Passes.{run}
+use Rattle.cfa_states.specs.Tellers.{open_walk}
 use Rattle.cfa_states.specs.Views.{Setting}
 use Rattle.cfa_conflict.specs.declared.verdicts.Verdict.{Verdict}
 use Rattle.cfa_conflict.specs.declared.verdicts.Verdict.TheVariants.{Accepted, Conflict as InConflictBy}
@@ -35,6 +37,8 @@ use Rattle.cfa_main.specs.declared.ends.End.{End}
 use Rattle.cfa_main.specs.declared.ends.End.TheVariants.{Ended, PromiseFailed, InConflict}
 use Rattle.cfa_main.specs.Audits.{AuditsAs, RefusesJournal}
 use Rattle.cfa_main.specs.Done.{Step, Done, puts, refused_with, ends_with}
+use Rattle.cfa_main.specs.Histories.{RecountsAs}
+use Rattle.cfa_main.specs.Searches.{SearchDoes}
 
 -- ---- the policy or the journal
 
@@ -57,20 +61,24 @@ pub record ReadsAsText (texts : Texts) (policy text : List ℕ) : Type 0 where
   pub reads : ReadsFile texts 0 policy tree
   pub text_is : text ≡ printed tree
 
--- the policy or journal of a request is refused with this line: a run refuses what a check does. The options of a run and the
--- classes of a check count for nothing here
+-- the policy or journal of a request is refused with this line: a run and `edits` refuse what a check does, and a history what an
+-- audit does. The options of a run and classes count for nothing here
 abbrev pub RefusesRequest : Texts → Request → (line : List ℕ) → Type 0
 RefusesRequest texts (Run policy options) line = Refuses texts policy line
 RefusesRequest texts (Show policy) line = RefusesFile texts 0 policy line
 RefusesRequest texts (Check policy classes) line = Refuses texts policy line
 RefusesRequest texts (Audit journal) line = RefusesJournal texts journal line
+RefusesRequest texts (Edits policy classes) line = Refuses texts policy line
+RefusesRequest texts (History journal) line = RefusesJournal texts journal line
 
 -- ---- the work
 
--- a policy is run in a setting, with or without locks, strictly or not; or it is judged; or a text is put, and that is all
+-- a policy is run in a setting, with or without locks, strictly or not; or it is judged; or its edits are searched for clashes; or a
+-- text is put, and that is all
 pub data Task : Type 0 where
   runs : Setting → (has_locks is_strict : Bool) → Task
   judges : Setting → Task
+  searches : Setting → Task
   shows : (text : List ℕ) → Task
 
 -- the policy or journal of a request is taken, and this is the work that is to be done
@@ -78,17 +86,30 @@ abbrev pub TakesRequest : Texts → (moment : ℕ) → Request → Task → Type
 TakesRequest texts moment (Run policy options) (runs setting has_locks is_strict) =
     TakesRun texts moment policy options setting has_locks is_strict
 TakesRequest texts moment (Run policy options) (judges setting) = ⊥
+TakesRequest texts moment (Run policy options) (searches setting) = ⊥
 TakesRequest texts moment (Run policy options) (shows text) = ⊥
 TakesRequest texts moment (Show policy) (runs setting has_locks is_strict) = ⊥
 TakesRequest texts moment (Show policy) (judges setting) = ⊥
+TakesRequest texts moment (Show policy) (searches setting) = ⊥
 TakesRequest texts moment (Show policy) (shows text) = ReadsAsText texts policy text
 TakesRequest texts moment (Check policy classes) (runs setting has_locks is_strict) = ⊥
 TakesRequest texts moment (Check policy classes) (judges setting) =
     TakesPolicy texts moment policy classes setting
+TakesRequest texts moment (Check policy classes) (searches setting) = ⊥
 TakesRequest texts moment (Check policy classes) (shows text) = ⊥
 TakesRequest texts moment (Audit journal) (runs setting has_locks is_strict) = ⊥
 TakesRequest texts moment (Audit journal) (judges setting) = ⊥
+TakesRequest texts moment (Audit journal) (searches setting) = ⊥
 TakesRequest texts moment (Audit journal) (shows text) = AuditsAs texts journal text
+TakesRequest texts moment (Edits policy classes) (runs setting has_locks is_strict) = ⊥
+TakesRequest texts moment (Edits policy classes) (judges setting) = ⊥
+TakesRequest texts moment (Edits policy classes) (searches setting) =
+    TakesPolicy texts moment policy classes setting
+TakesRequest texts moment (Edits policy classes) (shows text) = ⊥
+TakesRequest texts moment (History journal) (runs setting has_locks is_strict) = ⊥
+TakesRequest texts moment (History journal) (judges setting) = ⊥
+TakesRequest texts moment (History journal) (searches setting) = ⊥
+TakesRequest texts moment (History journal) (shows text) = RecountsAs texts journal text
 
 -- the words ask for this task
 pub record AsksTask (words : List (List ℕ)) (moment : ℕ) (texts : Texts) (task : Task) : Type 0 where
@@ -160,6 +181,7 @@ DoesTask (runs setting has_locks true) moment world marks done =
 DoesTask (runs setting has_locks false) moment world marks done =
     RunDoes setting (start_of moment has_locks world marks) (analysis_of setting) done
 DoesTask (judges setting) moment world marks done = Judges (analysis_of setting) done
+DoesTask (searches setting) moment world marks done = SearchDoes setting (run setting open_walk) done
 DoesTask (shows text) moment world marks done = done ≡ shown text
 
 -- ---- the call
@@ -216,37 +238,53 @@ pub record NeedsTooMany (words : List (List ℕ)) (moment : ℕ) (texts : Texts)
   pub in_time : moment ≤ LAST_MOMENT
   pub cut_off : IsCutOffBy is_strict setting (start_of moment has_locks world marks) (analysis_of setting)
 
--- the task is done as its analysis says
+-- the task is done as its analysis says, or as its walk does
 abbrev pub ObeysAnalysis : Task → Setting → Type 0
 ObeysAnalysis (runs setting has_locks true) judged_in = judged_in ≡ setting
 ObeysAnalysis (runs setting has_locks false) judged_in = ⊥
 ObeysAnalysis (judges setting) judged_in = judged_in ≡ setting
+ObeysAnalysis (searches setting) judged_in = judged_in ≡ setting
 ObeysAnalysis (shows text) judged_in = ⊥
 
--- the words ask for a check or a strict run whose analysis needs more visits than it may make
+-- what is walked for a task needs more visits than it may make
+abbrev pub NeedsManyVisits : Task → Setting → Type 0
+NeedsManyVisits (runs setting has_locks is_strict) judged_in = analysis_of judged_in ≡ None
+NeedsManyVisits (judges setting) judged_in = analysis_of judged_in ≡ None
+NeedsManyVisits (searches setting) judged_in = IsTooLarge (run judged_in open_walk)
+NeedsManyVisits (shows text) judged_in = ⊥
+
+-- the words ask for a check or a strict run whose analysis needs more visits than it may make, or for `edits` whose walk does
 pub record AnalysesTooMany (words : List (List ℕ)) (moment : ℕ) (texts : Texts) : Type 0 where
   pub task : Task
   pub setting : Setting
   pub asks : AsksTask words moment texts task
   pub in_time : moment ≤ LAST_MOMENT
   pub obeys : ObeysAnalysis task setting
-  pub too_large : analysis_of setting ≡ None
+  pub too_large : NeedsManyVisits task setting
 
 -- ---- patterns
 
--- a task is analysed in this setting
+-- a task is analysed or walked in this setting
 abbrev pub IsAnalysedIn : Task → Setting → Type 0
 IsAnalysedIn (runs setting has_locks is_strict) analysed_in = analysed_in ≡ setting
 IsAnalysedIn (judges setting) analysed_in = analysed_in ≡ setting
+IsAnalysedIn (searches setting) analysed_in = analysed_in ≡ setting
 IsAnalysedIn (shows text) analysed_in = ⊥
 
--- the text is one that the analysis of what the words ask for builds
+-- the text is one that is built where a task is analysed or walked
+abbrev pub IsBuiltFor : Task → Setting → (text : List ℕ) → Type 0
+IsBuiltFor (runs setting has_locks is_strict) analysed_in text = AnalysisBuilds analysed_in text
+IsBuiltFor (judges setting) analysed_in text = AnalysisBuilds analysed_in text
+IsBuiltFor (searches setting) analysed_in text = BuiltOn analysed_in (run analysed_in open_walk) text
+IsBuiltFor (shows shown) analysed_in text = ⊥
+
+-- the text is one that the analysis or the walk of what the words ask for builds
 pub record AnalysisBuildsText (words : List (List ℕ)) (moment : ℕ) (texts : Texts) (text : List ℕ) : Type 0 where
   pub task : Task
   pub setting : Setting
   pub asks : AsksTask words moment texts task
   pub analysed : IsAnalysedIn task setting
-  pub built : AnalysisBuilds setting text
+  pub built : IsBuiltFor task setting text
 
 -- the text is one that the run that the words ask for builds
 pub record RunBuildsText (words : List (List ℕ)) (moment : ℕ) (texts : Texts) (world : World)

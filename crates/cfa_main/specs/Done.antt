@@ -23,7 +23,7 @@ all_entries steps = flat_map (λ (step : Step). step.entries) steps
 abbrev pub all_lines : List Step → List ℕ
 all_lines steps = flat_map (λ (step : Step). step.lines) steps
 
--- the work came to its end, or it did so with a promise that failed, or the policy was found to be in conflict
+-- the work came to its end, or it did so with a promise that failed, or the policy was found to be in conflict, or edits of it to clash
 abbrev pub status_of : End → ℕ
 status_of Ended = 0
 status_of PromiseFailed = 2

@@ -5,7 +5,7 @@ use Rattle.cfa_base.specs.declared.limits.TheConstants.{LAST_MOMENT}
 use Rattle.cfa_base.specs.Shown.{Shown, Follows, Untouched, HasFailed, IsLeft}
 use Rattle.cfa_base.specs.Patterns.{refuses}
 use Rattle.cfa_words.specs.declared.words.Request.{Request}
-use Rattle.cfa_words.specs.declared.words.Request.TheVariants.{Run, Show, Check, Audit}
+use Rattle.cfa_words.specs.declared.words.Request.TheVariants.{Run, Show, Check, Audit, Edits, History}
 use Rattle.cfa_words.specs.Words.{asked}
 use Rattle.cfa_outside.specs.Inputs.{Library}
 use Rattle.cfa_outside.specs.Sinks.{adds_bytes}
@@ -46,6 +46,8 @@ IsRun (Run policy options) = ⊤
 IsRun (Show policy) = ⊥
 IsRun (Check policy classes) = ⊥
 IsRun (Audit journal) = ⊥
+IsRun (Edits policy classes) = ⊥
+IsRun (History journal) = ⊥
 
 abbrev pub AsksRun : (words : List (List ℕ)) → Type 0
 AsksRun words = Asks IsRun words
@@ -54,18 +56,22 @@ AsksRun words = Asks IsRun words
 abbrev pub AsksNoRun : (words : List (List ℕ)) → Type 0
 AsksNoRun words = ¬ AsksRun words
 
--- a run and a check are analysed; a check and a strict run obey the analysis
+-- a run and a check are analysed; a check and a strict run obey the analysis. `edits` walks its policy, and obeys the walk
 abbrev pub IsAnalysed : Request → Type 0
 IsAnalysed (Run policy options) = ⊤
 IsAnalysed (Show policy) = ⊥
 IsAnalysed (Check policy classes) = ⊤
 IsAnalysed (Audit journal) = ⊥
+IsAnalysed (Edits policy classes) = ⊤
+IsAnalysed (History journal) = ⊥
 
 abbrev pub IsObeying : Request → Type 0
 IsObeying (Run policy options) = options.strict ≡ true
 IsObeying (Show policy) = ⊥
 IsObeying (Check policy classes) = ⊤
 IsObeying (Audit journal) = ⊥
+IsObeying (Edits policy classes) = ⊤
+IsObeying (History journal) = ⊥
 
 abbrev pub AsksAnalysis : (words : List (List ℕ)) → Type 0
 AsksAnalysis words = Asks IsAnalysed words
@@ -115,12 +121,15 @@ pub record IsUnread (line : List ℕ) (inputs inputs' : Shown Library) (out out'
 
 -- ---- what is read
 
--- a show reads its policy's file, a run and a check read the inputs too that it names, an audit reads its journal
+-- a show reads its policy's file, a run, a check and `edits` read the inputs too that it names, an audit and a history read their
+-- journal
 abbrev pub IsNextOf : Request → Texts → (name : List ℕ) → Type 0
 IsNextOf (Run policy options) texts name = IsNextFile policy texts name
 IsNextOf (Show policy) texts name = IsNamed policy texts name
 IsNextOf (Check policy classes) texts name = IsNextFile policy texts name
 IsNextOf (Audit journal) texts name = IsNamed journal texts name
+IsNextOf (Edits policy classes) texts name = IsNextFile policy texts name
+IsNextOf (History journal) texts name = IsNamed journal texts name
 
 -- the name is the next that is read for what the words ask for
 abbrev pub AsksNext : (words : List (List ℕ)) → Texts → (name : List ℕ) → Type 0
@@ -131,12 +140,14 @@ abbrev pub ReadsInTurn : (words : List (List ℕ)) → (inputs inputs' : Shown L
 ReadsInTurn words inputs inputs' =
     Untouched inputs inputs' ⊎ (IsLeft inputs inputs' ⊎ FailsNext (AsksNext words) inputs inputs')
 
--- a run and a check build the texts of the patterns of their policy, where nothing else is refused
+-- a run, a check and `edits` build the texts of the patterns of their policy, where nothing else is refused
 abbrev pub BuildsOf : Request → (told : Option Library) → (text : List ℕ) → Type 0
 BuildsOf (Run policy options) told text = IfSome told (λ library. RefusesSize library.texts policy text)
 BuildsOf (Show policy) told text = ⊥
 BuildsOf (Check policy classes) told text = IfSome told (λ library. RefusesSize library.texts policy text)
 BuildsOf (Audit journal) told text = ⊥
+BuildsOf (Edits policy classes) told text = IfSome told (λ library. RefusesSize library.texts policy text)
+BuildsOf (History journal) told text = ⊥
 
 -- the text is built for what the words ask for
 abbrev pub AsksBuilt : (words : List (List ℕ)) → (told : Option Library) → (text : List ℕ) → Type 0
@@ -162,7 +173,7 @@ pub record StopsAtSite (words : List (List ℕ)) (site site' : Shown Told)
   pub rose : Rose site.faults site'.faults
   pub put : PutsLast outside_line out'
 
--- the text is one that the analysis builds, as far as the inputs tell
+-- the text is one that the analysis or the walk of `edits` builds, as far as the inputs tell
 abbrev pub AnalysisBuilt : (words : List (List ℕ)) → (moment : ℕ) → (told : Option Library) → (text : List ℕ) → Type 0
 AnalysisBuilt words moment told text =
     AsksAnalysis words × IfSome told (λ library. AnalysisBuildsText words moment library.texts text)
@@ -175,8 +186,8 @@ RunBuilt words moment told site site' text =
     AsksRun words × IfSome told (λ library. AsksTaken words moment library.texts × IfBothTold (λ before after.
     RunBuildsText words moment library.texts before.world (marks_of (added before after)) text) site site')
 
--- a text was refused for its size before anything was done on the site: one of the patterns of the policy that is checked or run, or one
--- that its analysis builds
+-- a text was refused for its size before anything was done on the site: one of the patterns of the policy that is checked, walked or
+-- run, or one that its analysis or its walk builds
 pub record RefusesBefore (words : List (List ℕ)) (moment : ℕ) (told : Option Library) (site site' : Shown Told)
     (pats pats' : Shown (List (List ℕ))) : Type 0 where
   pub text : List ℕ
@@ -205,7 +216,7 @@ pub data StopsAtPattern (words : List (List ℕ)) (moment : ℕ) (told : Option 
   stops_in_run : RefusesInRun words moment told site site' pats pats' → PutsLast pattern_line out' →
       StopsAtPattern words moment told site site' out out' pats pats'
 
--- a call was stopped by too many visits, of the analysis that it obeys, so that the stop's line is all that was done; or of its run, of a
+-- a call was stopped by too many visits, of the analysis or the walk that it obeys, so that the stop's line is all that was done; or of its run, of a
 -- policy that was taken, which was made, by the run's definition under the marks of the entries so far
 pub data StopsAtVisits (words : List (List ℕ)) (moment : ℕ) (told : Option Library)
     (site site' : Shown Told) (out out' : Shown (List ℕ))

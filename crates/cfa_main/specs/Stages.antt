@@ -26,6 +26,8 @@ use Rattle.cfa_sources.specs.Checks.{Refuses as RefusesPolicy, RefusesSize}
 use Rattle.cfa_sources.specs.Readings.{ReadUpTo, stop_of, stopped_by, text_too_big}
 use Rattle.cfa_walk.specs.Settings.{setting_of}
 use Rattle.cfa_states.specs.Levels.{IsTooLarge}
+use Rattle.cfa_states.specs.Passes.{run}
+use Rattle.cfa_states.specs.Tellers.{open_walk}
 use Rattle.cfa_states.specs.Views.{Setting}
 use Rattle.cfa_conflict.specs.declared.verdicts.Verdict.{Verdict}
 use Rattle.cfa_conflict.specs.declared.verdicts.Verdict.TheVariants.{Accepted, Conflict as InConflictBy}
@@ -38,10 +40,11 @@ use Rattle.cfa_main.specs.declared.ends.End.TheVariants.{Ended, PromiseFailed, I
 use Rattle.cfa_main.specs.declared.work.PolicyInContext.{PolicyInContext}
 use Rattle.cfa_main.specs.declared.work.PolicyRun.{PolicyRun}
 use Rattle.cfa_main.specs.declared.work.Work.{Work}
-use Rattle.cfa_main.specs.declared.work.Work.TheVariants.{Run, Judge, Show}
-use Rattle.cfa_main.specs.Audits.{bytes_of, AuditsAs, RefusesJournal}
-use Rattle.cfa_main.specs.Calls.{Task, runs, judges, shows, TakesPolicy, TakesRun, RefusesRequest, TakesRequest, settled_by, verdict_line, verdict_end, ran}
+use Rattle.cfa_main.specs.declared.work.Work.TheVariants.{Run, Judge, Search, Show}
+use Rattle.cfa_main.specs.Audits.{bytes_of, RefusesJournal}
+use Rattle.cfa_main.specs.Calls.{Task, runs, judges, searches, shows, TakesPolicy, TakesRun, RefusesRequest, TakesRequest, settled_by, verdict_line, verdict_end, ran}
 use Rattle.cfa_main.specs.Done.{IsDone, HasFault, status_of}
+use Rattle.cfa_main.specs.Searches.{TellsSearch, BuiltToSearch}
 use Rattle.cfa_main.specs.Ends.{IsRun, IsObeying, IsNextOf, AsksNext, BuildsOf, AsksBuilt, RefusesCall}
 
 -- ---- the work
@@ -49,12 +52,14 @@ use Rattle.cfa_main.specs.Ends.{IsRun, IsObeying, IsNextOf, AsksNext, BuildsOf, 
 abbrev pub RunsPolicy : Work → Type 0
 RunsPolicy (Run order) = ⊤
 RunsPolicy (Judge policy) = ⊥
+RunsPolicy (Search policy) = ⊥
 RunsPolicy (Show text) = ⊥
 
 -- the work is done as its analysis says
 abbrev pub Obeys : Work → Type 0
 Obeys (Run order) = order.strict ≡ true
 Obeys (Judge policy) = ⊤
+Obeys (Search policy) = ⊤
 Obeys (Show text) = ⊥
 
 abbrev pub setting_in : PolicyInContext → Setting
@@ -64,6 +69,7 @@ setting_in policy = setting_of policy.checked policy.context
 abbrev pub task_of : Work → Task
 task_of (Run order) = runs (setting_in order.policy) order.locks order.strict
 task_of (Judge policy) = judges (setting_in policy)
+task_of (Search policy) = searches (setting_in policy)
 task_of (Show text) = shows text
 
 -- ---- reading
@@ -107,9 +113,9 @@ JournalTells name (BadRecord line) result = Tells (journal_bad_line name line) r
 JournalTells name TooLong result = Tells (journal_long_line name) result
 JournalTells name NoMemory result = result ≡ Err Memory
 
--- the journal of this name was read to the text of its audit
-pub record JournalAudited (name : List ℕ) (inputs inputs' : Shown Library) (result : Result (List ℕ) Failure) : Type 0 where
-  pub text : IfOk result (λ text. IfSome inputs.told (λ library. AuditsAs library.texts name text))
+-- the journal of this name was read to the text that is told of it
+pub record JournalTold (TellsAs : Texts → (name text : List ℕ) → Type 0) (name : List ℕ) (inputs inputs' : Shown Library) (result : Result (List ℕ) Failure) : Type 0 where
+  pub text : IfOk result (λ text. IfSome inputs.told (λ library. TellsAs library.texts name text))
   pub refused : IfErr result (λ failure. IfRefused failure (λ line.
       IfSome inputs.told (λ library. RefusesJournal library.texts name line)))
   pub inputs_are : ReadUpTo (IsNamed name) (stop_of result) inputs inputs'
@@ -212,6 +218,21 @@ pub record OnlyJudged (setting : Setting) (site site' : Shown Told) (out out' : 
   pub judged : PolicyJudged setting out out' pats pats' result
   pub site_is : Untouched site site'
 
+-- ---- the search
+
+-- the edits of a policy were searched: the lines of what was found were put
+pub record PolicySearched (setting : Setting) (out out' : Shown (List ℕ)) (pats pats' : Shown (List (List ℕ))) (result : Result End Stop) : Type 0 where
+  pub told : IfOk result (λ end. TellsSearch setting (run setting open_walk) end out out')
+  pub too_large : IsErrOf result Visits → IsTooLarge (run setting open_walk)
+  pub stopped : IfErr result (StopsTelling out out')
+  pub built : BuiltToSearch setting (text_too_big (stopped_by result))
+  pub patterns_are : Refuses (text_too_big (stopped_by result)) pats pats'
+
+-- that was all
+pub record OnlySearched (setting : Setting) (site site' : Shown Told) (out out' : Shown (List ℕ)) (pats pats' : Shown (List (List ℕ))) (result : Result End Stop) : Type 0 where
+  pub searched : PolicySearched setting out out' pats pats' result
+  pub site_is : Untouched site site'
+
 -- ---- doing the work
 
 -- an end of a run that was made
@@ -270,12 +291,13 @@ pub record OnlyPut (text : List ℕ) (site site' : Shown Told) (out out' : Shown
   pub site_is : Untouched site site'
   pub patterns_are : Untouched pats pats'
 
--- work that is no run touches neither the site nor, but for its analysis, the patterns
+-- work that is no run touches neither the site nor, but for its analysis or its walk, the patterns
 abbrev pub Performed :
     Work → (moment : ℕ) → (site site' : Shown Told) → (out out' : Shown (List ℕ)) → (pats pats' : Shown (List (List ℕ))) → Result End Stop → Type 0
 Performed (Run order) moment site site' out out' pats pats' result =
     PolicyRan (setting_in order.policy) moment order.locks order.strict site site' out out' pats pats' result
 Performed (Judge policy) moment site site' out out' pats pats' result = OnlyJudged (setting_in policy) site site' out out' pats pats' result
+Performed (Search policy) moment site site' out out' pats pats' result = OnlySearched (setting_in policy) site site' out out' pats pats' result
 Performed (Show text) moment site site' out out' pats pats' result = OnlyPut text site site' out out' pats pats' result
 
 -- a policy is run in one setting

@@ -85,13 +85,15 @@ fn call_for<I: Inputs, S: Site, O: Sink, P: Patterns>(
 }
 
 /// Does what the words say, and answers the status of the process: 0 where the work came to its end, 1 where the words, the
-/// moment, the policy or the journal are refused, 2 where a run ended with a failed promise, 3 where a check or a strict run found
-/// two promises in conflict, 4 where the inputs or the sink failed, or a lock or the journal of the site, 5 where memory ended, 6
-/// where a pattern was refused for its size or the run, or an analysis that is obeyed, needs too many visits.
+/// moment, the policy or the journal are refused, 2 where a run ended with a failed promise, 3 where a check or a strict run
+/// found two promises in conflict or `edits` told a clash, 4 where the inputs or the sink failed, or a lock or the journal of the
+/// site, 5 where memory ended, 6 where a pattern was refused for its size or the run, or an analysis or a walk that is obeyed,
+/// needs too many visits.
 ///
-/// The words come without the program's name, as `cfa_words` reads them; `run POLICY`, `show POLICY`, `check POLICY`,
-/// `audit JOURNAL` and `demo N` are built so far. POLICY and JOURNAL name a text of the inputs, and so do the inputs that a policy that
-/// is checked or run lists. `moment` is the time in seconds since 1970-01-01T00:00:00Z; one after the year 9998 is refused.
+/// The words come without the program's name, as `cfa_words` reads them; `run POLICY`, `show POLICY`, `check POLICY`, `edits
+/// POLICY`, `audit JOURNAL`, `history JOURNAL` and `demo N` are built so far. POLICY and JOURNAL name a text of the inputs, and
+/// so do the inputs that a policy that is checked, walked or run lists. `moment` is the time in seconds since
+/// 1970-01-01T00:00:00Z; one after the year 9998 is refused.
 ///
 /// The words, the moment and the policy or the journal are read before anything is done on the site or put. A check puts the verdict
 /// of the analysis, `accepted N` or the first conflict, in the classes of the calendar and of `-D`. Each valid policy is run: it is
@@ -100,6 +102,10 @@ fn call_for<I: Inputs, S: Site, O: Sink, P: Patterns>(
 /// put as soon as it stands. After a put that failed nothing more is put; after a failed reading, lock or record of the journal
 /// the last line is `stopped: outside`, after want of memory it is `stopped: memory`, after a pattern that was refused for its
 /// size it is `stopped: pattern`, and after too many visits it is `stopped: visits`. Where that line can't be put the status is 4.
+///
+/// `edits` puts a line for each instance of the open walk that edits a file, that its script is quiet or the first clash of its edits, and
+/// then how many are quiet. A history puts a line for each promise of the journal, and for each file that something else changed between
+/// two recorded writes. The lines of each are one text, made before any of it is put.
 ///
 /// `demo N` makes a policy of N promises, from 1 to 10000, and checks and analyses it in the classes of the calendar. It is run twice
 /// without locks on the site, where its files stand in the folder `/d`. The lines `demo N` and `accepted A` are put before the runs;
@@ -157,8 +163,8 @@ pub fn agent_main<I: Inputs, S: Site, O: Sink, P: Patterns>(
         AsksRefused words.now library.texts →
         IsNotDone result × Untouched (S.shown site.old) (S.shown site.new)) }
 
-    // Status 2 comes only for a run, status 3 only for a check or a strict run. Then the line of the conflict is all that was put, and
-    // the site is as it was.
+    // Status 2 comes only for a run, status 3 only for a check or a strict run, or for `edits`. Then the line of the conflict, or the
+    // lines of the clashes, are all that was put, and the site is as it was.
     ensures failed { AsksNoDemo words.now
         → result ≡ 2 → AsksRun words.now }
     ensures conflict { AsksNoDemo words.now
@@ -212,10 +218,10 @@ pub fn agent_main<I: Inputs, S: Site, O: Sink, P: Patterns>(
         → result ≡ 5 → PutsLast memory_line (O.shown out.new) }
 
     // Status 6 has two causes, which the last line tells apart. A pattern of a policy that is checked or run was refused for
-    // its size, after all its files were read and nothing else was refused, or one that its analysis builds, before anything else was
-    // done; or one that a run builds. Or the analysis that a check or a strict run obeys needs more visits than it may make, before
-    // anything was done; or a run does, by its definition under the marks of the entries so far. A run of a policy that is refused
-    // is none of these, whatever the site tells.
+    // its size, after all its files were read and nothing else was refused, or one that its analysis or the walk of `edits`
+    // builds, before anything else was done; or one that a run builds. Or the analysis that a check or a strict run obeys,
+    // or the walk of `edits`, needs more visits than it may make, before anything was done; or a run does, by its definition
+    // under the marks of the entries so far. A run of a policy that is refused is none of these, whatever the site tells.
     ensures pattern_or_visits { AsksNoDemo words.now
         → result ≡ 6 →
         StopsAtPattern words.now moment (I.shown inputs.old).told

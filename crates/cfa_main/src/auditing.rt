@@ -2,8 +2,8 @@
 ghost use Rattle.std.specs.Prelude.{◌≡◌, ◌++◌, IfOk, OnOk, string_bytes};
 ghost use Rattle.cfa_journal.specs.Audits.{runs_of};
 ghost use Rattle.cfa_output.specs.Lines.{line_of};
-ghost use Rattle.cfa_main.specs.Audits.{audit_text, torn_line};
-ghost use Rattle.cfa_main.specs.Stages.{BytesRead, JournalTells, JournalAudited};
+ghost use Rattle.cfa_main.specs.Audits.{AuditsAs, audit_text, torn_line};
+ghost use Rattle.cfa_main.specs.Stages.{BytesRead, JournalTells, JournalTold};
 
 use cfa_base::{Bytes, Name, NoMemory};
 use cfa_journal::{Journal, JournalErr, MOST_JOURNAL_BYTES, audit, read};
@@ -14,9 +14,9 @@ use std::alloc::Global;
 // One byte more than a journal may have, so that a longer one shows.
 const READ_LIMIT: u32 = MOST_JOURNAL_BYTES as u32 + 1;
 
-// The bytes of that name, of which no more is read than one byte more than a journal may have.
+/// The bytes of that name, of which no more is read than one byte more than a journal may have.
 #[tactic(auto, unfolding(crate::specs::Audits::bytes_of))]
-fn read_bytes<I: Inputs>(alloc: Global, name: &Name, inputs: &mut I) -> Result<Bytes, Stop>
+pub fn read_bytes<I: Inputs>(alloc: Global, name: &Name, inputs: &mut I) -> Result<Bytes, Stop>
     ensures { BytesRead name.now (I.shown inputs.old) (I.shown inputs.new) result }
 {
     match inputs.read(alloc, name, READ_LIMIT) {
@@ -26,8 +26,8 @@ fn read_bytes<I: Inputs>(alloc: Global, name: &Name, inputs: &mut I) -> Result<B
     }
 }
 
-// The line of a journal's refusal.
-fn refusal_line(alloc: Global, name: &Name, error: JournalErr) -> Result<Name, Stop>
+/// The line of a journal's refusal.
+pub fn refusal_line(alloc: Global, name: &Name, error: JournalErr) -> Result<Name, Stop>
     ensures { JournalTells name.now error result }
 {
     let name = name.copy(alloc)?;
@@ -68,7 +68,7 @@ fn audit_lines(alloc: Global, journal: &Journal) -> Result<Name, NoMemory>
 
 /// The lines of the audit of the journal of that name. It is refused with the line of its first fault.
 pub fn audit_journal<I: Inputs>(alloc: Global, name: &Name, inputs: &mut I) -> Result<Name, Failure>
-    ensures { JournalAudited name.now (I.shown inputs.old) (I.shown inputs.new) result }
+    ensures { JournalTold AuditsAs name.now (I.shown inputs.old) (I.shown inputs.new) result }
 {
     let bytes = read_bytes(alloc, name, inputs)?;
     match read(alloc, &bytes) {

@@ -14,7 +14,7 @@ pub enum End {
     Ended,
     /// It came to its end, and a promise failed.
     PromiseFailed,
-    /// Two promises of the policy are in conflict.
+    /// Two promises of the policy are in conflict, or edits of a script clash.
     InConflict,
 }
 

@@ -2,6 +2,7 @@
 ghost use Rattle.cfa_main.specs.Calls.{DoesOneThing, TakenIsNotRefused};
 ghost use Rattle.cfa_main.specs.Stages.{OneSetting};
 
+use cfa_history::rows_are_one;
 use cfa_journal::one_journal;
 use cfa_sources::{a_file_has_one_answer, a_policy_has_one_answer};
 
@@ -10,6 +11,7 @@ pub fn taken_requests_are_not_refused()
     ensures { TakenIsNotRefused }
 {
     one_journal();
+    rows_are_one();
     a_file_has_one_answer();
     a_policy_has_one_answer();
 }
@@ -26,6 +28,7 @@ pub fn a_call_does_one_thing()
     ensures { DoesOneThing }
 {
     one_journal();
+    rows_are_one();
     a_file_has_one_answer();
     a_policy_has_one_answer();
 }

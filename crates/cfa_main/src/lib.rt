@@ -5,9 +5,11 @@ mod agent;
 mod auditing;
 mod demonstrating;
 mod ends;
+mod histories;
 mod laws;
 mod performing;
 mod preparing;
+mod searching;
 mod work;
 
 pub use agent::agent_main;

@@ -6,6 +6,7 @@ ghost use Rattle.cfa_main.specs.Calls.{end_by, settled_by, settled_by_verdict, v
 ghost use Rattle.cfa_main.specs.Stages.{setting_in, Analysed, VerdictPut, PolicyJudged, RunPerformed, PolicyRan, TextPut, Performed};
 
 use crate::ends::End;
+use crate::searching::search_policy;
 use crate::work::{PolicyInContext, PolicyRun, Work};
 use cfa_agent::Tally;
 use cfa_base::{LAST_MOMENT, Name, NoMemory, Patterns};
@@ -224,6 +225,7 @@ pub fn perform<S: Site, O: Sink, P: Patterns>(
     match work {
         Work::Run(order) => run_policy(alloc, order, moment, site, out, pats),
         Work::Judge(policy) => judge_policy(alloc, policy, out, pats),
+        Work::Search(policy) => search_policy(alloc, policy, out, pats),
         Work::Show(text) => put_text(text.as_str(), out),
     }
 }

@@ -6,6 +6,7 @@ ghost use Rattle.cfa_output.specs.Lines.{line_of};
 ghost use Rattle.cfa_main.specs.Stages.{PolicyPrepared, RunPrepared, RequestPrepared, IsRefusalWith, Prepared};
 
 use crate::auditing::audit_journal;
+use crate::histories::recount_journal;
 use crate::work::{PolicyInContext, PolicyRun, Work};
 use cfa_base::{LAST_MOMENT, Name, Names, NoMemory, Patterns};
 use cfa_classes::hard;
@@ -97,6 +98,11 @@ fn prepare_request<I: Inputs, P: Patterns>(
             Ok(Work::Judge(policy))
         }
         Request::Audit(journal) => Ok(Work::Show(audit_journal(alloc, journal, inputs)?)),
+        Request::Edits(policy, classes) => {
+            let policy = prepare_policy(alloc, policy, classes, moment, inputs, pats)?;
+            Ok(Work::Search(policy))
+        }
+        Request::History(journal) => Ok(Work::Show(recount_journal(alloc, journal, inputs)?)),
     }
 }
 

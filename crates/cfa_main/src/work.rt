@@ -28,6 +28,8 @@ pub enum Work {
     Run(PolicyRun),
     /// This policy is judged.
     Judge(PolicyInContext),
-    /// This text is shown: that of a policy, or that of an audit.
+    /// The edits of this policy are searched for clashes.
+    Search(PolicyInContext),
+    /// This text is shown: that of a policy, of an audit or of a history.
     Show(Name),
 }

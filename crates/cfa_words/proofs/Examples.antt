@@ -3,7 +3,7 @@ use Rattle.std.proofs.Common.{◌≡◌, ◌∷◌, [], Bool, Option, Some, None
 use Rattle.cfa_base.specs.Index.{Text}
 use Rattle.cfa_words.specs.Words.{asked}
 use Rattle.cfa_words.specs.declared.words.Request.{Request}
-use Rattle.cfa_words.specs.declared.words.Request.TheVariants.{Run, Check, Show, Audit}
+use Rattle.cfa_words.specs.declared.words.Request.TheVariants.{Run, Check, Show, Audit, Edits, History}
 
 abbrev a_cf : Text
 a_cf = codes "a.cf"
@@ -102,6 +102,27 @@ strict_audit = refl
 
 defined_audit : asked (codes "audit" ∷ codes "journal" ∷ codes "-Da" ∷ []) ≡ refused
 defined_audit = refl
+
+history : asked (codes "history" ∷ codes "journal" ∷ []) ≡ Some (History (codes "journal"))
+history = refl
+
+lock_history : asked (codes "history" ∷ codes "journal" ∷ codes "-K" ∷ []) ≡ refused
+lock_history = refl
+
+defined_history : asked (codes "history" ∷ codes "-Da" ∷ codes "journal" ∷ []) ≡ refused
+defined_history = refl
+
+edits : asked (codes "edits" ∷ a_cf ∷ codes "-Da,b" ∷ []) ≡ Some (Edits a_cf (codes "a" ∷ codes "b" ∷ []))
+edits = refl
+
+lock_edits : asked (codes "edits" ∷ a_cf ∷ codes "-K" ∷ []) ≡ refused
+lock_edits = refl
+
+strict_edits : asked (codes "edits" ∷ a_cf ∷ codes "--strict" ∷ []) ≡ refused
+strict_edits = refl
+
+class_edits : asked (codes "edits" ∷ a_cf ∷ codes "-Da-b" ∷ []) ≡ refused
+class_edits = refl
 
 other_command : asked (codes "start" ∷ a_cf ∷ []) ≡ refused
 other_command = refl

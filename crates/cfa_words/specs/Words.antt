@@ -7,7 +7,7 @@ use Rattle.cfa_base.specs.Index.{Text}
 use Rattle.cfa_base.specs.Lexing.{is_word}
 use Rattle.cfa_words.specs.declared.words.Options.{Options}
 use Rattle.cfa_words.specs.declared.words.Request.{Request}
-use Rattle.cfa_words.specs.declared.words.Request.TheVariants.{Run, Check, Show, Audit}
+use Rattle.cfa_words.specs.declared.words.Request.TheVariants.{Run, Check, Show, Audit, Edits, History}
 
 -- ---- what a word gives
 
@@ -156,7 +156,7 @@ class_names (Some text) = class_list text
 abbrev pub options_of : Given → List Text → Options
 options_of g names = record { classes = names; locks = not g.no_lock; strict = g.strict }
 
--- `run` takes each flag and option, `check` the classes, `show` and `audit` nothing
+-- `run` takes each flag and option, `check` and `edits` the classes, `show`, `audit` and `history` nothing
 abbrev pub run_asked : Text → Given → Option Request
 run_asked policy g = option_map (λ names. Run policy (options_of g names)) (class_names g.classes)
 
@@ -170,12 +170,21 @@ show_asked policy g = if g.no_lock || (g.strict || is_some g.classes) then None 
 abbrev pub audit_asked : Text → Given → Option Request
 audit_asked journal g = if g.no_lock || (g.strict || is_some g.classes) then None else Some (Audit journal)
 
+abbrev pub edits_asked : Text → Given → Option Request
+edits_asked policy g =
+    if g.no_lock || g.strict then None else option_map (λ names. Edits policy names) (class_names g.classes)
+
+abbrev pub history_asked : Text → Given → Option Request
+history_asked journal g = if g.no_lock || (g.strict || is_some g.classes) then None else Some (History journal)
+
 abbrev pub asked_of : Text → Text → Given → Option Request
 asked_of command argument g =
     if bytes_eq command (codes "run") then run_asked argument g
     else (if bytes_eq command (codes "check") then check_asked argument g
     else (if bytes_eq command (codes "show") then show_asked argument g
-    else (if bytes_eq command (codes "audit") then audit_asked argument g else None)))
+    else (if bytes_eq command (codes "audit") then audit_asked argument g
+    else (if bytes_eq command (codes "edits") then edits_asked argument g
+    else (if bytes_eq command (codes "history") then history_asked argument g else None)))))
 
 -- a command has one argument, and no command takes a third word
 abbrev pub words_asked : List Text → Given → Option Request

@@ -4,7 +4,7 @@ ghost use Rattle.std.specs.List.{list_all, slice_split};
 ghost use Rattle.std.specs.Str.{is_utf8};
 ghost use Rattle.clap.specs.Words.{app_of, first_value, found_of, one_text};
 ghost use Rattle.clap.specs.Values.{bool_text};
-ghost use Rattle.cfa_words.specs.Words.{asked, asked_of, class_list, class_names, given, is_class as class_test, words_asked, check_asked, run_asked, show_asked, audit_asked};
+ghost use Rattle.cfa_words.specs.Words.{asked, asked_of, class_list, class_names, given, is_class as class_test, words_asked, check_asked, run_asked, show_asked, audit_asked, edits_asked, history_asked};
 ghost use Rattle.cfa_words.specs.Demos.{demo_asked, demo_given, demo_with, demo_number};
 ghost use Rattle.cfa_words.specs.OfTheCode.{given_of, lines_given, text_in, command_line as command_line_app};
 
@@ -35,6 +35,10 @@ pub enum Request {
     Show(Name),
     /// `audit JOURNAL`: reads a journal, and prints what it tells of its runs.
     Audit(Name),
+    /// `edits POLICY`: reads, checks and walks, with the classes of `-D` in their order, and tells which scripts of edits always settle.
+    Edits(Name, Names),
+    /// `history JOURNAL`: reads a journal, and prints what it tells of each promise.
+    History(Name),
 }
 
 // What a command line gives, before its command is looked at.
@@ -160,6 +164,8 @@ fn request_of(alloc: Global, line: &Line) -> Result<Option<Request>, NoMemory>
             "check" => check(alloc, argument, line),
             "show" => show(alloc, argument, line),
             "audit" => audit(alloc, argument, line),
+            "edits" => edits(alloc, argument, line),
+            "history" => history(alloc, argument, line),
             _ => Ok(None),
         },
         _ => Ok(None),
@@ -245,6 +251,27 @@ fn audit(alloc: Global, journal: &str, line: &Line) -> Result<Option<Request>, N
         return Ok(None);
     }
     Ok(Some(Request::Audit(Name::from_text(alloc, journal)?)))
+}
+
+fn edits(alloc: Global, policy: &str, line: &Line) -> Result<Option<Request>, NoMemory>
+    ensures { IfOk result (λ r. r ≡ edits_asked policy.now (given_of line.now)) }
+{
+    if line.without_locks || line.strict {
+        return Ok(None);
+    }
+    let Some(classes) = classes_of(alloc, line.classes)? else {
+        return Ok(None);
+    };
+    Ok(Some(Request::Edits(Name::from_text(alloc, policy)?, classes)))
+}
+
+fn history(alloc: Global, journal: &str, line: &Line) -> Result<Option<Request>, NoMemory>
+    ensures { IfOk result (λ r. r ≡ history_asked journal.now (given_of line.now)) }
+{
+    if line.without_locks || line.strict || line.classes.is_some() {
+        return Ok(None);
+    }
+    Ok(Some(Request::History(Name::from_text(alloc, journal)?)))
 }
 
 // The classes between the commas, or `None` where one of them is no class.

@@ -12,4 +12,5 @@ returns c = one_thing (record {
   journal_one = c.one_journal.ensures.one;
   journal_both = c.one_journal.ensures.never_both;
   journal_bad = c.one_journal.ensures.one_bad;
+  rows_one = c.rows_are_one.ensures;
 })
