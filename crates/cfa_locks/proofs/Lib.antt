@@ -1,1 +1,2 @@
 pub mod HexKeys
+mod Rows
