@@ -44,7 +44,7 @@ done_is s h instance acts n m is number marked =
 -- an instance with acts that was actuated, its lock set and its line put
 module _ (r : Running) (site site1 site' : Shown Told) (out out' : Shown (List ℕ)) (instance : Instance) (acts : List Act) (a : Actuation)
     (is : instance.work ≡ Acts acts)
-    (done : IfSome site.told (λ t. DoesActs (λ done. entries_of r.moment (suc r.number) instance done r.has_record) (done_met (suc r.number) acts a t.world) site1 a t))
+    (done : IfSome site.told (λ t. DoesActs (λ world done. entries_of r.moment (suc r.number) instance world done r.has_record) (done_met (suc r.number) acts a t.world) site1 a t))
     (few : suc r.number ≤ 4294967295)
     (locked : Follows (adds (lock_entries r.moment r.locks instance)) site1 site')
     (put : Follows (adds_bytes (line_ended instance.source a)) out out') where
@@ -56,13 +56,13 @@ module _ (r : Running) (site site1 site' : Shown Told) (out out' : Shown (List �
 
   -- what it added to the log
   abbrev more : Told → List Entry
-  more t = added r.moment (suc r.number) instance (done_there t.world) r.has_record r.locks
+  more t = added r.moment (suc r.number) instance t.world (done_there t.world) r.has_record r.locks
 
   abbrev ended_run : Running
   ended_run = tallied (outcome_ended a) (acted_on a r)
 
   abbrev Does : Told → Type 0
-  Does t = DoesActs (λ done. entries_of r.moment (suc r.number) instance done r.has_record) (done_there t.world) site1 a t
+  Does t = DoesActs (λ world done. entries_of r.moment (suc r.number) instance world done r.has_record) (done_there t.world) site1 a t
 
   does : (t : Told) → site.told ≡ Some t → Does t
   does t told = some_at site.told t Does told done
@@ -71,7 +71,7 @@ module _ (r : Running) (site site1 site' : Shown Told) (out out' : Shown (List �
   told_acts t told =
       ap (λ (s : Shown Told). s.told) locked
       ∙ ap (option_map (adds (lock_entries r.moment r.locks instance))) (does t told).told
-      ∙ ap Some (adds_both (entries_of r.moment (suc r.number) instance (done_there t.world) r.has_record) (lock_entries r.moment r.locks instance) t)
+      ∙ ap Some (adds_both (entries_of r.moment (suc r.number) instance t.world (done_there t.world) r.has_record) (lock_entries r.moment r.locks instance) t)
 
   small : suc r.number < 2 ^ 64
   small = omega (arith, few)
@@ -80,7 +80,7 @@ module _ (r : Running) (site site1 site' : Shown Told) (out out' : Shown (List �
   could t told = met_could (suc r.number) acts a t.world (does t told).changes
 
   keeps : (t : Told) → site.told ≡ Some t → KeepsMarks r.number (suc r.number) (more t)
-  keeps t told = acts_keep r.number r.moment instance r.has_record r.locks (actuated acts t.world) met small (actuated_of_acts acts t.world) (could t told)
+  keeps t told = acts_keep r.number r.moment instance t.world r.has_record r.locks (actuated acts t.world) met small (actuated_of_acts acts t.world) (could t told)
 
   acts_agree : (g : Given) → Agrees (ended_run, (site', out')) g → Agrees (r, (site, out)) g
   acts_agree g agreed t told on =
@@ -97,7 +97,7 @@ module _ (r : Running) (site site1 site' : Shown Told) (out out' : Shown (List �
     did_is : done_on g.start.marks (suc (actuations_in h)) instance (world_in g.start h) ≡ did
     did_is =
         done_is g.start h instance acts r.number met is behind.number_is
-        (met_next r.number r.moment g now instance r.has_record r.locks (actuated acts now.world) met small (actuated_of_acts acts now.world) (could now behind.told_is)
+        (met_next r.number r.moment g now instance now.world r.has_record r.locks (actuated acts now.world) met small (actuated_of_acts acts now.world) (could now behind.told_is)
         (on_first r.number g (log_in g.start h) behind.whole) (agreed (adds (more now) now) (told_acts now behind.told_is)))
 
     ended_is : outcome_done did ≡ outcome_ended a
@@ -127,11 +127,11 @@ module _ (r : Running) (site site1 site' : Shown Told) (out out' : Shown (List �
     entries_so : work_entries g.start (log_in g.start h) (suc (actuations_in h)) instance instance.work ++ lock ≡ more now
     entries_so =
         ap (λ work. work_entries g.start (log_in g.start h) (suc (actuations_in h)) instance work ++ lock) is
-        ∙ ap (λ done. entries_of g.start.moment (suc (actuations_in h)) instance done (has_record (log_in g.start h)) ++ lock) did_is
-        ∙ ap (λ k. entries_of g.start.moment (suc k) instance did (has_record (log_in g.start h)) ++ lock) (sym behind.number_is)
-        ∙ ap (λ moment. entries_of moment (suc r.number) instance did (has_record (log_in g.start h)) ++ lock) (sym behind.moment_is)
-        ∙ ap (λ has. entries_of r.moment (suc r.number) instance did has ++ lock) (sym behind.has_record_is)
-        ∙ ap (λ last. entries_of r.moment (suc r.number) instance did r.has_record ++ last) (same_lock (r, (site, out)) g h instance behind)
+        ∙ ap (λ done. entries_of g.start.moment (suc (actuations_in h)) instance (world_in g.start h) done (has_record (log_in g.start h)) ++ lock) did_is
+        ∙ ap (λ k. entries_of g.start.moment (suc k) instance (world_in g.start h) did (has_record (log_in g.start h)) ++ lock) (sym behind.number_is)
+        ∙ ap (λ moment. entries_of moment (suc r.number) instance (world_in g.start h) did (has_record (log_in g.start h)) ++ lock) (sym behind.moment_is)
+        ∙ ap (λ has. entries_of r.moment (suc r.number) instance (world_in g.start h) did has ++ lock) (sym behind.has_record_is)
+        ∙ ap (λ last. entries_of r.moment (suc r.number) instance (world_in g.start h) did r.has_record ++ last) (same_lock (r, (site, out)) g h instance behind)
 
     counted_so : suc r.number ≡ one_with_acts instance.work + r.number
     counted_so = let one : one_with_acts instance.work ≡ 1 = ap one_with_acts is in omega (arith, one)
@@ -143,7 +143,7 @@ module _ (r : Running) (site site1 site' : Shown Told) (out out' : Shown (List �
       number_is = counted_so;
       has_record_is =
           ap (λ b. r.has_record || b)
-          (sym (record_of_added r.moment (suc r.number) instance r.has_record r.locks (actuated acts (world_in g.start h)) met ∙ ap is_recorded ended_is));
+          (sym (record_of_added r.moment (suc r.number) instance (world_in g.start h) r.has_record r.locks (actuated acts (world_in g.start h)) met ∙ ap is_recorded ended_is));
       counts_are = one_more_ended (outcome_ended a) r.tally;
       told_is = told_acts now behind.told_is;
       out_is = put;
@@ -160,13 +160,13 @@ module _ (r : Running) (site site1 site' : Shown Told) (out out' : Shown (List �
 -- by the run in between and behind, and by the outcome that was answered
 pub acts_told : (r r1 r' : Running) (site site1 site' : Shown Told) (out out' : Shown (List ℕ)) (instance : Instance) (called outcome : Outcome) (acts : List Act) (a : Actuation) →
     instance.work ≡ Acts acts →
-    IfSome site.told (λ t. DoesActs (λ done. entries_of r.moment r1.number instance done r.has_record) (done_met r1.number acts a t.world) site1 a t) →
+    IfSome site.told (λ t. DoesActs (λ world done. entries_of r.moment r1.number instance world done r.has_record) (done_met r1.number acts a t.world) site1 a t) →
     r1 ≡ acted_on a r → r1.number ≤ 4294967295 → outcome ≡ outcome_ended a →
     Follows (adds (lock_entries r1.moment r1.locks instance)) site1 site' → r' ≡ tallied outcome r1 →
     Follows (adds_bytes (line_ended instance.source a)) out out' →
     HasTold teller_of Agrees IsBehind (r, (site, out)) (r', (site', out')) instance called (One outcome)
 acts_told r r1 r' site site1 site' out out' instance called outcome acts a is done acted few ended locked counted put =
-    let Done1 : Running → Type 0 = λ q. IfSome site.told (λ t. DoesActs (λ done. entries_of r.moment q.number instance done r.has_record) (done_met q.number acts a t.world) site1 a t) in
+    let Done1 : Running → Type 0 = λ q. IfSome site.told (λ t. DoesActs (λ world done. entries_of r.moment q.number instance world done r.has_record) (done_met q.number acts a t.world) site1 a t) in
     let Few : Running → Type 0 = λ q. q.number ≤ 4294967295 in
     let Locked : Running → Type 0 = λ q. Follows (adds (lock_entries q.moment q.locks instance)) site1 site' in
     let Told' : Running → Type 0 = λ q. HasTold teller_of Agrees IsBehind (r, (site, out)) (q, (site', out')) instance called (One outcome) in

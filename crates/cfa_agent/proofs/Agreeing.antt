@@ -3,6 +3,7 @@ use Rattle.std.proofs.Common.{◌≡◌, ℕ, suc, ◌<◌, ◌≤◌, ◌^◌, 
 use Rattle.std.proofs.lemmas.List.{drop-append-le}
 use Rattle.std.proofs.Math.Seq.{drop-append_seam}
 use Rattle.cfa_outside.specs.declared.sites.Entry.{Entry}
+use Rattle.cfa_outside.specs.declared.worlds.World.{World}
 use Rattle.cfa_outside.specs.Sites.{Told, adds}
 use Rattle.cfa_resolve.specs.declared.instances.Instance.{Instance}
 use Rattle.cfa_states.specs.Tellers.{Actuated}
@@ -19,13 +20,13 @@ pub record KeepsMarks (n n' : ℕ) (more : List Entry) : Type 0 where
   pub before : (log : List Entry) → IsWholeLog n log → (k : ℕ) → k ≤ n → mark_of (marks_of (log ++ more)) k ≡ mark_of (marks_of log) k
 
 -- so are those of an instance with acts, with its lock
-pub acts_keep : (n moment : ℕ) (instance : Instance) (has_record has_locks : Bool) (planned : Actuated) (m : Option Mark) →
+pub acts_keep : (n moment : ℕ) (instance : Instance) (world : World) (has_record has_locks : Bool) (planned : Actuated) (m : Option Mark) →
     suc n < 2 ^ 64 → AreOfActs planned.changes → CouldMeet (suc n) planned m →
-    KeepsMarks n (suc n) (added moment (suc n) instance (done_by planned m) has_record has_locks)
-acts_keep n moment instance has_record has_locks planned m small plain could = record {
+    KeepsMarks n (suc n) (added moment (suc n) instance world (done_by planned m) has_record has_locks)
+acts_keep n moment instance world has_record has_locks planned m small plain could = record {
   up = omega arith;
-  whole = λ log whole. whole_next n moment log instance has_record has_locks planned m small whole plain could;
-  before = λ log whole k le. mark_before n k moment log instance has_record has_locks planned m small le whole plain could;
+  whole = λ log whole. whole_next n moment log instance world has_record has_locks planned m small whole plain could;
+  before = λ log whole k le. mark_before n k moment log instance world has_record has_locks planned m small le whole plain could;
 }
 
 -- and a lock
@@ -61,17 +62,17 @@ same_before n n' g t more keeps on later k le =
     ∙ keeps.before (since g t) on.whole k le
 
 -- and the mark that the next instance met is that of the start
-pub met_next : (n moment : ℕ) (g : Given) (t : Told) (instance : Instance) (has_record has_locks : Bool) (planned : Actuated) (m : Option Mark) →
+pub met_next : (n moment : ℕ) (g : Given) (t : Told) (instance : Instance) (world : World) (has_record has_locks : Bool) (planned : Actuated) (m : Option Mark) →
     suc n < 2 ^ 64 → AreOfActs planned.changes → CouldMeet (suc n) planned m → GoesOn n g t →
-    (GoesOn (suc n) g (adds (added moment (suc n) instance (done_by planned m) has_record has_locks) t) →
-    SameMarks (suc n) g.start.marks (marks_of (since g (adds (added moment (suc n) instance (done_by planned m) has_record has_locks) t)))) →
+    (GoesOn (suc n) g (adds (added moment (suc n) instance world (done_by planned m) has_record has_locks) t) →
+    SameMarks (suc n) g.start.marks (marks_of (since g (adds (added moment (suc n) instance world (done_by planned m) has_record has_locks) t)))) →
     mark_of g.start.marks (suc n) ≡ m
-met_next n moment g t instance has_record has_locks planned m small plain could on later =
-    let more : List Entry = added moment (suc n) instance (done_by planned m) has_record has_locks in
-    let keeps : KeepsMarks n (suc n) more = acts_keep n moment instance has_record has_locks planned m small plain could in
+met_next n moment g t instance world has_record has_locks planned m small plain could on later =
+    let more : List Entry = added moment (suc n) instance world (done_by planned m) has_record has_locks in
+    let keeps : KeepsMarks n (suc n) more = acts_keep n moment instance world has_record has_locks planned m small plain could in
     later (goes_on_more n (suc n) g t more keeps on) (suc n) (omega arith)
     ∙ ap (λ log. mark_of (marks_of log) (suc n)) (since_more g t more on.longer)
-    ∙ mark_next n moment (since g t) instance has_record has_locks planned m small on.whole plain could
+    ∙ mark_next n moment (since g t) instance world has_record has_locks planned m small on.whole plain could
 
 -- ---- at what a run came to
 

@@ -1,6 +1,7 @@
 -- What acts do depends on nothing of a world but its nodes and its services.
 use Rattle.std.proofs.Common.{◌≡◌, ℕ, true, false, List, [], ◌∷◌, ◌++◌, refl, sym, ap, ◌∙◌, IsTrue, subst, Bool, nat_lt}
 use Rattle.std.specs.Prelude.{if◌then◌else◌}
+use Rattle.std.specs.FinMap as map
 use Rattle.cfa_outside.specs.declared.worlds.World.{World}
 use Rattle.cfa_outside.specs.declared.sites.Change.{Change}
 use Rattle.cfa_outside.specs.declared.sites.Change.TheVariants.{PutFile, PutDir, Remove, SetPerms, PutService, PutLock, Append}
@@ -14,9 +15,10 @@ use Rattle.cfa_acts.specs.Acts.{decision, post, needed}
 use Rattle.cfa_states.specs.Tellers.{Actuated, actuated, actuated_by, changing}
 use Rattle.cfa_resolve.specs.declared.instances.Instance.{Instance}
 use Rattle.cfa_agent.specs.declared.recording.Heading.{Heading}
-use Rattle.cfa_journal.specs.declared.records.Record.TheVariants.{Open}
-use Rattle.cfa_locks.specs.Locks.{key_of}
-use Rattle.cfa_agent.specs.Actuations.{run_record, appended}
+use Rattle.cfa_journal.specs.declared.records.Record.TheVariants.{Open, File}
+use Rattle.cfa_journal.specs.declared.records.Digest.TheVariants.{Sha}
+use Rattle.cfa_locks.specs.Locks.{digest_of, key_of}
+use Rattle.cfa_agent.specs.Actuations.{run_record, appended, content_digest, file_record}
 use Rattle.cfa_agent.specs.Actuating.{opening, opening_at}
 use Rattle.cfa_agent.specs.Hosts.{SameHost}
 use Rattle.cfa_agent.specs.lemmas.Hosts.{after_both, same_trans, same_after, same_recorded, same_run}
@@ -86,3 +88,14 @@ same_opened changes heading instance w = by_test (nat_lt 0 changes) where
 
 pub same_back : (a b : World) → SameHost a b → SameHost b a
 same_back a b same = record { nodes = sym same.nodes; services = sym same.services }
+
+-- the record before a change tells of the nodes alone
+pub same_file_record : (number : ℕ) (change : Change) (a b : World) → SameHost a b → file_record number change a ≡ file_record number change b
+same_file_record number (PutFile path bytes) a b same =
+    ap (λ nodes. appended (File number path (content_digest (map.get nodes path)) (Sha (digest_of bytes))) ∷ []) same.nodes
+same_file_record number (PutDir path) a b same = refl
+same_file_record number (Remove path) a b same = refl
+same_file_record number (SetPerms path perms) a b same = refl
+same_file_record number (PutService name row) a b same = refl
+same_file_record number (PutLock key moment) a b same = refl
+same_file_record number (Append bytes) a b same = refl

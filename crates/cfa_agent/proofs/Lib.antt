@@ -1,8 +1,10 @@
 mod Rows
 mod MarkRows
+mod FileRows
 pub mod Logs
 pub mod Hosts
 pub mod Acting
+pub mod Found
 pub mod Opened
 pub mod Closing
 pub mod MarkLemmas

@@ -1,8 +1,9 @@
 -- Whether an instance writes a record, how it ended and what line it has, by how many changes it made and why it failed.
-use Rattle.std.proofs.Common.{◌≡◌, ℕ, Bool, true, false, ◌||◌, List, [], ◌∷◌, ◌++◌, length, take, Some, None, Option, refl, sym, ap, ◌∙◌, append-nil}
+use Rattle.std.proofs.Common.{◌≡◌, ℕ, Bool, true, false, ◌||◌, List, [], ◌∷◌, ◌++◌, length, take, drop, Some, None, Option, refl, sym, ap, ◌∙◌, append-nil}
 use Rattle.std.specs.Prelude.{if◌then◌else◌}
 use Rattle.std.specs.List.{flat_map}
 use Rattle.cfa_base.specs.lemmas.Truths.{or_false}
+use Rattle.cfa_outside.specs.declared.worlds.World.{World}
 use Rattle.cfa_outside.specs.declared.sites.Call.{Call}
 use Rattle.cfa_outside.specs.declared.sites.Change.{Change}
 use Rattle.cfa_outside.specs.declared.sites.Entry.{Entry}
@@ -14,7 +15,7 @@ use Rattle.cfa_output.specs.Lines.{repaired_line, failed_line}
 use Rattle.cfa_resolve.specs.declared.instances.Instance.{Instance}
 use Rattle.cfa_outcomes.specs.declared.outcomes.Outcome.TheVariants.{Kept, Repaired}
 use Rattle.cfa_states.specs.Tellers.{Actuated, outcome_by}
-use Rattle.cfa_agent.specs.Actuations.{Mark, Done, done_by, outcome_done, is_change, is_some_change, appended, run_record, entries_of}
+use Rattle.cfa_agent.specs.Actuations.{Mark, Done, done_by, begun_by, outcome_done, is_change, is_some_change, appended, run_record, entries_of}
 use Rattle.cfa_agent.specs.Ending.{line_by, outcome_counted, is_recorded}
 use Rattle.cfa_agent.specs.Locking.{lock_entries}
 use Rattle.cfa_agent.specs.Runs.{Start, is_record, has_record, lines_done}
@@ -46,37 +47,37 @@ failed : (made : List Change) (reason : Reason) → is_recorded (outcome_by made
 failed [] reason = refl
 failed (change ∷ made) reason = refl
 
-module _ (moment n : ℕ) (instance : Instance) (has : Bool) where
+module _ (moment n : ℕ) (instance : Instance) (world : World) (has : Bool) where
   record_of_plain : (made : List Change) (failure : Option Reason) →
-      has_record (entries_of moment n instance (record { changes = made; refused = None; failure = failure; is_begun = is_some_change made }) has) ≡ is_recorded (outcome_by made failure)
+      has_record (entries_of moment n instance world (record { changes = made; begun = None; refused = None; failure = failure; is_begun = is_some_change made }) has) ≡ is_recorded (outcome_by made failure)
   unfolding entries_of
   record_of_plain [] None = refl
   record_of_plain [] (Some reason) = behind_run moment has _ []
   record_of_plain (change ∷ made) None = behind_run moment has _ _
   record_of_plain (change ∷ made) (Some reason) = behind_run moment has _ _
 
-  record_of_refused : (made : List Change) (call : Call) (is_begun : Bool) →
-      has_record (entries_of moment n instance (record { changes = made; refused = Some call; failure = Some Fault; is_begun = is_begun }) has) ≡ true
+  record_of_refused : (made : List Change) (next : Option Change) (call : Call) (is_begun : Bool) →
+      has_record (entries_of moment n instance world (record { changes = made; begun = next; refused = Some call; failure = Some Fault; is_begun = is_begun }) has) ≡ true
   unfolding entries_of
-  record_of_refused made call true = behind_run moment has _ _
-  record_of_refused made call false = behind_run moment has _ []
+  record_of_refused made next call true = behind_run moment has _ _
+  record_of_refused made next call false = behind_run moment has _ []
 
 -- an instance that isn't kept writes one
-record_of_acts : (moment n : ℕ) (instance : Instance) (has : Bool) (planned : Actuated) (m : Option Mark) →
-    has_record (entries_of moment n instance (done_by planned m) has) ≡ is_recorded (outcome_done (done_by planned m))
-record_of_acts moment n instance has planned None = record_of_plain moment n instance has planned.changes planned.failure
-record_of_acts moment n instance has planned (Some mark) =
-    record_of_refused moment n instance has (take mark.changes planned.changes) mark.call (is_some_change (take mark.changes planned.changes) || is_change mark.call)
+record_of_acts : (moment n : ℕ) (instance : Instance) (world : World) (has : Bool) (planned : Actuated) (m : Option Mark) →
+    has_record (entries_of moment n instance world (done_by planned m) has) ≡ is_recorded (outcome_done (done_by planned m))
+record_of_acts moment n instance world has planned None = record_of_plain moment n instance world has planned.changes planned.failure
+record_of_acts moment n instance world has planned (Some mark) =
+    record_of_refused moment n instance world has (take mark.changes planned.changes) (begun_by mark.call (drop mark.changes planned.changes)) mark.call (is_some_change (take mark.changes planned.changes) || is_change mark.call)
     ∙ sym (failed (take mark.changes planned.changes) Fault)
 
 -- with its lock
-pub record_of_added : (moment n : ℕ) (instance : Instance) (has has_locks : Bool) (planned : Actuated) (m : Option Mark) →
-    has_record (entries_of moment n instance (done_by planned m) has ++ lock_entries moment has_locks instance) ≡ is_recorded (outcome_done (done_by planned m))
-record_of_added moment n instance has has_locks planned m =
-    record_in_both (entries_of moment n instance (done_by planned m) has) (lock_entries moment has_locks instance)
-    ∙ ap (λ b. has_record (entries_of moment n instance (done_by planned m) has) || b) (no_record_in_lock moment has_locks instance)
-    ∙ or_false (has_record (entries_of moment n instance (done_by planned m) has))
-    ∙ record_of_acts moment n instance has planned m
+pub record_of_added : (moment n : ℕ) (instance : Instance) (world : World) (has has_locks : Bool) (planned : Actuated) (m : Option Mark) →
+    has_record (entries_of moment n instance world (done_by planned m) has ++ lock_entries moment has_locks instance) ≡ is_recorded (outcome_done (done_by planned m))
+record_of_added moment n instance world has has_locks planned m =
+    record_in_both (entries_of moment n instance world (done_by planned m) has) (lock_entries moment has_locks instance)
+    ∙ ap (λ b. has_record (entries_of moment n instance world (done_by planned m) has) || b) (no_record_in_lock moment has_locks instance)
+    ∙ or_false (has_record (entries_of moment n instance world (done_by planned m) has))
+    ∙ record_of_acts moment n instance world has planned m
 
 pub record_of_lock : (has : Bool) (moment : ℕ) (has_locks : Bool) (instance : Instance) → has ≡ has || has_record (lock_entries moment has_locks instance)
 record_of_lock has moment has_locks instance = sym (ap (λ b. has || b) (no_record_in_lock moment has_locks instance) ∙ or_false has)

@@ -40,7 +40,7 @@ use Rattle.cfa_output.specs.Lines.{id_text, failed_line, report_line}
 use Rattle.cfa_acts.specs.Acts.{decision, post, needed}
 use Rattle.cfa_locks.specs.Locks.{key_of as lock_key}
 use Rattle.cfa_agent.specs.Actuations.{Mark, done_on, entries_of}
-use Rattle.cfa_agent.specs.Marks.{closed_in, marks_of}
+use Rattle.cfa_agent.specs.Marks.{closed_in, is_file_record, marks_of}
 use Rattle.cfa_agent.specs.Runs.{Start, run_of, log_of, lines_of, tally_of}
 
 -- ---- policies
@@ -71,7 +71,7 @@ a_bad_path = a_bundle (codes "agent") (codes "main") (
     ∷ section (codes "reports") (promise (codes "hello") [] ∷ []) ∷ []) ∷ []
 
 one_record : log_of (setting a_bad_path) (started []) ≡
-    written (codes "run 7")
+    written (codes "run 7 2")
     ∷ written (codes "fail 1 main:1@4 " ++ (lock_key (codes "main 1;bust F1 a%20b;k=;r=;f=;e=1") ++ codes " F1")) ∷ []
 unfolding decision post needed run_of log_of lines_of tally_of done_on entries_of record_text id_text failed_line report_line run common_passes passes calls_of reach visit told resolution combined own_reads made heard bodies_of made_instance file_acts service_act outcome_classes key_text mode_text datum_given data_set raises_of setting_choices shared_names shared_in expanded scalar look key_of pieces reference_at list_reference_of are_too_many list_given answer_of function_named path_of body_of bundle_of common_bundles_of minutes_of sequence_of escaped escape_of digits is_literal is_boolean promise_type bundle_type files_attribute outcome_attribute methods_attribute services_attribute vars_attribute classes_attribute delete_attribute copy_from_attribute perms_attribute classes_body_attribute action_attribute expression_of
 one_record = refl
@@ -85,36 +85,24 @@ one_failed : tally_of (setting a_bad_path) (started []) ≡ record { kept = 1; r
 unfolding decision post needed run_of log_of lines_of tally_of done_on entries_of record_text id_text failed_line report_line run common_passes passes calls_of reach visit told resolution combined own_reads made heard bodies_of made_instance file_acts service_act outcome_classes key_text mode_text datum_given data_set raises_of setting_choices shared_names shared_in expanded scalar look key_of pieces reference_at list_reference_of are_too_many list_given answer_of function_named path_of body_of bundle_of common_bundles_of minutes_of sequence_of escaped escape_of digits is_literal is_boolean promise_type bundle_type files_attribute outcome_attribute methods_attribute services_attribute vars_attribute classes_attribute delete_attribute copy_from_attribute perms_attribute classes_body_attribute action_attribute expression_of
 one_failed = refl
 
--- ---- a file whose look fails, and one whose change fails
+-- ---- a file whose look fails
 
 abbrev one_file : PolicyTree
 one_file = a_bundle (codes "agent") (codes "main") (section (codes "files") (promise (codes "/etc/motd") (created ∷ []) ∷ []) ∷ []) ∷ []
 
 a_failed_look : log_of (setting one_file) (started (marked 0 (Refused calls.Look))) ≡
     Refused calls.Look
-    ∷ written (codes "run 7")
+    ∷ written (codes "run 7 2")
     ∷ written (codes "fail 1 main:1@4 " ++ (lock_key (codes "main 1;create /etc/motd;k=;r=;f=;e=1") ++ codes " F11")) ∷ []
 unfolding decision post needed run_of log_of lines_of tally_of done_on entries_of record_text id_text failed_line report_line run common_passes passes calls_of reach visit told resolution combined own_reads made heard bodies_of made_instance file_acts service_act outcome_classes key_text mode_text datum_given data_set raises_of setting_choices shared_names shared_in expanded scalar look key_of pieces reference_at list_reference_of are_too_many list_given answer_of function_named path_of body_of bundle_of common_bundles_of minutes_of sequence_of escaped escape_of digits is_literal is_boolean promise_type bundle_type files_attribute outcome_attribute methods_attribute services_attribute vars_attribute classes_attribute delete_attribute copy_from_attribute perms_attribute classes_body_attribute action_attribute expression_of
 a_failed_look = refl
-
-a_failed_change : log_of (setting one_file) (started (marked 0 (Refused calls.Change))) ≡
-    written (codes "run 7")
-    ∷ written (codes "open 1 main:1@4 " ++ lock_key (codes "main 1;create /etc/motd;k=;r=;f=;e=1"))
-    ∷ Refused calls.Change
-    ∷ written (codes "done 1 failed F11") ∷ []
-unfolding decision post needed run_of log_of lines_of tally_of done_on entries_of record_text id_text failed_line report_line run common_passes passes calls_of reach visit told resolution combined own_reads made heard bodies_of made_instance file_acts service_act outcome_classes key_text mode_text datum_given data_set raises_of setting_choices shared_names shared_in expanded scalar look key_of pieces reference_at list_reference_of are_too_many list_given answer_of function_named path_of body_of bundle_of common_bundles_of minutes_of sequence_of escaped escape_of digits is_literal is_boolean promise_type bundle_type files_attribute outcome_attribute methods_attribute services_attribute vars_attribute classes_attribute delete_attribute copy_from_attribute perms_attribute classes_body_attribute action_attribute expression_of
-a_failed_change = refl
 
 a_fault_is_told : lines_of (setting one_file) (started (marked 0 (Refused calls.Change))) ≡
     codes "failed main:1@4 F11 Fault\n" ∷ []
 unfolding decision post needed run_of log_of lines_of tally_of done_on entries_of record_text id_text failed_line report_line run common_passes passes calls_of reach visit told resolution combined own_reads made heard bodies_of made_instance file_acts service_act outcome_classes key_text mode_text datum_given data_set raises_of setting_choices shared_names shared_in expanded scalar look key_of pieces reference_at list_reference_of are_too_many list_given answer_of function_named path_of body_of bundle_of common_bundles_of minutes_of sequence_of escaped escape_of digits is_literal is_boolean promise_type bundle_type files_attribute outcome_attribute methods_attribute services_attribute vars_attribute classes_attribute delete_attribute copy_from_attribute perms_attribute classes_body_attribute action_attribute expression_of
 a_fault_is_told = refl
 
--- the marks of these logs are those that made them
+-- the mark of that log is the one that made it
 the_look_is_marked : marks_of (log_of (setting one_file) (started (marked 0 (Refused calls.Look)))) ≡ marked 0 (Refused calls.Look)
-unfolding closed_in
+unfolding closed_in is_file_record
 the_look_is_marked = ap marks_of a_failed_look
-
-the_change_is_marked : marks_of (log_of (setting one_file) (started (marked 0 (Refused calls.Change)))) ≡ marked 0 (Refused calls.Change)
-unfolding closed_in
-the_change_is_marked = ap marks_of a_failed_change

@@ -15,7 +15,7 @@ use Rattle.cfa_output.specs.declared.ends.Stop.TheVariants.{Outside, Memory, Vis
 use Rattle.cfa_resolve.specs.declared.instances.Instance.{Instance}
 use Rattle.cfa_agent.specs.declared.actuating.Actuation.{Actuation}
 use Rattle.cfa_agent.specs.declared.recording.Heading.{Heading}
-use Rattle.cfa_agent.specs.Actuations.{is_change, number_of, appended, run_record, Mark, Done, done_by, entries_of, changed, refused_entry}
+use Rattle.cfa_agent.specs.Actuations.{is_change, number_of, appended, run_record, file_record, begun_record, Mark, Done, done_by, entries_of, changed, refused_entry}
 use Rattle.cfa_base.specs.declared.want_of_memory.NoMemory.{NoMemory}
 use Rattle.cfa_outside.specs.declared.sites.Change.{Change}
 use Rattle.cfa_outside.specs.declared.sites.Entry.TheVariants.{Did, Refused}
@@ -24,7 +24,7 @@ use Rattle.cfa_acts.specs.declared.acts.Act.{Act}
 use Rattle.cfa_acts.specs.declared.acts.Decision.{Decision}
 use Rattle.cfa_acts.specs.declared.acts.Reason.TheVariants.{Fault}
 use Rattle.cfa_acts.specs.Acts.{IsOwn, decision}
-use Rattle.cfa_states.specs.Tellers.{actuated}
+use Rattle.cfa_states.specs.Tellers.{actuated, after_all}
 use Rattle.cfa_agent.specs.declared.actuating.Step.{Step}
 use Rattle.cfa_outside.specs.declared.sites.Call.TheVariants as calls
 use Rattle.cfa_acts.specs.declared.acts.Decision.TheVariants as decisions
@@ -104,53 +104,62 @@ closing heading instance a = closing_by heading instance a.changes a.refused a.f
 
 -- ---- one act
 
--- behind what stands before it a change was made, or refused
-abbrev pub IsMade : Change → (opened : List Entry) → (before after : Shown Told) → Step → Type 0
-IsMade change opened before after steps.Changed = Follows (adds (opened ++ Did change ∷ [])) before after
-IsMade change opened before after (steps.Refused calls.Change) =
-    HasFailed (adds (opened ++ Refused calls.Change ∷ [])) before after
-IsMade change opened before after _ = ⊥
+-- where a call was refused one failed, and else the count of faults stands
+abbrev pub StepFaults : Step → (before after : Shown Told) → Type 0
+StepFaults (steps.Refused call) before after = HasFault before after
+StepFaults _ before after = after.faults ≡ before.faults
+
+-- a change was made, or refused
+abbrev pub IsMade : Change → (before after : Shown Told) → Step → Type 0
+IsMade change before after steps.Changed = Follows (adds (Did change ∷ [])) before after
+IsMade change before after (steps.Refused calls.Change) = HasFailed (adds (Refused calls.Change ∷ [])) before after
+IsMade change before after _ = ⊥
 
 abbrev pub ChangeTried : Change → (before after : Shown Told) → Result Step NoMemory → Type 0
-ChangeTried change before after (Ok step) = IsMade change [] before after step
+ChangeTried change before after (Ok step) = IsMade change before after step
 ChangeTried change before after (Err want) = before.faults ≤ after.faults
-
-pub record ChangeMade (change : Change) (opened : List Entry) (before after : Shown Told) (result : Result Step Stop) : Type 0 where
-  pub made : IfOk result (IsMade change opened before after)
-  pub stopped : IfErr result (StopsBySite before after)
 
 -- a look was refused
 abbrev pub IsRefusedLook : Call → Step → Type 0
 IsRefusedLook call (steps.Refused call') = (call' ≡ call) × (is_change call ≡ false)
 IsRefusedLook call _ = ⊥
 
--- where a call was refused one failed, and else the count of faults stands
-abbrev pub StepFaults : Step → (before after : Shown Told) → Type 0
-StepFaults (steps.Refused call) before after = HasFault before after
-StepFaults _ before after = after.faults ≡ before.faults
-
 -- an act fails of itself for no fault
 abbrev pub StepIsOwn : Step → Type 0
 StepIsOwn (steps.Failed reason) = IsOwn reason
 StepIsOwn _ = Unit {0}
 
--- the entries of a call that was refused in an act
-abbrev pub refused_entries : (opened : List Entry) → Call → List Entry
-refused_entries opened call = (if is_change call then opened else []) ++ Refused call ∷ []
+-- the entries of a needed change on a world, made or refused, behind what stands before it
+abbrev pub change_entries : (number : ℕ) → (opened : List Entry) → Change → Entry → World → List Entry
+change_entries number opened change entry world = opened ++ (file_record number change world ++ entry ∷ [])
+
+-- a look was refused, before any record of the act
+abbrev pub IsLookRefused : Call → (after : Shown Told) → Told → Type 0
+IsLookRefused call after t = (is_change call ≡ false) × (after.told ≡ Some (adds (Refused call ∷ []) t))
 
 -- what came of an act, by the decision on it; whether a call is refused is the site's to say
-abbrev pub Takes : (opened : List Entry) → Decision → Step → (after : Shown Told) → Told → Type 0
-Takes opened decisions.Kept steps.Kept after t = after.told ≡ Some t
-Takes opened (decisions.Needs change) steps.Changed after t = after.told ≡ Some (adds (opened ++ Did change ∷ []) t)
-Takes opened (decisions.Fail reason) (steps.Failed reason') after t = (reason' ≡ reason) × (after.told ≡ Some t)
-Takes opened _ (steps.Refused call) after t = after.told ≡ Some (adds (refused_entries opened call) t)
-Takes opened _ _ after t = ⊥
+abbrev pub Takes : (number : ℕ) → (opened : List Entry) → Decision → Step → (after : Shown Told) → Told → Type 0
+Takes number opened decisions.Kept steps.Kept after t = after.told ≡ Some t
+Takes number opened (decisions.Needs change) steps.Changed after t =
+    after.told ≡ Some (adds (change_entries number opened change (Did change) t.world) t)
+Takes number opened (decisions.Needs change) (steps.Refused calls.Change) after t =
+    after.told ≡ Some (adds (change_entries number opened change (Refused calls.Change) t.world) t)
+Takes number opened (decisions.Fail reason) (steps.Failed reason') after t = (reason' ≡ reason) × (after.told ≡ Some t)
+Takes number opened _ (steps.Refused call) after t = IsLookRefused call after t
+Takes number opened _ _ after t = ⊥
 
-pub record ActTaken (act : Act) (opened : List Entry) (before after : Shown Told) (result : Result Step Stop) : Type 0 where
-  pub taken : IfOk result (λ step. IfSome before.told (λ t. Takes opened (decision act t.world) step after t))
+-- what came of an act, of which the decision is known by the world
+pub record StepTaken (number : ℕ) (decided : World → Decision) (opened : List Entry) (before after : Shown Told) (result : Result Step Stop) : Type 0 where
+  pub taken : IfOk result (λ step. IfSome before.told (λ t. Takes number opened (decided t.world) step after t))
   pub cause : IfOk result (λ step. StepFaults step before after)
   pub own : IfOk result StepIsOwn
   pub stopped : IfErr result (StopsBySite before after)
+
+abbrev pub ChangeMade : (number : ℕ) → Change → (opened : List Entry) → (before after : Shown Told) → Result Step Stop → Type 0
+ChangeMade number change opened = StepTaken number (λ world. decisions.Needs change) opened
+
+abbrev pub ActTaken : (number : ℕ) → Act → (opened : List Entry) → (before after : Shown Told) → Result Step Stop → Type 0
+ActTaken number act opened = StepTaken number (decision act) opened
 
 -- ---- an actuation
 
@@ -178,26 +187,28 @@ abbrev pub done_met : (number : ℕ) → List Act → Actuation → World → Do
 done_met number acts a world = done_by (actuated acts world) (mark_met number a)
 
 -- it came to what was to be done, and wrote this of it
-pub record DoesActs (entries : Done → List Entry) (done : Done) (after : Shown Told) (a : Actuation) (t : Told) : Type 0 where
+pub record DoesActs (entries : World → Done → List Entry) (done : Done) (after : Shown Told) (a : Actuation) (t : Told) : Type 0 where
   pub failure : a.failure ≡ done.failure
   pub changes : a.changes ≡ length done.changes
-  pub told : after.told ≡ Some (adds (entries done) t)
+  pub told : after.told ≡ Some (adds (entries t.world done) t)
 
-pub record ActsDone (number : ℕ) (acts : List Act) (entries : Done → List Entry) (before after : Shown Told) (result : Result Actuation Stop) : Type 0 where
+pub record ActsDone (number : ℕ) (acts : List Act) (entries : World → Done → List Entry) (before after : Shown Told) (result : Result Actuation Stop) : Type 0 where
   pub done : IfOk result (λ a. IfSome before.told (λ t. DoesActs entries (done_met number acts a t.world) after a t))
   pub cause : IfOk result (λ a. FaultsBy a.refused before after)
   pub caused : IfOk result (λ a. IsCaused a.refused a.failure)
   pub stopped : IfErr result (StopsBySite before after)
 
 -- the entries up to the last change, or up to the refused call
-abbrev pub acted_by : (opened : List Entry) → Done → (is_begun : Bool) → List Entry
-acted_by opened done false = refused_entry done.refused
-acted_by opened done true = opened ++ (changed done.changes ++ refused_entry done.refused)
+abbrev pub acted_by : (number : ℕ) → (opened : List Entry) → World → Done → (is_begun : Bool) → List Entry
+acted_by number opened world done false = refused_entry done.refused
+acted_by number opened world done true =
+    opened ++ (changed number world done.changes
+    ++ (begun_record number (after_all done.changes world) done.begun ++ refused_entry done.refused))
 
-abbrev pub acted : (opened : List Entry) → Done → List Entry
-acted opened done = acted_by opened done done.is_begun
+abbrev pub acted : (number : ℕ) → (opened : List Entry) → World → Done → List Entry
+acted number opened world done = acted_by number opened world done done.is_begun
 
 -- the acts were done, with the records of the journal
 abbrev pub Actuates : (moment number : ℕ) → Instance → List Act → (has_record : Bool) → (before after : Shown Told) → Result Actuation Stop → Type 0
 Actuates moment number instance acts has_record before after result =
-    ActsDone number acts (λ done. entries_of moment number instance done has_record) before after result
+    ActsDone number acts (λ world done. entries_of moment number instance world done has_record) before after result

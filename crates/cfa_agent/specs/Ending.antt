@@ -96,7 +96,7 @@ pub record Hears (r r' : Running) (instance : Instance) (before after : Shown To
 -- the next instance with acts was actuated
 pub record ActsNext (r r' : Running) (instance : Instance) (acts : List Act) (before after : Shown Told) (result : Result Actuation Stop) : Type 0 where
   pub done : IfOk result (λ a. IfSome before.told (λ t.
-      DoesActs (λ done. entries_of r.moment r'.number instance done r.has_record) (done_met r'.number acts a t.world) after a t))
+      DoesActs (λ world done. entries_of r.moment r'.number instance world done r.has_record) (done_met r'.number acts a t.world) after a t))
   pub counted : IfOk result (λ a. r' ≡ acted_on a r)
   pub few : OnOk result (r'.number ≤ 4294967295)
   pub later : OnOk result (before.faults ≤ after.faults)

@@ -3,6 +3,7 @@ pub mod Hosts
 pub mod Marks
 pub mod Runs
 pub mod Ran
+pub mod Digesting
 pub mod Actuating
 pub mod Locking
 pub mod Standing

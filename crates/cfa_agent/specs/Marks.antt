@@ -1,6 +1,6 @@
--- The marks of a log, read off it. A call that was refused in an act is an entry with a `done` or a `fail` record somewhere behind
--- it. The first such record closes the instance that failed: its mark has the number of that record, and counts the changes that
--- stand directly before the entry, behind the last record or lock before it.
+-- The marks of a log, read off it. A call that was refused in an act, or for a digest, is an entry with a `done` or a `fail` record
+-- somewhere behind it. The first such record closes the instance that failed: its mark has the number of that record, and counts
+-- the changes of this instance before the entry: those behind the last lock, and the last record that is no `file`.
 use Rattle.std.specs.Prelude.{ℕ, suc, Bool, true, false, ◌||◌, ◌==◌, if◌then◌else◌, List, [], ◌∷◌, ◌++◌, Option, Some, None, codes}
 use Rattle.std.specs.List.{slice_split}
 use Rattle.std.specs.Option.{option_or}
@@ -47,19 +47,29 @@ is_of_act (Append bytes) = false
 is_of_act (PutLock key moment) = false
 is_of_act _ = true
 
--- how many changes of acts stand directly before the next entry, where so many stood directly before this change
-abbrev pub counted_on : (changes : ℕ) → (of_act : Bool) → ℕ
-counted_on changes true = suc changes
-counted_on changes false = 0
+abbrev pub begins_with_file : (fields : List (List ℕ)) → Bool
+begins_with_file [] = false
+begins_with_file (word ∷ others) = bytes_eq word (codes "file")
+
+-- a `file` record
+unfoldable pub is_file_record : (text : List ℕ) → Bool
+is_file_record text = begins_with_file (slice_split (λ byte. byte == 32) text)
+
+-- how many changes an instance has made, where it made so many before this change: one of an act is one more, a `file` record leaves
+-- them, and any other record and a lock begin or end it
+abbrev pub counted_on : (changes : ℕ) → Change → ℕ
+counted_on changes (Append bytes) = if is_file_record bytes then changes else 0
+counted_on changes (PutLock key moment) = 0
+counted_on changes _ = suc changes
 
 abbrev pub mark_closed : (changes : ℕ) → Call → (closed : Option ℕ) → List Mark
 mark_closed changes call None = []
 mark_closed changes call (Some number) = record { instance = number; changes = changes; call = call } ∷ []
 
--- where so many changes stand directly before the log
+-- where an instance has made so many changes before the log
 abbrev pub marks_behind : (changes : ℕ) → List Entry → List Mark
 marks_behind changes [] = []
-marks_behind changes (Did change ∷ log) = marks_behind (counted_on changes (is_of_act change)) log
+marks_behind changes (Did change ∷ log) = marks_behind (counted_on changes change) log
 marks_behind changes (Refused call ∷ log) =
     mark_closed changes call (first_closed log) ++ marks_behind changes log
 

@@ -68,7 +68,7 @@ module _ (s : Start) where
 
   abbrev pub work_entries : List Entry → (number : ℕ) → Instance → Work → List Entry
   work_entries log number instance (Acts acts) =
-      entries_of s.moment number instance (done_behind log number instance) (has_record log)
+      entries_of s.moment number instance (after log s.world) (done_behind log number instance) (has_record log)
   work_entries log number instance (Call name arguments) = []
   work_entries log number instance (Report content) = []
 

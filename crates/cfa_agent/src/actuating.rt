@@ -2,12 +2,16 @@
 ghost use Rattle.std.specs.Prelude.{◌≡◌, ◌+◌, ◌≤◌, All, IfOk, IfErr, IfSome, IsTrue, length};
 ghost use Rattle.cfa_outside.specs.Sites.{fits};
 ghost use Rattle.cfa_acts.specs.Acts.{IsAct};
-ghost use Rattle.cfa_journal.specs.Records.{IsId};
+ghost use Rattle.cfa_journal.specs.Records.{IsId, IsRecord};
+ghost use Rattle.cfa_agent.specs.Actuations.{file_record};
+ghost use Rattle.cfa_agent.specs.Digesting.{OfWorld, recorded};
 ghost use Rattle.cfa_agent.specs.Actuating.{IsRecorded, opening, opening_at, ChangeTried, ChangeMade, IsRefusedLook, ActTaken, ActsDone, acted, Actuates};
 
-use crate::recording::{Heading, close, open_at};
+use crate::digesting::{DigestErr, find_record};
+use crate::recording::{Heading, begin, close};
 use cfa_acts::{Act, Decision, Reason, decide};
 use cfa_base::{LAST_MOMENT, NoMemory};
+use cfa_journal::Record;
 use cfa_output::Stop;
 use cfa_outside::{Call, Change, OutsideErr, Site};
 use cfa_resolve::Instance;
@@ -49,7 +53,29 @@ fn change_site<S: Site>(alloc: Global, change: &Change, site: &mut S) -> Result<
     }
 }
 
-// Makes a needed change, behind the records that stand before the first one.
+// Makes a needed change, behind the records that stand before it.
+fn change_recorded<S: Site>(
+    alloc: Global,
+    heading: Heading,
+    instance: &Instance,
+    changes: u32,
+    file: Option<Record>,
+    change: &Change,
+    site: &mut S,
+) -> Result<Step, Stop>
+    requires recorded { IsRecorded heading instance.now }
+    requires file { IfSome file IsRecord }
+    requires told { OfWorld (λ world. recorded file
+        ≡ file_record heading.number change.now world) (S.shown site.old) }
+    requires fits { IfSome (S.shown site.old).told (λ t. IsTrue (fits change.now t.world)) }
+    ensures { ChangeMade heading.number change.now (opening_at changes heading instance.now)
+        (S.shown site.old) (S.shown site.new) result }
+{
+    begin(alloc, changes, heading, instance, file, site)?;
+    Ok(change_site(alloc, change, site)?)
+}
+
+// Makes a needed change. What stands there is looked at before any record of it.
 fn make_change<S: Site>(
     alloc: Global,
     heading: Heading,
@@ -60,11 +86,14 @@ fn make_change<S: Site>(
 ) -> Result<Step, Stop>
     requires recorded { IsRecorded heading instance.now }
     requires fits { IfSome (S.shown site.old).told (λ t. IsTrue (fits change.now t.world)) }
-    ensures { ChangeMade change.now (opening_at changes heading instance.now)
+    ensures { ChangeMade heading.number change.now (opening_at changes heading instance.now)
         (S.shown site.old) (S.shown site.new) result }
 {
-    open_at(alloc, changes, heading, instance, site)?;
-    Ok(change_site(alloc, change, site)?)
+    match find_record(alloc, heading.number, change, site) {
+        Ok(file) => change_recorded(alloc, heading, instance, changes, file, change, site),
+        Err(DigestErr::Failed(call)) => Ok(Step::Refused(call)),
+        Err(DigestErr::NoMemory) => Err(Stop::Memory),
+    }
 }
 
 // A failed look. No look is a change.
@@ -88,7 +117,7 @@ fn take_act<S: Site>(
 ) -> Result<Step, Stop>
     requires act { IsAct act.now }
     requires recorded { IsRecorded heading instance.now }
-    ensures { ActTaken act.now (opening_at changes heading instance.now)
+    ensures { ActTaken heading.number act.now (opening_at changes heading instance.now)
         (S.shown site.old) (S.shown site.new) result }
 {
     match decide(alloc, act, site)? {
@@ -116,7 +145,7 @@ fn run_acts<S: Site>(
 ) -> Result<Actuation, Stop>
     requires acts { All IsAct acts.now }
     requires recorded { IsRecorded heading instance.now }
-    ensures { ActsDone heading.number acts.now (acted (opening heading instance.now))
+    ensures { ActsDone heading.number acts.now (acted heading.number (opening heading instance.now))
         (S.shown site.old) (S.shown site.new) result }
 {
     let mut changes = 0;

@@ -2,6 +2,7 @@
 #![tactic(auto)]
 
 mod actuating;
+mod digesting;
 mod locking;
 mod progress;
 mod putting;

@@ -1,5 +1,5 @@
 // The records of an actuation.
-ghost use Rattle.std.specs.Prelude.{◌≡◌, ◌<◌, ◌≤◌, ℕ, [], ◌∷◌, IfOk, IsTrue};
+ghost use Rattle.std.specs.Prelude.{◌≡◌, ◌<◌, ◌≤◌, ◌++◌, ℕ, [], ◌∷◌, IfOk, IfSome, IsTrue};
 ghost use Rattle.cfa_outside.specs.declared.worlds.World.{World};
 ghost use Rattle.cfa_outside.specs.declared.sites.Entry.TheVariants.{Did};
 ghost use Rattle.cfa_outside.specs.Sites.{fits};
@@ -7,6 +7,7 @@ ghost use Rattle.cfa_journal.specs.declared.records.Record.TheVariants as Record
 ghost use Rattle.cfa_journal.specs.Records.{IsRecord, IsReason, IsMoment, IsCount};
 ghost use Rattle.cfa_locks.specs.Locks.{key_of};
 ghost use Rattle.cfa_agent.specs.Actuations.{number_of, appended};
+ghost use Rattle.cfa_agent.specs.Digesting.{recorded};
 ghost use Rattle.cfa_agent.specs.Actuating.{Writes, IsRecorded, run_before, opening, opening_at, failing, is_begun, closing_repaired, closing_failed, closing};
 
 use crate::actuating::Actuation;
@@ -117,7 +118,7 @@ fn put_run<S: Site>(alloc: Global, heading: Heading, site: &mut S) -> Result<(),
     if heading.has_record {
         return Ok(());
     }
-    put_record(alloc, &Record::Run(heading.moment), site)
+    put_record(alloc, &Record::Run2(heading.moment), site)
 }
 
 // Writes that the first change of an instance comes next.
@@ -136,8 +137,8 @@ fn open<S: Site>(
     put(alloc, record, site)
 }
 
-/// Writes that the first change of an instance comes next, where none was made so far.
-pub fn open_at<S: Site>(
+// Writes that the first change of an instance comes next, where none was made so far.
+fn open_at<S: Site>(
     alloc: Global,
     changes: u32,
     heading: Heading,
@@ -152,6 +153,36 @@ pub fn open_at<S: Site>(
         return Ok(());
     }
     open(alloc, heading, instance, site)
+}
+
+// Writes a record, if there is one.
+fn put_any<S: Site>(alloc: Global, item: Option<Record>, site: &mut S) -> Result<(), Stop>
+    requires { IfSome item IsRecord }
+    ensures { Writes (recorded item) (S.shown site.old) (S.shown site.new) result }
+{
+    match item {
+        Some(item) => put_record(alloc, &item, site),
+        None => Ok(()),
+    }
+}
+
+/// Writes what stands before a change of an instance that has made so many: that its first one comes next, and the record
+/// of the file, if it puts one.
+pub fn begin<S: Site>(
+    alloc: Global,
+    changes: u32,
+    heading: Heading,
+    instance: &Instance,
+    file: Option<Record>,
+    site: &mut S,
+) -> Result<(), Stop>
+    requires recorded { IsRecorded heading instance.now }
+    requires file { IfSome file IsRecord }
+    ensures { Writes (opening_at changes heading instance.now ++ recorded file)
+        (S.shown site.old) (S.shown site.new) result }
+{
+    open_at(alloc, changes, heading, instance, site)?;
+    put_any(alloc, file, site)
 }
 
 // Writes that an instance failed without a change.

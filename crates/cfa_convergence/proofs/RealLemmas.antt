@@ -5,7 +5,7 @@ use Rattle.std.specs.Prelude.{take}
 use Rattle.cfa_outside.specs.declared.worlds.World.{World}
 use Rattle.cfa_outside.specs.declared.sites.Change.{Change}
 use Rattle.cfa_outside.specs.declared.sites.Entry.{Entry}
-use Rattle.cfa_outside.specs.Sites.{after_change, after}
+use Rattle.cfa_outside.specs.Sites.{after}
 use Rattle.cfa_acts.specs.declared.acts.Reason.{Reason}
 use Rattle.cfa_acts.specs.declared.acts.Reason.TheVariants.{Fault}
 use Rattle.cfa_journal.specs.declared.records.Record.TheVariants as records
@@ -19,7 +19,7 @@ use Rattle.cfa_states.specs.History.{History, Begun, Set, Raised, Reached, Liste
 use Rattle.cfa_states.specs.Tellers.{Actuated, actuated, after_all, acts_of, outcome_by}
 use Rattle.cfa_agent.specs.Actuations.{Mark, mark_of, done_by, done_on, outcome_done, appended, changed, run_record, closing_record, entries_of}
 use Rattle.cfa_agent.specs.Hosts.{SameHost}
-use Rattle.cfa_agent.specs.lemmas.Hosts.{after_both, same_trans, same_after, same_recorded, same_run}
+use Rattle.cfa_agent.specs.lemmas.Hosts.{after_both, same_trans, same_recorded, same_run, same_changed}
 use Rattle.cfa_agent.specs.Runs.{Start, actuations_in, has_record, done_behind, work_entries, log_in, world_in, done_next, outcome_by_work, tally_in}
 use Rattle.cfa_convergence.specs.Contained.{kept_or_repaired, unfailing, with_acts, actuations}
 use Rattle.cfa_convergence.specs.Lasting.{Trace, Becomes, unchanged, actuates}
@@ -29,14 +29,6 @@ use Rattle.cfa_convergence.specs.Told.{Telling, TellAlike, outcomes_by, IsToldBy
 
 pub same_world : (w : World) → SameHost w w
 same_world w = record { nodes = refl; services = refl }
-
-changes_same : (cs : List Change) (w v : World) → SameHost w v → SameHost (after_all cs w) (after_all cs v)
-changes_same [] w v same = same
-changes_same (c ∷ cs) w v same = changes_same cs (after_change c w) (after_change c v) (same_after c w v same)
-
-after_changed : (cs : List Change) (rest : List Entry) (w : World) → after (changed cs ++ rest) w ≡ after rest (after_all cs w)
-after_changed [] rest w = refl
-after_changed (c ∷ cs) rest w = after_changed cs rest (after_change c w)
 
 -- ---- an instance that didn't fail
 
@@ -60,7 +52,7 @@ unmarked planned (Some mark) fine = absurd (failing (take mark.changes planned.c
 
 -- what the entries of such an instance do to the host
 entries_same : (moment number : ℕ) (i : Instance) (has : Bool) (changes : List Change) (failure : Option Reason) → failure ≡ None → (w : World) →
-    SameHost (after (entries_of moment number i (done_by (record { changes = changes; failure = failure }) None) has) w) (after_all changes w)
+    SameHost (after (entries_of moment number i w (done_by (record { changes = changes; failure = failure }) None) has) w) (after_all changes w)
 unfolding entries_of
 entries_same moment number i has changes (Some reason) none w = absurd (cc)
 entries_same moment number i has [] None none w = same_world w
@@ -70,12 +62,12 @@ entries_same moment number i has (c ∷ cs) None none w =
     let closing = closing_record number (length (c ∷ cs)) None in
     let w1 : World = after first w in
     let w2 : World = after (appended opening ∷ []) w1 in
-    let w3 : World = after_all (c ∷ cs) w2 in
-    let same : after (first ++ appended opening ∷ (changed (c ∷ cs) ++ appended closing ∷ [])) w ≡ after (appended closing ∷ []) w3 =
-    after_both first (appended opening ∷ (changed (c ∷ cs) ++ appended closing ∷ [])) w ∙ after_changed (c ∷ cs) (appended closing ∷ []) w2 in
+    let w3 : World = after (changed number w (c ∷ cs)) w2 in
+    let same : after (first ++ appended opening ∷ (changed number w (c ∷ cs) ++ appended closing ∷ [])) w ≡ after (appended closing ∷ []) w3 =
+    after_both first (appended opening ∷ (changed number w (c ∷ cs) ++ appended closing ∷ [])) w ∙ after_both (changed number w (c ∷ cs)) (appended closing ∷ []) w2 in
     subst (λ x. SameHost x (after_all (c ∷ cs) w)) (sym same)
     (same_trans (after (appended closing ∷ []) w3) w3 (after_all (c ∷ cs) w) (same_recorded closing w3)
-    (changes_same (c ∷ cs) w2 w (same_trans w2 w1 w (same_recorded opening w1) (same_run moment has w))))
+    (same_changed number (c ∷ cs) w w2 (same_trans w2 w1 w (same_recorded opening w1) (same_run moment has w))))
 
 -- ---- a run without failures
 
@@ -154,17 +146,17 @@ module _ (start : Start) where
 
   acted_same : (h : History) (i : Instance) (o : Outcome) → o ≡ outcome_done (done_next quiet (world_in quiet h) h i) → NoneFailed o →
       ((actuated (acts_of i.work) (world_in quiet h)).failure ≡ None)
-      × SameHost (after (log_in quiet h ++ (entries_of start.moment (suc (actuations_in h)) i (done_behind quiet (log_in quiet h) (suc (actuations_in h)) i) (has_record (log_in quiet h)) ++ [])) start.world)
+      × SameHost (after (log_in quiet h ++ (entries_of start.moment (suc (actuations_in h)) i (world_in quiet h) (done_behind quiet (log_in quiet h) (suc (actuations_in h)) i) (has_record (log_in quiet h)) ++ [])) start.world)
       (after_all (actuated (acts_of i.work) (world_in quiet h)).changes (world_in quiet h))
   unfolding done_on
   acted_same h i o ended fine =
       let planned : Actuated = actuated (acts_of i.work) (world_in quiet h) in
       let mark = mark_of start.marks (suc (actuations_in h)) in
       let plain = unmarked planned mark (subst NoneFailed ended fine) in
-      let entries : List Entry = entries_of start.moment (suc (actuations_in h)) i (done_by planned mark) (has_record (log_in quiet h)) in
-      let same : after (log_in quiet h ++ (entries ++ [])) start.world ≡ after (entries_of start.moment (suc (actuations_in h)) i (done_by planned None) (has_record (log_in quiet h))) (world_in quiet h) =
+      let entries : List Entry = entries_of start.moment (suc (actuations_in h)) i (world_in quiet h) (done_by planned mark) (has_record (log_in quiet h)) in
+      let same : after (log_in quiet h ++ (entries ++ [])) start.world ≡ after (entries_of start.moment (suc (actuations_in h)) i (world_in quiet h) (done_by planned None) (has_record (log_in quiet h))) (world_in quiet h) =
       after_both (log_in quiet h) (entries ++ []) start.world ∙ ap (λ es. after es (world_in quiet h)) (append-nil entries)
-      ∙ ap (λ d. after (entries_of start.moment (suc (actuations_in h)) i d (has_record (log_in quiet h))) (world_in quiet h)) plain.1 in (
+      ∙ ap (λ d. after (entries_of start.moment (suc (actuations_in h)) i (world_in quiet h) d (has_record (log_in quiet h))) (world_in quiet h)) plain.1 in (
         plain.0,
         subst (λ x. SameHost x (after_all planned.changes (world_in quiet h))) (sym same)
             (entries_same start.moment (suc (actuations_in h)) i (has_record (log_in quiet h)) planned.changes planned.failure plain.0 (world_in quiet h)),

@@ -70,15 +70,15 @@ module _ (keeps : KeptWherePostHolds) (world : World) (moment : ℕ) (kept : His
   ends_kept h i (Call name given) is none told p = worst_kept h told (inner_path i)
   ends_kept h i (Report content) is none told p = refl
 
-  nothing_written : (number : ℕ) (i : Instance) (has : Bool) → entries_of moment number i (done_by no_more None) has ≡ []
+  nothing_written : (number : ℕ) (i : Instance) (w : World) (has : Bool) → entries_of moment number i w (done_by no_more None) has ≡ []
   unfolding entries_of
-  nothing_written number i has = refl
+  nothing_written number i w has = refl
 
   writes_nothing : (h : History) (i : Instance) (w : Work) → log_in again h ≡ [] → (HasActs w → PostsHold world (acts_of i.work)) →
       work_entries again (log_in again h) (suc (actuations_in h)) i w ≡ []
   writes_nothing h i (Acts acts) none p =
-      ap (λ d. entries_of moment (suc (actuations_in h)) i d (has_record (log_in again h))) (done_nothing (suc (actuations_in h)) i (world_in again h) (ap (λ es. after es world) none) (p tt))
-      ∙ nothing_written (suc (actuations_in h)) i (has_record (log_in again h))
+      ap (λ d. entries_of moment (suc (actuations_in h)) i (world_in again h) d (has_record (log_in again h))) (done_nothing (suc (actuations_in h)) i (world_in again h) (ap (λ es. after es world) none) (p tt))
+      ∙ nothing_written (suc (actuations_in h)) i (world_in again h) (has_record (log_in again h))
   writes_nothing h i (Call name given) none p = refl
   writes_nothing h i (Report content) none p = refl
 

@@ -24,7 +24,7 @@ pub returns-in-Refused : goal.returns-in-Refused
 returns-in-Refused g c =
     let took = rw c.in-Refused.is at c.in_ok-take_act.ensures in
     record {
-      done = so_far_refused c.args.heading c.args.instance.now c.args.acts.now c.loop-act.act-index c.act-item.result c.loop-act.changes (g.S.Site.shown c.args.site.now) (g.S.Site.shown c.loop-act.site) (g.S.Site.shown c.take_act.new.site) c.in-Refused.call c.loop-act.invariant.so_far took.taken;
+      done = so_far_refused c.args.heading c.args.instance.now c.args.acts.now c.loop-act.act-index c.act-item.result c.loop-act.changes (g.S.Site.shown c.args.site.now) (g.S.Site.shown c.loop-act.site) (g.S.Site.shown c.take_act.new.site) c.in-Refused.call (omega arith) c.act-item.is c.loop-act.invariant.so_far took.taken;
       cause = fault_behind (g.S.Site.shown c.args.site.now) (g.S.Site.shown c.loop-act.site) (g.S.Site.shown c.take_act.new.site) c.loop-act.invariant.calm took.cause;
       caused = refl;
       stopped = tt;
