@@ -14,12 +14,12 @@ use crate::tellers::Teller;
 use crate::visiting::visit_each;
 use cfa_base::Patterns;
 use cfa_kinds::PromiseType;
-use cfa_visits::{count_instances, instances_of};
 use cfa_output::Stop;
 use cfa_states::{
     Activation, Found, Numbered, State, guard_known, pass_over, reach_classes, reach_vars,
 };
 use cfa_statuses::Status;
+use cfa_visits::{count_instances, instances_of};
 
 // Reaches a promise that has instances, whose guard may hold.
 #[cycle(passes)]

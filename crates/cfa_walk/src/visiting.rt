@@ -16,13 +16,13 @@ use crate::passing::go_through;
 use crate::scenes::Scene;
 use crate::tellers::Teller;
 use cfa_base::{Name, NoMemory, Parts, Patterns};
-use cfa_visits::{begin_call, end_visit, ids_are_counted, remembered_in, visit_status};
 use cfa_outcomes::Outcome;
 use cfa_output::Stop;
 use cfa_resolve::{Instance, Work};
 use cfa_states::{Activation, State};
 use cfa_statuses::Status;
 use cfa_vars::Datum;
+use cfa_visits::{begin_call, end_visit, ids_are_counted, remembered_in, visit_status};
 use std::alloc::Global;
 
 // Goes through the bundle of a call, and answers its worst outcome.

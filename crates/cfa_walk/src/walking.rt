@@ -16,7 +16,6 @@ use crate::scenes::Scene;
 use crate::{Context, Teller};
 use cfa_base::{Name, Patterns};
 use cfa_kinds::{BundleType, PromiseType, bundle_type};
-use cfa_visits::{ids_are_counted, names_are_plain, remembered_in};
 use cfa_output::Stop;
 use cfa_schema::Checked;
 use cfa_states::{
@@ -24,6 +23,7 @@ use cfa_states::{
 };
 use cfa_statuses::Status;
 use cfa_tree::Bundle;
+use cfa_visits::{ids_are_counted, names_are_plain, remembered_in};
 use std::alloc::Global;
 
 // Reaches a promise of a common bundle, where it is one of this type.
