@@ -1,0 +1,13 @@
+mod AdvanceLemmas
+mod AheadLemmas
+mod AnswerLemmas
+mod BeginLemmas
+mod EnterLemmas
+mod GoneLemmas
+mod HeldLemmas
+mod HoldLemmas
+mod MoveLemmas
+mod QuietLemmas
+mod ReachLemmas
+mod RoundLemmas
+mod StepLemmas

@@ -1,0 +1,10 @@
+pub mod Answering
+pub mod Beginning
+pub mod Commons
+pub mod Machines
+pub mod Needs
+pub mod Reaching
+pub mod Stacks
+pub mod Standing
+pub mod Stepping
+pub mod Tops
