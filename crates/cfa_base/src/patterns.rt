@@ -1,6 +1,6 @@
 // Patterns, and what builds them.
 ghost use Rattle.std.specs.Prelude.{◌≡◌, ℕ, List, not, IsTrue, IfOk, OnOk, IsErrOf};
-ghost use Rattle.cfa_base.specs.Patterns.{PatternText, pattern_of, is_pattern, matches_in, refused_by, SizeRefusal};
+ghost use Rattle.cfa_base.specs.Patterns.{PatternText, pattern_of, is_pattern, refused_by, SizeRefusal};
 ghost use Rattle.cfa_base.specs.Shown.{Shown};
 ghost use Rattle.cfa_base.specs.declared.patterns.PatternErr.TheVariants.{NoMemory};
 
@@ -57,8 +57,8 @@ impl<T: Drop> From<AllocFailed<T>> for PatternErr {
 }
 
 /// A pattern in the syntax of the crate `regex`, as its text. Contracts see the text and how it is built, which say what it
-/// matches; of two patterns that are seen alike each may stand for the other. What searches for it is made by `compile`, so
-/// that whoever keeps patterns and lets go of them has nothing to do with that.
+/// matches; of two patterns that are seen alike each may stand for the other. What searches for it is a `CompiledPattern`, and
+/// no method here answers one: a crate that keeps patterns would read all that searching stands on.
 #[derive(Drop)]
 pub struct Pattern {
     text: Name,
@@ -92,24 +92,6 @@ impl Pattern {
         ensures { result.now ≡ self.now.text }
     {
         self.text.as_str()
-    }
-
-    /// What searches texts for the pattern, so that many texts cost one making. A pattern was compiled once when it was
-    /// made, so that nothing but memory can be wanting here.
-    pub fn compile(&self, alloc: Global) -> Result<CompiledPattern, memory::NoMemory>
-        ensures { IfOk result (λ compiled. compiled ≡ self.now) }
-    {
-        match CompiledPattern::new(alloc, &self.text, self.how) {
-            Ok(compiled) => Ok(compiled),
-            Err(_) => Err(memory::NoMemory),
-        }
-    }
-
-    /// Whether the pattern matches in the text.
-    pub fn matches(&self, alloc: Global, text: &Name) -> Result<bool, memory::NoMemory>
-        ensures { IfOk result (λ found. found ≡ matches_in self.now text.now) }
-    {
-        self.compile(alloc)?.matches(alloc, text)
     }
 }
 

@@ -10,7 +10,7 @@ ghost use Rattle.cfa_edit_proof.specs.Steps.{is_replace, IsFirstPlace};
 
 use crate::pairs::{delete_clashes, field_clashes, insert_clashes, replace_clashes};
 use crate::texts::chars_of;
-use cfa_base::{Matcher, Name, Names, NoMemory};
+use cfa_base::{CompiledPattern, Matcher, Name, Names, NoMemory};
 use cfa_edits::Edit;
 use std::alloc::Global;
 
@@ -57,12 +57,12 @@ pub fn first_clashing(
 {
     match edit {
         Edit::Delete(pattern) => {
-            let compiled = pattern.compile(alloc)?;
+            let compiled = CompiledPattern::of(alloc, pattern)?;
             let mut matcher = compiled.matcher(alloc)?;
             Ok(first_deleted(&mut matcher, edits, from))
         }
         Edit::Field(pattern, separator, number, value) => {
-            let compiled = pattern.compile(alloc)?;
+            let compiled = CompiledPattern::of(alloc, pattern)?;
             let mut matcher = compiled.matcher(alloc)?;
             first_wanting(alloc, &mut matcher, *separator, *number, value, edits, from)
         }

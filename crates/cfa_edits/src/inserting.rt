@@ -7,7 +7,7 @@ ghost use Rattle.cfa_edits.specs.Answers.{IsRefusalOf};
 ghost use Rattle.cfa_edits.specs.Steps.{lines_lent, has_line, HasLacking, block_of, blocks_of, AreAmong};
 
 use crate::{Edit, EditErr, Spot};
-use cfa_base::{Matcher, Names, Pattern};
+use cfa_base::{CompiledPattern, Matcher, Names, Pattern};
 use cfa_lines::Deck;
 use std::alloc::Global;
 use std::collections::HashSet;
@@ -190,7 +190,7 @@ fn anchor_in(
     ensures memory { IfErr result (λ error. error ≡ EditErr.NoMemory) }
     ensures deck { deck.new.lines ≡ deck.old.lines }
 {
-    let compiled = pattern.compile(alloc)?;
+    let compiled = CompiledPattern::of(alloc, pattern)?;
     let mut matcher = compiled.matcher(alloc)?;
     Ok(anchor_by(deck, &mut matcher, is_first))
 }

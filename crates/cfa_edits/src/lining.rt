@@ -6,7 +6,7 @@ ghost use Rattle.cfa_edits.specs.Answers.{IsRefusalOf};
 
 use crate::EditErr;
 use crate::fields::with_field;
-use cfa_base::{Matcher, Name, Pattern};
+use cfa_base::{CompiledPattern, Matcher, Name, Pattern};
 use cfa_lines::Deck;
 use std::alloc::Global;
 
@@ -29,7 +29,7 @@ pub fn delete(alloc: Global, deck: &mut Deck, pattern: &Pattern) -> Result<(), E
     ensures ok { OnOk result (deck.new.lines ≡ unmatched pattern.now deck.old.lines) }
     ensures memory { IfErr result (λ error. error ≡ EditErr.NoMemory) }
 {
-    let compiled = pattern.compile(alloc)?;
+    let compiled = CompiledPattern::of(alloc, pattern)?;
     let mut matcher = compiled.matcher(alloc)?;
     take_out(deck, &mut matcher);
     Ok(())
@@ -71,7 +71,7 @@ pub fn replace(
         ≡ map (λ line. replaced pattern.now line value.now all) deck.old.lines) }
     ensures memory { IfErr result (λ error. error ≡ EditErr.NoMemory) }
 {
-    let compiled = pattern.compile(alloc)?;
+    let compiled = CompiledPattern::of(alloc, pattern)?;
     let mut matcher = compiled.matcher(alloc)?;
     write_over(alloc, deck, &mut matcher, value, all)
 }
@@ -122,7 +122,7 @@ pub fn edit_fields(
     ensures refused { IfErr result (IsRefusalOf (or_field_count (each_becomes
         (λ line. field_edited pattern.now separator number value.now line) deck.old.lines))) }
 {
-    let compiled = pattern.compile(alloc)?;
+    let compiled = CompiledPattern::of(alloc, pattern)?;
     let mut matcher = compiled.matcher(alloc)?;
     give_fields(alloc, deck, &mut matcher, separator, number, value)
 }

@@ -17,7 +17,7 @@ use crate::making::make_text;
 use crate::reading::{Given, arguments_given};
 use crate::wanting::{as_text, one_text, two_texts};
 use cfa_base as base;
-use cfa_base::{How, Name, Pattern, PatternErr, Patterns};
+use cfa_base::{CompiledPattern, How, Name, Pattern, PatternErr, Patterns};
 use cfa_kinds::{ClassFunction, Function, function_named};
 use cfa_tree::Value;
 use cfa_vars::{Scopes, look_up};
@@ -84,7 +84,10 @@ fn match_text(alloc: Global, built: Pattern, text: Option<&Name>) -> Result<Answ
     ensures sizes { refused_in result ≡ None }
 {
     match text {
-        Some(text) => Ok(Answer::Class(built.matches(alloc, text)?)),
+        Some(text) => {
+            let compiled = CompiledPattern::of(alloc, &built)?;
+            Ok(Answer::Class(compiled.matches(alloc, text)?))
+        }
         None => Ok(Answer::TooLong),
     }
 }

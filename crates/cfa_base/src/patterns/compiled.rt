@@ -3,7 +3,7 @@ ghost use Rattle.std.specs.Prelude.{◌≡◌, not, IsTrue, IfOk, IfErr, OnOk, I
 ghost use Rattle.cfa_base.specs.Patterns.{PatternText, built_text, pattern_of, is_pattern, matches_in};
 ghost use Rattle.cfa_base.specs.CompiledPatterns.{IsBuilt};
 
-use super::{How, Matcher, PatternErr};
+use super::{How, Matcher, Pattern, PatternErr};
 use crate::{Name, NoMemory};
 use regex::Regex;
 use std::alloc::Global;
@@ -38,6 +38,17 @@ impl CompiledPattern {
             text: text.copy(alloc)?,
             how,
         })
+    }
+
+    /// What searches texts for the pattern, so that many texts cost one making. A pattern was compiled once when it was
+    /// made, so that nothing but memory can be wanting here.
+    pub fn of(alloc: Global, pattern: &Pattern) -> Result<CompiledPattern, NoMemory>
+        ensures { IfOk result (λ compiled. compiled ≡ pattern.now) }
+    {
+        match CompiledPattern::new(alloc, &pattern.text, pattern.how) {
+            Ok(compiled) => Ok(compiled),
+            Err(_) => Err(NoMemory),
+        }
     }
 
     /// What searches texts for the pattern, with the room that a search takes.
