@@ -61,3 +61,11 @@ def two_lists():
     """The vars promises of two lists of 64 items, whose joined texts are all different."""
     items = ", ".join(f'"{n:02}"' for n in range(64))
     return f'  vars:\n    "a" slist => {{ {items} }};\n    "b" slist => {{ {items} }};\n'
+
+
+def chain(count, makes_files=False):
+    """A policy of bundles of which each calls the next one, and makes a file before, where it is asked to."""
+    files = 'files:"/chain/{0}"create=>"true";' if makes_files else ""
+    calls = [f'bundle agent b{n}{{{files.format(n)}methods:"m"usebundle=>b{n + 1};}}\n' for n in range(count - 1)]
+    last = f"bundle agent b{count - 1}{{{files.format(count - 1)}}}\n"
+    return f'body common control{{bundlesequence=>{{"b0"}};}}\n{"".join(calls)}{last}'

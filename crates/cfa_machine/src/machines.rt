@@ -53,6 +53,7 @@ pub struct Machine<'a> {
 }
 
 /// What a run waits for.
+#[derive(Drop)]
 pub enum Need<'a> {
     /// Nothing: it goes on by itself.
     Nothing,

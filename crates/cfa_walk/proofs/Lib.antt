@@ -1,10 +1,2 @@
-pub mod CallLemmas
-pub mod CommonLemmas
-pub mod CountLemmas
-pub mod LevelLemmas
 pub mod ListingLemmas
-pub mod LoopLemmas
-pub mod PassLemmas
-pub mod QuietLemmas
-pub mod VisitLemmas
-pub mod WalkLemmas
+pub mod TurnLemmas

@@ -6,7 +6,7 @@ use Rattle.cfa_output.specs.declared.ends.Stop.{Stop}
 use Rattle.cfa_output.specs.declared.ends.Stop.TheVariants.{Outside, Memory, Visits, Pattern}
 use Rattle.cfa_walk.specs.declared.listing.WalkErr.{WalkErr}
 use Rattle.cfa_walk.specs.declared.listing.WalkErr.TheVariants.{NoMemory}
-use Rattle.cfa_walk.specs.Steps.{refusal_of}
+use Rattle.cfa_walk.specs.Ended.{refusal_of}
 use Rattle.cfa_resolve.specs.declared.instances.Instance.{Instance}
 use Rattle.cfa_walk.specs.declared.listing.Telling.{Telling}
 use Rattle.cfa_states.specs.declared.logs.Listing.{Listing}

@@ -1,5 +1,6 @@
 pub mod Settings
-pub mod Steps
+pub mod Turns
+pub mod Ended
 pub mod Walked
 pub mod Tellings
 pub mod Listed

@@ -3,10 +3,7 @@
 
 mod contexts;
 mod listing;
-mod passing;
-mod scenes;
 mod tellers;
-mod visiting;
 mod walking;
 
 pub use cfa_states::{Blame, Ending, MOST_VISITS, Visit, Walk, names_of};

@@ -5,7 +5,7 @@ ghost use Rattle.cfa_states.specs.Kept.{KeepsLog};
 ghost use Rattle.cfa_states.specs.Views.{Setting};
 ghost use Rattle.cfa_states.specs.Walks.{walked};
 ghost use Rattle.cfa_walk.specs.declared.listing.WalkErr.TheVariants as errors;
-ghost use Rattle.cfa_walk.specs.Steps.{refusal_of};
+ghost use Rattle.cfa_walk.specs.Ended.{refusal_of};
 ghost use Rattle.cfa_walk.specs.Listed.{HasWalked, IsRefused, WalkPatterns};
 ghost use Rattle.cfa_walk.specs.Settings.{setting_of};
 ghost use Rattle.cfa_walk.specs.Tellings.{ending_of};
@@ -13,6 +13,7 @@ ghost use Rattle.cfa_walk.specs.Tellings.{ending_of};
 use crate::walking::make_run;
 use crate::{Context, Teller};
 use cfa_base::{Name, NoMemory, Patterns};
+use cfa_machine::Machine;
 use cfa_outcomes::Outcome;
 use cfa_output::Stop;
 use cfa_resolve::{Instance, Work};
@@ -146,24 +147,16 @@ pub fn walk<P: Patterns>(
     ensures refused { IfErr result (IsRefused (setting_of checked.now context.now) telling) }
     ensures patterns { WalkPatterns result (P.shown pats.old) (P.shown pats.new) }
 {
-    let mut state = State::new(alloc, checked, &context.classes, true)?;
+    let mut machine = Machine::new(alloc, checked, &context.classes, true)?;
     let mut teller = telling;
-    match make_run(
-        alloc,
-        checked,
-        &mut state,
-        &mut teller,
-        &mut (),
-        &mut (),
-        pats,
-    ) {
+    match make_run(alloc, &mut machine, &mut teller, &mut (), &mut (), pats) {
         Ok(()) => {
-            let walked = take_walk(alloc, &mut state);
-            drop(state);
+            let walked = take_walk(alloc, &mut machine.state);
+            drop(machine);
             walked
         }
         Err(stop) => {
-            drop(state);
+            drop(machine);
             Err(refusal_of(stop))
         }
     }

@@ -1,285 +1,171 @@
-// The history of a whole run.
-ghost use Rattle.std.specs.Prelude.{◌≡◌, [], ◌∷◌, ℕ, All, IsTrue, Some, length, map, true};
-ghost use Rattle.cfa_schema.specs.Seen.{tree_of};
-ghost use Rattle.cfa_served.specs.Served.{bundle_of};
-ghost use Rattle.cfa_tree.specs.Tree.{PolicyTree};
-ghost use Rattle.cfa_visits.specs.Bundles.{seen_bundle, IsShared};
-ghost use Rattle.cfa_walk.specs.Steps.{is_in_common, QuietWalkDone, WalkEnds, common_walk, commons_walk, passes_walk, agent_walk, bundle_walk, sequence_walk, common_level, common_type_level, to_state};
-ghost use Rattle.cfa_walk.specs.declared.contexts.Context.{Context as AnyContext};
-ghost use Rattle.cfa_states.specs.Levels.{FaultsAre, PatternsAre, QuietDone};
-ghost use Rattle.cfa_states.specs.Kept.{Keeps, seen_numbered};
+// The history of a whole run, by turns: moves of its machine, and answers of who tells how its instances end.
+ghost use Rattle.std.specs.Prelude.{◌≡◌, ◌≢◌, [], Ok, OnOk, IfErr};
+ghost use Rattle.cfa_frames.specs.Frames.{beginning};
+ghost use Rattle.cfa_frames.specs.Moves.{ended, need_of, over};
+ghost use Rattle.cfa_machine.specs.Stacks.{Came, Holds, Stands, seen_stack};
+ghost use Rattle.cfa_states.specs.History.{History};
+ghost use Rattle.cfa_states.specs.Levels.{FaultsAre, IsTellersStop, PatternsAre};
+ghost use Rattle.cfa_states.specs.Tellers.{outcomes_in};
+ghost use Rattle.cfa_states.specs.Views.{Setting};
+ghost use Rattle.cfa_walk.specs.Ended.{to_state};
+ghost use Rattle.cfa_walk.specs.Turns.{GoesOn, IsEnding, IsVisit, TurnDone, visit_answered};
 ghost use Rattle.cfa_walk.specs.Settings.{setting_of};
 ghost use Rattle.cfa_walk.specs.Walked.{HasRun, HasRunTo};
 
-use crate::passing::go_through;
-use crate::scenes::Scene;
 use crate::{Context, Teller};
-use cfa_base::{Name, Patterns};
-use cfa_kinds::{BundleType, PromiseType, bundle_type};
+use cfa_base::Patterns;
+use cfa_frames::{
+    histories_only_grow, moves_are_quiet, moves_keep_what_is_left, moves_lower_the_weight,
+};
+use cfa_machine::{Machine, Need};
 use cfa_output::Stop;
 use cfa_schema::Checked;
-use cfa_states::{
-    Activation, Numbered, State, guard_status, numbered_in, pass_over, reach_classes, reach_vars,
-};
-use cfa_statuses::Status;
-use cfa_tree::Bundle;
-use cfa_visits::{ids_are_counted, names_are_plain, remembered_in};
+use cfa_states::Ending;
 use std::alloc::Global;
 
-// Reaches a promise of a common bundle, where it is one of this type.
-fn reach_common<P: Patterns>(
-    alloc: Global,
-    promise: &Numbered<'_>,
-    promise_type: PromiseType,
-    state: &mut State,
-    activation: &mut Activation,
-    pats: &mut P,
-) -> Result<(), Stop>
-    requires common { IsTrue (is_in_common promise_type) }
-    ensures done { (policy : PolicyTree) (depth : ℕ) → QuietDone policy true
-        (common_type_level depth (seen_numbered promise.now ∷ []) promise_type)
-        state.old state.new activation.old activation.new result }
-    ensures patterns { PatternsAre result (P.shown pats.old) (P.shown pats.new) }
+// Answers whether the visit in hand is skipped.
+fn answer_visit(alloc: Global, machine: &mut Machine<'_>, is_skipped: bool) -> Result<(), Stop>
+    requires holds { Holds machine.old }
+    ensures moved { OnOk result ((s : Setting) (h : History) → Stands s machine.old h
+        → Came s machine.new (Ok tt) (visit_answered s is_skipped (seen_stack machine.old) h)) }
+    ensures holds { OnOk result (Holds machine.new) }
+    ensures memory { IfErr result (λ stop. stop ≡ Stop.Memory) }
 {
-    if promise.promise_type != promise_type {
-        return Ok(());
+    if is_skipped {
+        return Ok(machine.skip(alloc)?);
     }
-    let guard = guard_status(state, activation, &promise.promise.guard);
-    if guard == Status::No {
-        return pass_over(promise, state, activation);
-    }
-    if promise_type == PromiseType::Vars {
-        return reach_vars(alloc, promise, guard, state, activation);
-    }
-    reach_classes(alloc, promise, guard, true, state, activation, pats)
+    Ok(machine.enter(alloc)?)
 }
 
-// Reaches the promises of one type of a common bundle one after the other.
-fn reach_common_type<P: Patterns>(
-    alloc: Global,
-    promises: &[Numbered<'_>],
-    promise_type: PromiseType,
-    state: &mut State,
-    activation: &mut Activation,
-    pats: &mut P,
-) -> Result<(), Stop>
-    requires common { IsTrue (is_in_common promise_type) }
-    ensures done { (policy : PolicyTree) (depth : ℕ) → QuietDone policy true
-        (common_type_level depth (map seen_numbered promises.now) promise_type)
-        state.old state.new activation.old activation.new result }
-    ensures patterns { PatternsAre result (P.shown pats.old) (P.shown pats.new) }
+// Answers how the instance of the visit in hand ended.
+fn answer_ending(alloc: Global, machine: &mut Machine<'_>, ending: Ending) -> Result<(), Stop>
+    requires holds { Holds machine.old }
+    ensures moved { OnOk result ((s : Setting) (h : History) → Stands s machine.old h
+        → Came s machine.new (Ok tt) (ended (outcomes_in ending) (seen_stack machine.old) h)) }
+    ensures holds { OnOk result (Holds machine.new) }
+    ensures memory { IfErr result (λ stop. stop ≡ Stop.Memory) }
 {
-    for promise in promises {
-        reach_common(alloc, promise, promise_type, state, activation, pats)?;
-    }
-    Ok(())
+    Ok(machine.end(alloc, ending)?)
 }
 
-// Reaches the promises of a common bundle in an activation of it: its vars, and then its classes.
-fn reach_common_types<P: Patterns>(
+// Has who tells say whether the visit in hand is skipped, and answers it so.
+fn visit<S, O, T: Teller<S, O>>(
     alloc: Global,
-    promises: &[Numbered<'_>],
-    state: &mut State,
-    activation: &mut Activation,
-    pats: &mut P,
-) -> Result<(), Stop>
-    ensures done { (policy : PolicyTree) (depth : ℕ) → QuietDone policy true
-        (common_level depth (map seen_numbered promises.now))
-        state.old state.new activation.old activation.new result }
-    ensures patterns { PatternsAre result (P.shown pats.old) (P.shown pats.new) }
-{
-    reach_common_type(alloc, promises, PromiseType::Vars, state, activation, pats)?;
-    reach_common_type(
-        alloc,
-        promises,
-        PromiseType::Classes,
-        state,
-        activation,
-        pats,
-    )
-}
-
-// Goes through a common bundle.
-fn through_common<P: Patterns>(
-    alloc: Global,
-    bundle: &Bundle,
-    state: &mut State,
-    pats: &mut P,
-) -> Result<(), Stop>
-    ensures done { (policy : PolicyTree) → IsShared policy bundle.now.name.name
-        → QuietWalkDone policy (common_walk (seen_bundle bundle.now)) state.old state.new result }
-    ensures patterns { PatternsAre result (P.shown pats.old) (P.shown pats.new) }
-{
-    let promises = numbered_in(alloc, bundle)?;
-    match Activation::of_common(alloc, state, &bundle.name.name)? {
-        None => Ok(()),
-        Some(mut activation) => {
-            let ended = reach_common_types(alloc, &promises, state, &mut activation, pats);
-            drop(activation);
-            ended
-        }
-    }
-}
-
-// Goes through common bundles one after the other.
-fn through_each<P: Patterns>(
-    alloc: Global,
-    bundles: &[&Bundle],
-    state: &mut State,
-    pats: &mut P,
-) -> Result<(), Stop>
-    ensures done { (policy : PolicyTree)
-        → All (λ bundle. IsShared policy bundle.now.name.name) bundles.now
-        → QuietWalkDone policy (commons_walk (map (λ bundle. seen_bundle bundle.now) bundles.now))
-        state.old state.new result }
-    ensures patterns { PatternsAre result (P.shown pats.old) (P.shown pats.new) }
-{
-    for bundle in bundles {
-        through_common(alloc, bundle, state, pats)?;
-    }
-    Ok(())
-}
-
-// Goes through the common bundles of a policy three times.
-fn through_commons<P: Patterns>(
-    alloc: Global,
-    checked: &Checked,
-    state: &mut State,
-    pats: &mut P,
-) -> Result<(), Stop>
-    ensures done { QuietWalkDone (tree_of checked.now) passes_walk state.old state.new result }
-    ensures patterns { PatternsAre result (P.shown pats.old) (P.shown pats.new) }
-{
-    let bundles = checked.common_bundles(alloc)?;
-    let bundles = bundles.as_slice();
-    through_each(alloc, bundles, state, pats)?;
-    // The second time.
-    through_each(alloc, bundles, state, pats)?;
-    through_each(alloc, bundles, state, pats)
-}
-
-// Activates an agent bundle of the sequence, and goes through it.
-fn through_bundle<S, O, T: Teller<S, O>, P: Patterns>(
-    scene: &Scene<'_>,
-    name: &Name,
-    bundle: &Bundle,
-    state: &mut State,
+    machine: &mut Machine<'_>,
     teller: &mut T,
     site: &mut S,
     out: &mut O,
-    pats: &mut P,
 ) -> Result<(), Stop>
-    requires depth { scene.now.depth ≡ length (tree_of scene.now.checked.now) }
-    requires shared { IsShared (tree_of scene.now.checked.now) name.now }
-    requires found { bundle_of (tree_of scene.now.checked.now) name.now
-        ≡ Some (seen_bundle bundle.now) }
-    ensures { WalkEnds T.teller T.agrees T.behind T.faults (tree_of scene.now.checked.now)
-        (agent_walk name.now (seen_bundle bundle.now))
-        (teller.old, (site.old, out.old)) (teller.new, (site.new, out.new))
-        state.old state.new (P.shown pats.old) (P.shown pats.new) result }
+    requires holds { Holds machine.old }
+    requires asks { IsVisit (need_of (seen_stack machine.old)) }
+    ensures turned { TurnDone T.teller T.agrees T.behind (teller.old, (site.old, out.old))
+        (teller.new, (site.new, out.new)) machine.old machine.new result }
+    ensures lighter { OnOk result (GoesOn machine.old machine.new) }
+    ensures holds { OnOk result (Holds machine.new) }
+    ensures faults { FaultsAre (T.faults (teller.old, (site.old, out.old)))
+        (T.faults (teller.new, (site.new, out.new))) result }
+    ensures own { IfErr result IsTellersStop }
 {
-    let mut made = remembered_in(scene.alloc, bundle)?;
-    match Activation::of_sequence(scene.alloc, state, name)? {
-        None => Ok(()),
-        Some(mut activation) => {
-            names_are_plain(scene.checked);
-            ids_are_counted(scene.checked);
-            let remembered = &mut made;
-            let ended = go_through(
-                scene,
-                &remembered.promises,
-                &mut remembered.rows,
-                state,
-                &mut activation,
-                teller,
-                site,
-                out,
-                pats,
-            );
-            drop(activation);
-            ended
-        }
-    }
-}
-
-// Goes through a bundle of the sequence. A common bundle isn't gone through again.
-fn through_named<S, O, T: Teller<S, O>, P: Patterns>(
-    scene: &Scene<'_>,
-    name: &Name,
-    state: &mut State,
-    teller: &mut T,
-    site: &mut S,
-    out: &mut O,
-    pats: &mut P,
-) -> Result<(), Stop>
-    requires depth { scene.now.depth ≡ length (tree_of scene.now.checked.now) }
-    requires shared { IsShared (tree_of scene.now.checked.now) name.now }
-    ensures { WalkEnds T.teller T.agrees T.behind T.faults (tree_of scene.now.checked.now)
-        (bundle_walk name.now)
-        (teller.old, (site.old, out.old)) (teller.new, (site.new, out.new))
-        state.old state.new (P.shown pats.old) (P.shown pats.new) result }
-{
-    match scene.checked.bundle(name.as_str()) {
-        None => Ok(()),
-        Some(bundle) => match bundle_type(bundle.kind.name.as_str()) {
-            Some(BundleType::Agent) => {
-                through_bundle(scene, name, bundle, state, teller, site, out, pats)
-            }
-            _ => Ok(()),
+    moves_keep_what_is_left();
+    moves_lower_the_weight();
+    moves_are_quiet();
+    match machine.need() {
+        Need::Visit(instance, status) => match teller.visit(alloc, instance, status, site, out) {
+            Err(stop) => Err(stop),
+            Ok(is_skipped) => answer_visit(alloc, machine, is_skipped),
         },
+        Need::Nothing | Need::Ending(_, _) | Need::Over => Ok(()),
     }
 }
 
-// Goes through bundles of the sequence one after the other.
-fn through_sequence<S, O, T: Teller<S, O>, P: Patterns>(
-    scene: &Scene<'_>,
-    names: &[Name],
-    state: &mut State,
-    teller: &mut T,
-    site: &mut S,
-    out: &mut O,
-    pats: &mut P,
-) -> Result<(), Stop>
-    requires depth { scene.now.depth ≡ length (tree_of scene.now.checked.now) }
-    requires shared { All (IsShared (tree_of scene.now.checked.now)) names.now }
-    ensures { WalkEnds T.teller T.agrees T.behind T.faults (tree_of scene.now.checked.now)
-        (sequence_walk names.now)
-        (teller.old, (site.old, out.old)) (teller.new, (site.new, out.new))
-        state.old state.new (P.shown pats.old) (P.shown pats.new) result }
-{
-    for name in names {
-        through_named(scene, name, state, teller, site, out, pats)?;
-    }
-    Ok(())
-}
-
-/// Makes the history of a run of a policy, behind the state in which nothing has happened.
-pub(crate) fn make_run<S, O, T: Teller<S, O>, P: Patterns>(
+// Has who tells say how the instance of the visit in hand ended, and answers it so.
+fn finish<S, O, T: Teller<S, O>>(
     alloc: Global,
-    checked: &Checked,
-    state: &mut State,
+    machine: &mut Machine<'_>,
+    teller: &mut T,
+    site: &mut S,
+    out: &mut O,
+) -> Result<(), Stop>
+    requires holds { Holds machine.old }
+    requires asks { IsEnding (need_of (seen_stack machine.old)) }
+    ensures turned { TurnDone T.teller T.agrees T.behind (teller.old, (site.old, out.old))
+        (teller.new, (site.new, out.new)) machine.old machine.new result }
+    ensures lighter { OnOk result (GoesOn machine.old machine.new) }
+    ensures holds { OnOk result (Holds machine.new) }
+    ensures faults { FaultsAre (T.faults (teller.old, (site.old, out.old)))
+        (T.faults (teller.new, (site.new, out.new))) result }
+    ensures own { IfErr result IsTellersStop }
+{
+    moves_keep_what_is_left();
+    moves_lower_the_weight();
+    moves_are_quiet();
+    let called = machine.called();
+    match machine.need() {
+        Need::Ending(instance, _) => match teller.tell(alloc, instance, called, site, out) {
+            Err(stop) => Err(stop),
+            Ok(ending) => answer_ending(alloc, machine, ending),
+        },
+        Need::Nothing | Need::Visit(_, _) | Need::Over => Ok(()),
+    }
+}
+
+// Moves a run once, or has it answered by who tells.
+fn turn<S, O, T: Teller<S, O>, P: Patterns>(
+    alloc: Global,
+    machine: &mut Machine<'_>,
     teller: &mut T,
     site: &mut S,
     out: &mut O,
     pats: &mut P,
 ) -> Result<(), Stop>
-    ensures ran { (context : AnyContext) → Keeps (setting_of checked.now context) state.old []
-        → HasRunTo T.teller T.agrees T.behind (setting_of checked.now context)
-        (teller.old, (site.old, out.old)) (teller.new, (site.new, out.new))
-        (to_state state.new result) }
+    requires holds { Holds machine.old }
+    requires stands { (s : Setting) × ((h : History) × Stands s machine.old h) }
+    requires more { need_of (seen_stack machine.old) ≢ over }
+    ensures turned { TurnDone T.teller T.agrees T.behind (teller.old, (site.old, out.old))
+        (teller.new, (site.new, out.new)) machine.old machine.new result }
+    ensures lighter { OnOk result (GoesOn machine.old machine.new) }
+    ensures holds { OnOk result (Holds machine.new) }
     ensures faults { FaultsAre (T.faults (teller.old, (site.old, out.old)))
         (T.faults (teller.new, (site.new, out.new))) result }
     ensures patterns { PatternsAre result (P.shown pats.old) (P.shown pats.new) }
 {
-    through_commons(alloc, checked, state, pats)?;
-    let depth = checked.policy().blocks.as_slice().len();
-    let scene = Scene {
-        alloc,
-        checked,
-        depth,
-    };
-    let names = checked.sequence(alloc)?;
-    through_sequence(&scene, names.as_slice(), state, teller, site, out, pats)
+    moves_keep_what_is_left();
+    moves_lower_the_weight();
+    moves_are_quiet();
+    histories_only_grow();
+    match machine.need() {
+        Need::Over => Ok(()),
+        Need::Nothing => machine.advance(alloc, pats),
+        Need::Visit(_, _) => visit(alloc, machine, teller, site, out),
+        Need::Ending(_, _) => finish(alloc, machine, teller, site, out),
+    }
+}
+
+/// Makes the history of a run that begins: turn by turn, until nothing is left.
+pub(crate) fn make_run<S, O, T: Teller<S, O>, P: Patterns>(
+    alloc: Global,
+    machine: &mut Machine<'_>,
+    teller: &mut T,
+    site: &mut S,
+    out: &mut O,
+    pats: &mut P,
+) -> Result<(), Stop>
+    requires holds { Holds machine.old }
+    requires stands { (s : Setting) × Stands s machine.old [] }
+    ensures ran { (s : Setting) → Stands s machine.old [] → seen_stack machine.old ≡ beginning s
+        → HasRunTo T.teller T.agrees T.behind s (teller.old, (site.old, out.old))
+        (teller.new, (site.new, out.new)) (to_state machine.new.state result) }
+    ensures faults { FaultsAre (T.faults (teller.old, (site.old, out.old)))
+        (T.faults (teller.new, (site.new, out.new))) result }
+    ensures patterns { PatternsAre result (P.shown pats.old) (P.shown pats.new) }
+{
+    moves_keep_what_is_left();
+    loop {
+        if let Need::Over = machine.need() {
+            return Ok(());
+        }
+        turn(alloc, machine, teller, site, out, pats)?;
+    }
 }
 
 /// Makes the history of a run of a policy in a context, under who tells how its instances end: the common bundles three
@@ -302,8 +188,8 @@ pub fn run<S, O, T: Teller<S, O>, P: Patterns>(
         (T.faults (teller.new, (site.new, out.new))) result }
     ensures patterns { PatternsAre result (P.shown pats.old) (P.shown pats.new) }
 {
-    let mut state = State::new(alloc, checked, &context.classes, false)?;
-    let ended = make_run(alloc, checked, &mut state, teller, site, out, pats);
-    drop(state);
+    let mut machine = Machine::new(alloc, checked, &context.classes, false)?;
+    let ended = make_run(alloc, &mut machine, teller, site, out, pats);
+    drop(machine);
     ended
 }

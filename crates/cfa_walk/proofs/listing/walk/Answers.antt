@@ -7,10 +7,15 @@ use Rattle.cfa_walk.specs.Settings.{setting_of}
 use Rattle.cfa_walk.proofs.ListingLemmas.{agrees, behind, has_walked, not_taken, refused_by, refused_patterns, taken_patterns}
 use Rattle.cfa_walk.proofs.listing.walk.Goals as goal
 
+pub make_run-requires-clause-stands : goal.make_run-requires-clause-stands
+make_run-requires-clause-stands g c = (setting_of c.args.checked.now c.args.context.now, c.in_ok-machine.ensures.begins.stands)
+
 pub returns-in-Ok-clause-walked : goal.returns-in-Ok-clause-walked
 returns-in-Ok-clause-walked g c =
-    has_walked agrees behind (setting_of c.args.checked.now c.args.context.now) c.args.telling (c.args.telling, (tt, tt)) (c.make_run.new.teller, (tt, tt)) c.make_run.new.teller
-    refl (λ same. sym same) tt c.make_run.new.state c.take_walk-walked.result (c.in-Ok.ensures.ran c.args.context.now c.in_ok-state.ensures.keeps) c.take_walk-walked.ensures.walked
+    let s = setting_of c.args.checked.now c.args.context.now in
+    let begins = c.in_ok-machine.ensures.begins in
+    has_walked agrees behind s c.args.telling (c.args.telling, (tt, tt)) (c.make_run.new.teller, (tt, tt)) c.make_run.new.teller
+    refl (λ same. sym same) tt c.make_run.new.machine.state c.take_walk-walked.result (c.in-Ok.ensures.ran s begins.stands begins.stack) c.take_walk-walked.ensures.walked
 
 pub returns-in-Ok-clause-refused : goal.returns-in-Ok-clause-refused
 returns-in-Ok-clause-refused g c =
@@ -23,9 +28,10 @@ returns-in-Ok-clause-patterns g c =
 pub returns-in-Err-clause-refused : goal.returns-in-Err-clause-refused
 returns-in-Err-clause-refused g c =
     let s = setting_of c.args.checked.now c.args.context.now in
+    let begins = c.in_ok-machine.ensures.begins in
     subst (λ (refusal : WalkErr). IsRefused s c.args.telling refusal) (sym c.refusal_of.ensures)
     (refused_by agrees behind s c.args.telling (c.args.telling, (tt, tt)) (c.make_run.new.teller, (tt, tt)) c.make_run.new.teller
-    refl (λ same. sym same) tt c.in-Err.stop (c.in-Err.ensures.ran c.args.context.now c.in_ok-state.ensures.keeps))
+    refl (λ same. sym same) tt c.in-Err.stop (c.in-Err.ensures.ran s begins.stands begins.stack))
 
 pub returns-in-Err-clause-patterns : goal.returns-in-Err-clause-patterns
 returns-in-Err-clause-patterns g c =

@@ -1,32 +1,50 @@
-use Rattle.std.proofs.Common.{◌∙◌, List, ℕ, All, subst, sym}
+use Rattle.std.proofs.Common.{Result, Err, sym}
 use Rattle.cfa_base.specs.lemmas.Results.{on_err}
-use Rattle.cfa_schema.specs.Seen.{tree_of}
-use Rattle.cfa_visits.specs.Bundles.{IsShared}
-use Rattle.cfa_walk.specs.Steps.{to_state}
-use Rattle.cfa_walk.specs.Settings.{setting_of}
+use Rattle.cfa_machine.specs.Stacks.{seen_stack}
+use Rattle.cfa_output.specs.declared.ends.Stop.{Stop}
+use Rattle.cfa_states.specs.Levels.{FaultsAre, PatternsAre}
+use Rattle.cfa_walk.specs.Ended.{to_state}
 use Rattle.cfa_walk.specs.Walked.{HasRunTo}
-use Rattle.cfa_visits.specs.lemmas.Served.{sequence_shared}
-use Rattle.cfa_walk.proofs.WalkLemmas.{run_stops, sequence_ends}
+use Rattle.cfa_walk.proofs.TurnLemmas.{after_turn, and_then, faults_then, patterns_then, run_over, run_stopped}
 use Rattle.cfa_walk.proofs.walking.make_run.Goals as goal
 
-pub returns-in_err-through_commons-clause-ran : goal.returns-in_err-through_commons-clause-ran
-returns-in_err-through_commons-clause-ran g c = λ context keeps.
-    let s = setting_of c.args.checked.now context in
-    let stop = c.in_err-through_commons.field-0.0 in
-    on_err (λ result. HasRunTo g.T.Teller.teller g.T.Teller.agrees g.T.Teller.behind s (c.args.teller.now, (c.args.site.now, c.args.out.now)) (c.args.teller.now, (c.args.site.now, c.args.out.now)) (to_state c.through_commons.new.state result))
-    c.from_residual.result stop c.from_residual.ensures.1
-    (run_stops g.T.Teller.teller g.T.Teller.agrees g.T.Teller.behind s (c.args.teller.now, (c.args.site.now, c.args.out.now))
-    c.args.state.now c.through_commons.new.state stop keeps c.in_err-through_commons.ensures.done)
+pub returns-in-Over-clause-ran : goal.returns-in-Over-clause-ran
+returns-in-Over-clause-ran g c = λ s stands is.
+    run_over g.T.Teller.teller g.T.Teller.agrees g.T.Teller.behind s (c.args.teller.now, (c.args.site.now, c.args.out.now))
+    (c.loop-machine.teller, (c.loop-machine.site, c.loop-machine.out)) c.args.machine.now c.loop-machine.machine
+    (λ t. c.moves_keep_what_is_left.ensures.begins s t) (λ t h. c.moves_keep_what_is_left.ensures.over s t (seen_stack c.loop-machine.machine) h (sym c.in-Over.ensures))
+    stands is c.loop-machine.invariant.turned
 
-pub through_sequence-requires-clause-shared : goal.through_sequence-requires-clause-shared
-through_sequence-requires-clause-shared g c =
-    let policy = tree_of c.args.checked.now in
-    subst (λ (names : List (List ℕ)). All (IsShared policy) names) (sym (c.as_slice.ensures ∙ c.in_ok-names.ensures)) (sequence_shared policy)
+pub loop-machine-preserved : goal.loop-machine-preserved
+loop-machine-preserved g c =
+    after_turn g.T.Teller.teller g.T.Teller.agrees g.T.Teller.behind g.T.Teller.faults (c.args.teller.now, (c.args.site.now, c.args.out.now))
+    (c.loop-machine.teller, (c.loop-machine.site, c.loop-machine.out)) (c.turn.new.teller, (c.turn.new.site, c.turn.new.out))
+    c.args.machine.now c.loop-machine.machine c.turn.new.machine
+    (g.P.Patterns.shown c.args.pats.now) (g.P.Patterns.shown c.loop-machine.pats) (g.P.Patterns.shown c.turn.new.pats)
+    c.loop-machine.invariant c.in_ok-turn.ensures.turned c.in_ok-turn.ensures.lighter c.in_ok-turn.ensures.holds c.in_ok-turn.ensures.faults c.in_ok-turn.ensures.patterns
 
-pub returns-clause-ran : goal.returns-clause-ran
-returns-clause-ran g c = λ context keeps.
-    let s = setting_of c.args.checked.now context in
-    sequence_ends g.T.Teller.teller g.T.Teller.agrees g.T.Teller.behind s c.as_slice.result.now (c.as_slice.ensures ∙ c.in_ok-names.ensures)
-    (c.args.teller.now, (c.args.site.now, c.args.out.now)) (g.met.T.Teller.steady (c.args.teller.now, (c.args.site.now, c.args.out.now)))
-    (c.through_sequence.new.teller, (c.through_sequence.new.site, c.through_sequence.new.out)) c.args.state.now c.through_commons.new.state c.through_sequence.new.state
-    c.through_sequence.result keeps c.in_ok-through_commons.ensures.done c.through_sequence.ensures.0
+pub returns-in_err-turn : goal.returns-in_err-turn
+returns-in_err-turn g c =
+    let stop = c.in_err-turn.field-0.0 in
+    let last = c.from_residual.ensures.1 in
+    record {
+      ran = λ s stands is.
+          on_err (λ (result : Result (Unit {0}) Stop). HasRunTo g.T.Teller.teller g.T.Teller.agrees g.T.Teller.behind s
+          (c.args.teller.now, (c.args.site.now, c.args.out.now)) (c.turn.new.teller, (c.turn.new.site, c.turn.new.out)) (to_state c.turn.new.machine.state result))
+          c.from_residual.result stop last
+          (run_stopped g.T.Teller.teller g.T.Teller.agrees g.T.Teller.behind s (c.args.teller.now, (c.args.site.now, c.args.out.now))
+          (c.turn.new.teller, (c.turn.new.site, c.turn.new.out)) c.args.machine.now c.turn.new.machine stop (λ t. c.moves_keep_what_is_left.ensures.begins s t) stands is
+          (and_then g.T.Teller.teller g.T.Teller.agrees g.T.Teller.behind (c.args.teller.now, (c.args.site.now, c.args.out.now))
+          (c.loop-machine.teller, (c.loop-machine.site, c.loop-machine.out)) (c.turn.new.teller, (c.turn.new.site, c.turn.new.out))
+          c.args.machine.now c.loop-machine.machine c.turn.new.machine (Err stop) c.loop-machine.invariant.turned c.in_err-turn.ensures.turned));
+      faults =
+          on_err (FaultsAre (g.T.Teller.faults (c.args.teller.now, (c.args.site.now, c.args.out.now))) (g.T.Teller.faults (c.turn.new.teller, (c.turn.new.site, c.turn.new.out))))
+          c.from_residual.result stop last
+          (faults_then (g.T.Teller.faults (c.args.teller.now, (c.args.site.now, c.args.out.now))) (g.T.Teller.faults (c.loop-machine.teller, (c.loop-machine.site, c.loop-machine.out)))
+          (g.T.Teller.faults (c.turn.new.teller, (c.turn.new.site, c.turn.new.out))) (Err stop) c.loop-machine.invariant.faults_are c.in_err-turn.ensures.faults);
+      patterns =
+          on_err (λ (result : Result (Unit {0}) Stop). PatternsAre result (g.P.Patterns.shown c.args.pats.now) (g.P.Patterns.shown c.turn.new.pats))
+          c.from_residual.result stop last
+          (patterns_then (g.P.Patterns.shown c.args.pats.now) (g.P.Patterns.shown c.loop-machine.pats) (g.P.Patterns.shown c.turn.new.pats)
+          (Err stop) c.loop-machine.invariant.patterns_are c.in_err-turn.ensures.patterns);
+    }
