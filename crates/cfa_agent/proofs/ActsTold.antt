@@ -1,7 +1,11 @@
 -- What was told of how instances with acts end.
-use Rattle.std.proofs.Common.{◌≡◌, ℕ, suc, ◌+◌, ◌<◌, ◌≤◌, ◌^◌, ◌||◌, List, [], ◌∷◌, ◌++◌, Option, Some, option_map, IfSome, refl, sym, ap, subst, ◌∙◌, arith}
+use Rattle.std.proofs.Common.{◌≡◌, ℕ, suc, ◌+◌, ◌<◌, ◌≤◌, ◌^◌, ◌||◌, All, List, [], ◌∷◌, ◌++◌, length, Option, Some, option_map, IfSome, refl, sym, ap, subst, ◌∙◌, arith}
 use Rattle.std.specs.List.{flat_map}
+use Rattle.cfa_base.specs.declared.limits.TheConstants.{MOST_SOURCE_BYTES}
+use Rattle.cfa_base.specs.declared.places.PromiseId.{PromiseId}
 use Rattle.cfa_base.specs.lemmas.Options.{some_at}
+use Rattle.cfa_journal.specs.Records.{IsId}
+use Rattle.cfa_schema.specs.Laws.{IsCounted}
 use Rattle.cfa_base.specs.Shown.{Shown, Follows}
 use Rattle.cfa_outside.specs.declared.sites.Entry.{Entry}
 use Rattle.cfa_outside.specs.declared.worlds.World.{World}
@@ -20,6 +24,7 @@ use Rattle.cfa_agent.specs.declared.progress.Running.{Running}
 use Rattle.cfa_agent.specs.Actuating.{DoesActs, done_met, mark_met}
 use Rattle.cfa_agent.specs.Actuations.{Mark, Done, done_by, done_on, mark_of, outcome_done, entries_of}
 use Rattle.cfa_agent.specs.Ending.{outcome_ended, line_ended, tallied, acted_on, is_recorded, outcome_counted, line_by}
+use Rattle.cfa_agent.specs.Journaled.{HasName, CanBeTold}
 use Rattle.cfa_agent.specs.Locking.{lock_entries}
 use Rattle.cfa_agent.specs.Runs.{Start, actuations_in, log_in, world_in, work_entries, work_lines, lines_done, outcome_by_work, one_with_acts, has_record}
 use Rattle.cfa_agent.specs.Standing.{Given, IsBehind, Agrees, teller_of, first_told}
@@ -27,9 +32,17 @@ use Rattle.cfa_agent.proofs.Agreeing.{KeepsMarks, acts_keep, same_before, met_ne
 use Rattle.cfa_agent.proofs.Behind.{EndsWith, behind_more, one_more_ended}
 use Rattle.cfa_agent.proofs.Logs.{adds_both}
 use Rattle.cfa_agent.proofs.MarkLemmas.{CouldMeet, added}
-use Rattle.cfa_agent.proofs.Planned.{actuated_of_acts, met_could}
+use Rattle.cfa_agent.proofs.BracketLemmas.{rests_acts}
+use Rattle.cfa_agent.proofs.Planned.{actuated_of_acts, done_named, met_could}
 use Rattle.cfa_agent.proofs.Records.{record_of_added, outcome_is, line_is}
 use Rattle.cfa_agent.proofs.TellLemmas.{same_lock}
+
+-- the id of a promise of a policy that was read fits a record
+id_fits : (id : PromiseId) → IsCounted id → IsId id
+id_fits id counted =
+    let number : id.number ≤ MOST_SOURCE_BYTES = counted.number_fits in
+    let line : id.line ≤ MOST_SOURCE_BYTES + 1 = counted.line_fits in
+    (counted.bundle, ((counted.number, omega (arith, number)), (counted.line, omega (arith, line))))
 
 -- what the acts of an instance do on a world, as the definition has it
 done_is : (s : Start) (h : History) (instance : Instance) (acts : List Act) (n : ℕ) (m : Option Mark) →
@@ -45,7 +58,7 @@ done_is s h instance acts n m is number marked =
 module _ (r : Running) (site site1 site' : Shown Told) (out out' : Shown (List ℕ)) (instance : Instance) (acts : List Act) (a : Actuation)
     (is : instance.work ≡ Acts acts)
     (done : IfSome site.told (λ t. DoesActs (λ world done. entries_of r.moment (suc r.number) instance world done r.has_record) (done_met (suc r.number) acts a t.world) site1 a t))
-    (few : suc r.number ≤ 4294967295)
+    (few : suc r.number ≤ 4294967295) (fit : a.changes ≤ 4294967295) (names : All HasName acts) (source : IsCounted instance.source)
     (locked : Follows (adds (lock_entries r.moment r.locks instance)) site1 site')
     (put : Follows (adds_bytes (line_ended instance.source a)) out out') where
   abbrev met : Option Mark
@@ -100,6 +113,18 @@ module _ (r : Running) (site site1 site' : Shown Told) (out out' : Shown (List �
         (met_next r.number r.moment g now instance now.world r.has_record r.locks (actuated acts now.world) met small (actuated_of_acts acts now.world) (could now behind.told_is)
         (on_first r.number g (log_in g.start h) behind.whole) (agreed (adds (more now) now) (told_acts now behind.told_is)))
 
+    can : CanBeTold (suc r.number) instance did
+    can =
+        let counted : a.changes ≡ length did.changes = (does now behind.told_is).changes in
+        let named = done_named acts (world_in g.start h) met names in
+        record {
+          number_fits = (omega arith, omega (arith, few));
+          source_fits = id_fits instance.source source;
+          changes_fit = omega (arith, counted, fit);
+          named = named.0;
+          begun_named = named.1;
+        }
+
     ended_is : outcome_done did ≡ outcome_ended a
     ended_is =
         outcome_is did.changes did.failure
@@ -153,6 +178,8 @@ module _ (r : Running) (site site1 site' : Shown Told) (out out' : Shown (List �
     acts_behind =
         behind_more r ended_run site site' out out' g h instance (outcome_ended a) (more now) (line_ended instance.source a) behind ends entries_so line_so
         ((keeps now behind.told_is).whole (log_in g.start h) behind.whole)
+        (rests_acts g.start.world (log_in g.start h) r.moment (suc r.number) instance (actuated acts (world_in g.start h)) met r.has_record r.locks behind.has_record_is
+        r.in_range (actuated_of_acts acts (world_in g.start h)) can behind.rests)
 
   acts_done : (called : Outcome) → HasTold teller_of Agrees IsBehind (r, (site, out)) (ended_run, (site', out')) instance called (One (outcome_ended a))
   acts_done called g h agreed = (acts_agree g agreed, λ behind ended. (told_so g h agreed behind, acts_behind g h agreed behind))
@@ -161,11 +188,11 @@ module _ (r : Running) (site site1 site' : Shown Told) (out out' : Shown (List �
 pub acts_told : (r r1 r' : Running) (site site1 site' : Shown Told) (out out' : Shown (List ℕ)) (instance : Instance) (called outcome : Outcome) (acts : List Act) (a : Actuation) →
     instance.work ≡ Acts acts →
     IfSome site.told (λ t. DoesActs (λ world done. entries_of r.moment r1.number instance world done r.has_record) (done_met r1.number acts a t.world) site1 a t) →
-    r1 ≡ acted_on a r → r1.number ≤ 4294967295 → outcome ≡ outcome_ended a →
+    r1 ≡ acted_on a r → r1.number ≤ 4294967295 → a.changes ≤ 4294967295 → All HasName acts → IsCounted instance.source → outcome ≡ outcome_ended a →
     Follows (adds (lock_entries r1.moment r1.locks instance)) site1 site' → r' ≡ tallied outcome r1 →
     Follows (adds_bytes (line_ended instance.source a)) out out' →
     HasTold teller_of Agrees IsBehind (r, (site, out)) (r', (site', out')) instance called (One outcome)
-acts_told r r1 r' site site1 site' out out' instance called outcome acts a is done acted few ended locked counted put =
+acts_told r r1 r' site site1 site' out out' instance called outcome acts a is done acted few fit names source ended locked counted put =
     let Done1 : Running → Type 0 = λ q. IfSome site.told (λ t. DoesActs (λ world done. entries_of r.moment q.number instance world done r.has_record) (done_met q.number acts a t.world) site1 a t) in
     let Few : Running → Type 0 = λ q. q.number ≤ 4294967295 in
     let Locked : Running → Type 0 = λ q. Follows (adds (lock_entries q.moment q.locks instance)) site1 site' in
@@ -173,4 +200,4 @@ acts_told r r1 r' site site1 site' out out' instance called outcome acts a is do
     let Ended : Outcome → Type 0 = λ outcome. HasTold teller_of Agrees IsBehind (r, (site, out)) (tallied outcome (acted_on a r), (site', out')) instance called (One outcome) in
     subst Told' (sym (counted ∙ ap (tallied outcome) acted))
     (subst Ended (sym ended)
-    (acts_done r site site1 site' out out' instance acts a is (subst Done1 acted done) (subst Few acted few) (subst Locked acted locked) put called))
+    (acts_done r site site1 site' out out' instance acts a is (subst Done1 acted done) (subst Few acted few) fit names source (subst Locked acted locked) put called))

@@ -18,7 +18,7 @@ use Rattle.cfa_agent.specs.Ending.{one_ended, one_skipped}
 use Rattle.cfa_agent.specs.Locking.{lock_entries}
 use Rattle.cfa_agent.specs.Ran.{counts_of}
 use Rattle.cfa_agent.specs.Runs.{Counts, actuations_in, counted, has_record, log_in, lines_in, one_with_acts, tally_in, work_entries, work_lines}
-use Rattle.cfa_agent.specs.Standing.{Given, CameTo, IsBehind, first_told, IsWholeLog}
+use Rattle.cfa_agent.specs.Standing.{Given, CameTo, IsBehind, first_told, IsWholeLog, Rests}
 use Rattle.cfa_agent.proofs.Logs.{adds_both}
 use Rattle.cfa_agent.proofs.Records.{record_in_both}
 
@@ -49,10 +49,11 @@ came_on : (r r' : Running) (site site' : Shown Told) (out out' : Shown (List ℕ
     (work : Work) (outcome : Outcome) (entries : List Entry) (line : List ℕ) (more : List Entry) (more_lines : List (List ℕ)) →
     CameTo (r, (site, out)) g log number (flat_map (λ line. line) lines) counts →
     EndsWith r r' site' out out' (adds log (first_told g)) work outcome entries line →
-    more ≡ entries → flat_map (λ line. line) more_lines ≡ line → IsWholeLog r'.number (log ++ entries) →
+    more ≡ entries → flat_map (λ line. line) more_lines ≡ line → IsWholeLog r'.number (log ++ entries) → Rests g.start.world (log ++ entries) →
     CameTo (r', (site', out')) g (log ++ more) (one_with_acts work + number) (flat_map (λ line. line) (lines ++ more_lines)) (counted (outcome ∷ []) counts)
-came_on r r' site site' out out' g log number lines counts work outcome entries line more more_lines came ends same same_line whole =
+came_on r r' site site' out out' g log number lines counts work outcome entries line more more_lines came ends same same_line whole rests =
     let Whole : List Entry → Type 0 = λ more. IsWholeLog r'.number (log ++ more) in
+    let Resting : List Entry → Type 0 = λ more. Rests g.start.world (log ++ more) in
     let text : List ℕ = flat_map (λ line. line) lines in
     record {
       moment_is = ends.moment_is ∙ came.moment_is;
@@ -63,6 +64,7 @@ came_on r r' site site' out out' g log number lines counts work outcome entries 
           ∙ sym (record_in_both log entries) ∙ ap (λ entries. has_record (log ++ entries)) (sym same);
       counts_are = ends.counts_are ∙ ap (counted (outcome ∷ [])) came.counts_are;
       whole = subst Whole (sym same) whole;
+      rests = subst Resting (sym same) rests;
       told_is =
           ends.told_is ∙ ap Some (adds_both log entries (first_told g))
           ∙ ap (λ entries. Some (adds (log ++ entries) (first_told g))) (sym same);
@@ -78,9 +80,9 @@ pub behind_more : (r r' : Running) (site site' : Shown Told) (out out' : Shown (
     EndsWith r r' site' out out' (adds (log_in g.start h) (first_told g)) instance.work outcome entries line →
     work_entries g.start (log_in g.start h) (suc (actuations_in h)) instance instance.work ++ lock_entries g.start.moment g.start.has_locks instance ≡ entries →
     flat_map (λ line. line) (work_lines g.start h instance instance.work) ≡ line →
-    IsWholeLog r'.number (log_in g.start h ++ entries) →
+    IsWholeLog r'.number (log_in g.start h ++ entries) → Rests g.start.world (log_in g.start h ++ entries) →
     IsBehind (r', (site', out')) g (told_event instance (outcome ∷ []) ∷ h)
-behind_more r r' site site' out out' g h instance outcome entries line behind ends same same_line whole =
+behind_more r r' site site' out out' g h instance outcome entries line behind ends same same_line whole rests =
     came_on r r' site site' out out' g (log_in g.start h) (actuations_in h) (lines_in g.start h) (tally_in h) instance.work outcome entries line
     (work_entries g.start (log_in g.start h) (suc (actuations_in h)) instance instance.work ++ lock_entries g.start.moment g.start.has_locks instance)
-    (work_lines g.start h instance instance.work) behind ends same same_line whole
+    (work_lines g.start h instance instance.work) behind ends same same_line whole rests

@@ -11,6 +11,7 @@ pub mod MarkLemmas
 pub mod Planned
 pub mod Agreeing
 pub mod Records
+pub mod BracketLemmas
 pub mod Behind
 pub mod TellLemmas
 pub mod ActsTold

@@ -35,11 +35,11 @@ pub record_in_both : (a b : List Entry) → has_record (a ++ b) ≡ has_record a
 record_in_both [] b = refl
 record_in_both (entry ∷ a) b = one_of (is_record entry) (has_record (a ++ b)) (has_record a) (has_record b) (record_in_both a b)
 
-no_record_in_lock : (moment : ℕ) (has_locks : Bool) (instance : Instance) → has_record (lock_entries moment has_locks instance) ≡ false
+pub no_record_in_lock : (moment : ℕ) (has_locks : Bool) (instance : Instance) → has_record (lock_entries moment has_locks instance) ≡ false
 no_record_in_lock moment true instance = refl
 no_record_in_lock moment false instance = refl
 
-behind_run : (moment : ℕ) (has : Bool) (next : Record) (rest : List Entry) → has_record (run_record moment has ++ (appended next ∷ rest)) ≡ true
+pub behind_run : (moment : ℕ) (has : Bool) (next : Record) (rest : List Entry) → has_record (run_record moment has ++ (appended next ∷ rest)) ≡ true
 behind_run moment true next rest = refl
 behind_run moment false next rest = refl
 

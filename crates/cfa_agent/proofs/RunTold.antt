@@ -1,5 +1,5 @@
 -- What a whole run came to.
-use Rattle.std.proofs.Common.{◌≡◌, ℕ, Bool, List, [], Some, Ok, Err, sym, ap, subst, ◌∙◌}
+use Rattle.std.proofs.Common.{◌≡◌, ℕ, Bool, List, [], length, drop, Some, Ok, Err, sym, ap, subst, ◌∙◌}
 use Rattle.cfa_base.specs.lemmas.Options.{each_some, one_some}
 use Rattle.cfa_base.specs.Causes.{Rose}
 use Rattle.cfa_base.specs.Shown.{Shown, Follows}
@@ -15,13 +15,17 @@ use Rattle.cfa_states.specs.Passes.{Course, goes, too_large, run}
 use Rattle.cfa_states.specs.Views.{Setting}
 use Rattle.cfa_walk.specs.Walked.{HasRun}
 use Rattle.cfa_agent.specs.declared.progress.Running.{Running}
+use Rattle.std.proofs.Math.Seq.{drop-append_seam}
+use Rattle.cfa_outside.specs.declared.sites.Entry.{Entry}
 use Rattle.cfa_agent.specs.Actuations.{mark_of}
+use Rattle.cfa_agent.specs.Bracketed.{AllBracketed}
 use Rattle.cfa_agent.specs.Ending.{StopsPut}
 use Rattle.cfa_agent.specs.Marks.{marks_of}
-use Rattle.cfa_agent.specs.Ran.{started, counts_of, IsWhole, RunsAs, IfBothTold, StopsRun, Refuses, RunBuilds, text_too_big}
+use Rattle.cfa_agent.specs.Ran.{added, started, counts_of, IsWhole, RunsAs, IfBothTold, StopsRun, Refuses, RunBuilds, text_too_big}
 use Rattle.cfa_agent.specs.Runs.{Counts, real, run_of, log_of, lines_of, tally_of, history_of, last_line, log_in, tally_in}
 use Rattle.cfa_agent.specs.Standing.{Given, Standing, IsBehind, Agrees, teller_of, IsFirst, since, text_in, IsWholeLog}
 use Rattle.cfa_agent.specs.lemmas.Hosts.{adds_none}
+use Rattle.cfa_agent.proofs.BracketLemmas.{rests_none, rests_bracketed}
 use Rattle.cfa_agent.proofs.MarkLemmas.{whole_none}
 
 abbrev given_by : (moment : ℕ) → (locks : Bool) → (before after : Told) → (out : Shown (List ℕ)) → Given
@@ -43,6 +47,7 @@ begins_behind moment locks r site before after out first is = let P : ℕ → Ty
   has_record_is = first.has_record_is;
   counts_are = first.counts_are;
   whole = subst P (sym first.number_is) whole_none;
+  rests = rests_none before.world;
   told_is = is ∙ ap Some (sym (adds_none before));
   out_is = puts_nothing out;
 }
@@ -82,6 +87,28 @@ run_ran setting moment locks first r site site' out out1 out' begins ran put =
     let g : Given = given_by moment locks before after out in
     runs_as setting moment locks (r, (site', out1)) before after out out' is'
     ((ran g (agrees_with_all moment locks (r, (site', out1)) before after out is')).1 (begins_behind moment locks first site before after out begins is)) put))
+
+-- ---- what its journal tells
+
+bracketed_as : (setting : Setting) (moment : ℕ) (locks : Bool) (w : Standing) (before after : Told) (out : Shown (List ℕ)) → w.1.0.told ≡ Some after →
+    GoesTo (run setting (real (started moment locks before after))) (λ k. IsBehind w (given_by moment locks before after out) k) →
+    AllBracketed before.world (added before after)
+bracketed_as setting moment locks w before after out is went =
+    let g : Given = given_by moment locks before after out in
+    let behind : IsBehind w g (history_of (run setting (real g.start))) = (ended_by w g (run setting (real g.start)) went).1 in
+    let log : List Entry = log_in g.start (history_of (run setting (real g.start))) in
+    let told : after ≡ adds log before = one_some is behind.told_is in
+    subst (AllBracketed before.world) (sym (ap (λ (t : Told). drop (length before.log) t.log) told ∙ drop-append_seam before.log log))
+    (rests_bracketed before.world log behind.rests)
+
+pub run_bracketed : (setting : Setting) (moment : ℕ) (locks : Bool) (first r : Running) (site site' : Shown Told) (out out1 : Shown (List ℕ)) → IsFirst moment locks first →
+    HasRun teller_of Agrees IsBehind setting (first, (site, out)) (r, (site', out1)) (Ok tt) →
+    IfBothTold (λ before after. AllBracketed before.world (added before after)) site site'
+run_bracketed setting moment locks first r site site' out out1 begins ran =
+    each_some site.told _ (λ before is. each_some site'.told _ (λ after is'.
+    let g : Given = given_by moment locks before after out in
+    bracketed_as setting moment locks (r, (site', out1)) before after out is'
+    ((ran g (agrees_with_all moment locks (r, (site', out1)) before after out is')).1 (begins_behind moment locks first site before after out begins is))))
 
 -- ---- a run that was stopped
 

@@ -27,6 +27,7 @@ use Rattle.cfa_agent.specs.Runs.{Start, counted, actuations_in, log_in, world_in
 use Rattle.cfa_agent.specs.Standing.{Given, Standing, IsBehind, Agrees, teller_of, first_told}
 use Rattle.cfa_agent.proofs.Agreeing.{lock_keeps, same_before}
 use Rattle.cfa_agent.proofs.Behind.{EndsWith, behind_more, one_more_ended, one_more_skipped}
+use Rattle.cfa_agent.proofs.BracketLemmas.{rests_lock}
 use Rattle.cfa_agent.proofs.Records.{record_of_lock}
 
 -- ---- visits
@@ -48,6 +49,7 @@ behind_visit r site out g h instance status true behind = record {
   has_record_is = behind.has_record_is;
   counts_are = one_more_skipped r.tally ∙ ap (λ counts. counted [] counts) behind.counts_are;
   whole = behind.whole;
+  rests = behind.rests;
   told_is = behind.told_is;
   out_is = behind.out_is;
 }
@@ -129,6 +131,7 @@ settled_behind r site site' out out' instance outcome line g h plain locked put 
     (ap (λ first. first ++ lock_entries g.start.moment g.start.has_locks instance) (plain.none_written g.start (log_in g.start h) (suc (actuations_in h))) ∙ same_lock (r, (site, out)) g h instance behind)
     (plain.line_put g.start h)
     ((lock_keeps r.number r.moment instance r.locks).whole (log_in g.start h) behind.whole)
+    (rests_lock g.start.world (log_in g.start h) r.moment r.locks instance behind.rests)
 
 -- what a teller of the definition says of it
 abbrev pub TellsPlainly : Instance → (called outcome : Outcome) → Type 0

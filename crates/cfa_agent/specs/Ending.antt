@@ -99,6 +99,7 @@ pub record ActsNext (r r' : Running) (instance : Instance) (acts : List Act) (be
       DoesActs (λ world done. entries_of r.moment r'.number instance world done r.has_record) (done_met r'.number acts a t.world) after a t))
   pub counted : IfOk result (λ a. r' ≡ acted_on a r)
   pub few : OnOk result (r'.number ≤ 4294967295)
+  pub changes_fit : IfOk result (λ a. a.changes ≤ 4294967295)
   pub later : OnOk result (before.faults ≤ after.faults)
   pub stopped : IfErr result (StopsBySite before after)
 

@@ -2,6 +2,8 @@ pub mod Actuations
 pub mod Hosts
 pub mod Marks
 pub mod Runs
+pub mod Bracketed
+pub mod Journaled
 pub mod Ran
 pub mod Digesting
 pub mod Actuating

@@ -1,11 +1,17 @@
 -- Of the code alone: with what a run on a site agrees as far as it was made.
-use Rattle.std.specs.Prelude.{ℕ, ◌≡◌, ◌≤◌, List, ◌++◌, All, Bool, false, length, drop, flat_map, Some, ◌∷◌, IsTrue}
+use Rattle.std.specs.Prelude.{ℕ, ◌≡◌, ◌≤◌, List, ◌++◌, All, Bool, true, false, length, drop, flat_map, Option, Some, ◌∷◌, IsTrue}
 use Rattle.std.proofs.lemmas.Bool.{false≢true}
 use Rattle.cfa_outside.specs.declared.sites.Entry.{Entry}
+use Rattle.cfa_journal.specs.declared.positions.Position.{Position}
+use Rattle.cfa_journal.specs.declared.positions.Position.TheVariants as positions
+use Rattle.cfa_journal.specs.declared.positions.Version.TheVariants.{Two}
+use Rattle.cfa_journal.specs.declared.records.Record.{Record}
 use Rattle.cfa_agent.specs.Actuations.{Mark, mark_of}
+use Rattle.cfa_agent.specs.Bracketed.{Point, first_point, IsBracketedFrom}
+use Rattle.cfa_outside.specs.declared.worlds.World.{World}
 use Rattle.cfa_agent.specs.Marks.{marks_of}
 use Rattle.cfa_base.specs.Shown.{Shown, Follows}
-use Rattle.cfa_outside.specs.Sites.{Told, adds}
+use Rattle.cfa_outside.specs.Sites.{Told, adds, after}
 use Rattle.cfa_outside.specs.Sinks.{adds_bytes}
 use Rattle.cfa_states.specs.History.{History, Event, Begun, Set, Raised, Reached, Listed, Told as Heard}
 use Rattle.cfa_states.specs.Levels.{Faults, is_quiet}
@@ -24,6 +30,27 @@ pub record Gives (log : List Entry) (marks : List Mark) : Type 0 where
 pub record IsWholeLog (n : ℕ) (log : List Entry) : Type 0 where
   pub gives : Gives log (marks_of log)
   pub within : All (λ (m : Mark). m.instance ≤ n) (marks_of log)
+
+-- A log that is bracketed, whatever is added to it from where it leads.
+
+-- a point of a log by its parts
+abbrev pub at : Position → Option Record → (changes : ℕ) → World → Point
+at position written changes world =
+    record { position = position; written = written; changes = changes; world = world }
+
+-- a log leads from a point to a position, where so many changes are counted
+pub record Leads (here : Point) (log : List Entry) (position : Position) (changes : ℕ) : Type 0 where
+  pub written : Option Record
+  pub on : (more : List Entry) → IsBracketedFrom (at position written changes (after log here.world)) more →
+      IsBracketedFrom here (log ++ more)
+
+-- where a run stands whose instances have all ended, by whether it has a record
+abbrev pub resting : (has_record : Bool) → Position
+resting false = positions.Start
+resting true = positions.Between Two
+
+abbrev pub Rests : World → List Entry → Type 0
+Rests world log = Leads (first_point world) log (resting (has_record log)) 0
 
 -- With what a run on a site agrees as far as it was made, and what it came to. Which calls of the site fail is
 -- known of the entries alone that the run has added so far. So it agrees with each run of the definition that
@@ -86,6 +113,7 @@ pub record CameTo (w : Standing) (g : Given) (log : List Entry) (number : ℕ) (
   pub has_record_is : w.0.has_record ≡ has_record log
   pub counts_are : counts_of w.0.tally ≡ counts
   pub whole : IsWholeLog w.0.number log
+  pub rests : Rests g.start.world log
   pub told_is : w.1.0.told ≡ Some (adds log (first_told g))
   pub out_is : Follows (adds_bytes text) g.out w.1.1
 

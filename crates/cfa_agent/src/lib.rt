@@ -3,6 +3,7 @@
 
 mod actuating;
 mod digesting;
+mod laws;
 mod locking;
 mod progress;
 mod putting;
@@ -10,4 +11,5 @@ mod recording;
 mod running;
 mod telling;
 
+pub use laws::logs_are_bracketed;
 pub use running::{Tally, run};

@@ -3,8 +3,9 @@ ghost use Rattle.std.specs.Prelude.{◌≡◌, ◌≤◌, IfErr, IfOk, IsErrOf, 
 ghost use Rattle.cfa_states.specs.Levels.{IsTooLarge};
 ghost use Rattle.cfa_walk.specs.Settings.{setting_of};
 ghost use Rattle.cfa_agent.specs.Runs.{run_of};
+ghost use Rattle.cfa_agent.specs.Bracketed.{AllBracketed};
 ghost use Rattle.cfa_agent.specs.Standing.{IsFirst};
-ghost use Rattle.cfa_agent.specs.Ran.{started, RunsAs, RunBuilds, IfBothTold, text_too_big, StopsRun, Refuses};
+ghost use Rattle.cfa_agent.specs.Ran.{added, started, RunsAs, RunBuilds, IfBothTold, text_too_big, StopsRun, Refuses};
 
 use crate::progress::Running;
 use crate::putting::put_total;
@@ -63,6 +64,9 @@ pub fn run<S: Site, O: Sink, P: Patterns>(
     ensures ran { IfOk result (λ tally. IfBothTold (λ before after.
         RunsAs (setting_of checked.now context.now) (started moment locks before after) before after
         (O.shown out.old) (O.shown out.new) tally) (S.shown site.old) (S.shown site.new)) }
+    // Each first part of what it added to the log tells its changes.
+    ensures bracketed { OnOk result (IfBothTold (λ before after.
+        AllBracketed before.world (added before after)) (S.shown site.old) (S.shown site.new)) }
     ensures calm { OnOk result ((O.shown out.new).faults ≡ (O.shown out.old).faults) }
     // A run is stopped by too many visits only where its definition has too many.
     ensures too_large { IsErrOf result Stop.Visits → IfBothTold (λ before after. IsTooLarge

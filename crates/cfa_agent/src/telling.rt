@@ -7,6 +7,7 @@ ghost use Rattle.cfa_outcomes.specs.declared.outcomes.Outcome.{Outcome as AnyOut
 ghost use Rattle.cfa_agent.specs.Ending.{outcome_ended, is_recorded, one_ended, tallied, heard, acted_on, Hears, ActsNext, Settles, Tells};
 
 use crate::actuating::{Actuation, actuate};
+use crate::laws::have_names;
 use crate::locking::{is_skipped, set_lock};
 use crate::progress::Running;
 use crate::putting::{put_ended, put_report};
@@ -160,6 +161,7 @@ fn tell_acts<S: Site, O: Sink>(
         Tells (running.old, (S.shown site.old, O.shown out.old))
         (running.new, (S.shown site.new, O.shown out.new)) instance.now called result }
 {
+    have_names(acts);
     let ended = act(alloc, running, instance, acts, site)?;
     let outcome = outcome_of(ended);
     settle(alloc, running, instance, outcome, site)?;

@@ -1,2 +1,1 @@
-pub mod HexKeys
 mod Rows

@@ -2,7 +2,7 @@ use Rattle.std.proofs.Common.{◌≡◌, true, ap, ◌∙◌}
 use Rattle.hex.specs.Hex.{encode_lower}
 use Rattle.cfa_base.specs.Keys.{is_key}
 use Rattle.cfa_locks.specs.Locks.{digest_of}
-use Rattle.cfa_locks.proofs.HexKeys.{is_key-sha256}
+use Rattle.cfa_locks.specs.lemmas.HexKeys.{is_key-sha256}
 use Rattle.cfa_locks.proofs.digits.Goals as goal
 
 pub unreachable-requires : goal.unreachable-requires

@@ -1,0 +1,2 @@
+-- Lemmas on these definitions that the proofs of the crates above cite. No contract names one.
+pub mod HexKeys
