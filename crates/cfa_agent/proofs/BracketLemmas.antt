@@ -25,7 +25,7 @@ use Rattle.cfa_journal.specs.declared.records.Digest.TheVariants.{Over, Sha}
 use Rattle.cfa_journal.specs.declared.records.Record.{Record}
 use Rattle.cfa_journal.specs.declared.records.Record.TheVariants.{Run2, Open, File, Repaired, Failed, Fail}
 use Rattle.cfa_journal.specs.Positions.{behind}
-use Rattle.cfa_journal.specs.Records.{IsCount, IsMoment, IsReason, IsId, IsFilled, IsDigest, IsRecord}
+use Rattle.cfa_journal.specs.Records.{IsCount, IsMoment, IsReason, IsFilled, IsDigest}
 use Rattle.cfa_locks.specs.Locks.{digest_of, key_of}
 use Rattle.cfa_locks.specs.lemmas.HexKeys.{is_key-sha256}
 use Rattle.cfa_resolve.specs.declared.instances.Instance.{Instance}
@@ -33,17 +33,17 @@ use Rattle.cfa_resolve.specs.declared.instances.Work.{Work}
 use Rattle.cfa_resolve.specs.declared.instances.Work.TheVariants.{Acts, Call as a_call, Report}
 use Rattle.cfa_states.specs.History.{History, Begun, Set, Raised, Reached, Listed, Told}
 use Rattle.cfa_states.specs.Tellers.{Actuated, actuated, acts_of, after_all}
-use Rattle.cfa_agent.specs.Actuations.{Mark, Done, done_by, done_on, begun_by, mark_of, is_change, is_some_change, number_of, appended, content_digest, file_record, changed, begun_record, refused_entry, run_record, closing_record, without_change, entries_by, entries_of}
-use Rattle.cfa_agent.specs.Journaled.{IsNamed, CanBeTold, CanBeToldBy, AllCanBeTold, LogsAreBracketed}
+use Rattle.cfa_agent.specs.Actuations.{Mark, Done, done_by, done_on, mark_of, is_some_change, number_of, appended, content_digest, file_record, changed, begun_record, refused_entry, run_record, closing_record, without_change, entries_by, entries_of}
+use Rattle.cfa_agent.specs.Journaled.{IsNamed, CanBeTold, CanBeToldBy, AllCanBeTold, LogsAreBracketed, RunsAreBracketed}
 use Rattle.cfa_agent.specs.Locking.{lock_entries}
 use Rattle.cfa_agent.specs.Marks.{is_of_act}
-use Rattle.cfa_agent.specs.Runs.{Start, actuations_in, done_in, has_record, log_in, work_entries}
+use Rattle.cfa_agent.specs.Runs.{Start, actuations_in, done_in, has_record, history_of, log_in, log_of, run_of, work_entries}
 use Rattle.cfa_agent.specs.Standing.{at, Leads, resting, Rests}
 use Rattle.cfa_agent.specs.lemmas.Hosts.{after_both}
 use Rattle.cfa_agent.proofs.MarkLemmas.{AreOfActs}
 use Rattle.cfa_agent.proofs.Planned.{actuated_of_acts}
 use Rattle.cfa_agent.proofs.Records.{behind_run, record_in_both, no_record_in_lock}
-use Rattle.cfa_agent.specs.Bracketed.{Point, first_point, line_of, changes_behind, MayBeWritten, IsFiled, IsBracketedFrom, IsBracketed, AllBracketed}
+use Rattle.cfa_agent.specs.Bracketed.{Point, first_point, changes_behind, MayBeWritten, IsBracketedFrom, AllBracketed}
 
 -- ---- first parts
 
@@ -404,3 +404,7 @@ module _ (s : Start) (fits : IsMoment s.moment) where
 
 pub logs_bracketed : LogsAreBracketed
 logs_bracketed s h fits can = rests_bracketed s.world (log_in s h) (rests_log s fits h can)
+
+pub runs_bracketed : RunsAreBracketed
+unfolding log_of
+runs_bracketed setting s = logs_bracketed s (history_of (run_of setting s))

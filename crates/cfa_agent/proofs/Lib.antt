@@ -1,6 +1,7 @@
 mod Rows
 mod MarkRows
 mod FileRows
+mod BracketRows
 pub mod Logs
 pub mod Hosts
 pub mod Acting
@@ -12,6 +13,8 @@ pub mod Planned
 pub mod Agreeing
 pub mod Records
 pub mod BracketLemmas
+pub mod OpenRepairs
+pub mod LastFiles
 pub mod Behind
 pub mod TellLemmas
 pub mod ActsTold

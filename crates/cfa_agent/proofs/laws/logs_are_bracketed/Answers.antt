@@ -1,5 +1,8 @@
-use Rattle.cfa_agent.proofs.BracketLemmas.{logs_bracketed}
+use Rattle.cfa_agent.proofs.BracketLemmas.{logs_bracketed, runs_bracketed}
 use Rattle.cfa_agent.proofs.laws.logs_are_bracketed.Goals as goal
 
-pub returns : goal.returns
-returns c = logs_bracketed
+pub returns-clause-logs : goal.returns-clause-logs
+returns-clause-logs c = logs_bracketed
+
+pub returns-clause-runs : goal.returns-clause-runs
+returns-clause-runs c = runs_bracketed
