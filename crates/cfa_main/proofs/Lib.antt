@@ -1,5 +1,7 @@
 pub mod AuditLemmas
 pub mod CallLemmas
+pub mod CountLemmas
+pub mod DemoEndLemmas
 pub mod DemoLemmas
 pub mod EndLemmas
 pub mod HistoryLemmas

@@ -2,7 +2,7 @@
 -- lines are put; it is run, and two lines tell of that run; it is run again, and the last two lines tell of this run
 -- and whether the world that it left is settled. Each run is without locks, and on the world that it finds. A stop ends
 -- the work where it comes.
-use Rattle.std.specs.Prelude.{ℕ, ◌≡◌, ◌<◌, ◌≤◌, false, List, [], ◌∷◌, ◌++◌, length, codes, Some, None, Result, Ok, Err, IfOk, IfErr, OnOk, ⊤}
+use Rattle.std.specs.Prelude.{ℕ, ◌≡◌, ◌<◌, ◌≤◌, false, List, [], ◌++◌, length, codes, Some, None, Result, Ok, Err, IfOk, IfErr, OnOk, ⊤}
 use Rattle.cfa_base.specs.Causes.{Rose}
 use Rattle.cfa_base.specs.declared.limits.TheConstants.{LAST_MOMENT}
 use Rattle.cfa_base.specs.Shown.{Shown, Follows, Untouched}
@@ -16,9 +16,8 @@ use Rattle.cfa_output.specs.declared.ends.Failure.{Failure}
 use Rattle.cfa_output.specs.declared.ends.Failure.TheVariants.{Refused, Stopped}
 use Rattle.cfa_output.specs.Lines.{number_line, settled_line, moment_line, memory_line, stop_line}
 use Rattle.cfa_demo.specs.Counts.{changes_in}
-use Rattle.cfa_demo.specs.Policies.{demo_text}
+use Rattle.cfa_demo_laws.specs.Laws.{demo_name, demo_texts}
 use Rattle.cfa_words.specs.Demos.{demo_asked}
-use Rattle.cfa_sources.specs.Sources.{Texts}
 use Rattle.cfa_sources.specs.Checks.{Refuses}
 use Rattle.cfa_states.specs.Levels.{IsTooLarge}
 use Rattle.cfa_states.specs.Views.{Setting}
@@ -33,17 +32,10 @@ use Rattle.cfa_main.specs.declared.demonstrating.CountedRun.{CountedRun}
 use Rattle.cfa_main.specs.declared.ends.End.{End}
 use Rattle.cfa_main.specs.declared.work.PolicyInContext.{PolicyInContext}
 use Rattle.cfa_main.specs.Calls.{TakesPolicy, end_by, settled_by}
-use Rattle.cfa_main.specs.Done.{status_of}
+use Rattle.cfa_main.specs.Done.{HasFault, status_of}
 use Rattle.cfa_main.specs.Stages.{setting_in, StopsPutting, VerdictPut, IsRefusalWith, PutsStop, PutsFailure, status_of_stop, Called}
 
 -- ---- the policy
-
--- its name, and the one text that it is read from
-abbrev pub demo_name : List ℕ
-demo_name = codes "demo"
-
-abbrev pub demo_texts : (number : ℕ) → Texts
-demo_texts number = (demo_name, demo_text number) ∷ []
 
 -- it is valid, and the classes of the calendar alone are set from the start
 abbrev pub TakesDemo : (number moment : ℕ) → Setting → Type 0
@@ -187,6 +179,16 @@ pub data Demonstrates (Tells : Type 0) (number moment : ℕ) (site site' : Shown
       IsPerformed Tells setting number moment site site' out mid (Err stop) →
       PutsStop (stop_line stop) (status_of_stop stop) mid out' status →
       Demonstrates Tells number moment site site' out out' status
+
+-- how a demo in time ends: by its second run, without a failed promise or with one; or it is stopped, by a put that failed, by the
+-- site, which has counted a failed call, by want of memory, or by too many visits where sites needn't tell their world
+pub data EndsDemo (Tells : Type 0) (site' : Shown Told) (out out' : Shown (List ℕ)) (status : ℕ) : Type 0 where
+  kept_in_the_end : status ≡ 0 → EndsDemo Tells site' out out' status
+  failed_in_the_end : status ≡ 2 → EndsDemo Tells site' out out' status
+  stopped_by_sink : status ≡ 4 → HasFault out out' → EndsDemo Tells site' out out' status
+  stopped_by_site : status ≡ 4 → 0 < site'.faults → EndsDemo Tells site' out out' status
+  stopped_by_memory : status ≡ 5 → EndsDemo Tells site' out out' status
+  stopped_by_visits : status ≡ 6 → ¬ Tells → EndsDemo Tells site' out out' status
 
 -- the words ask for no demo
 abbrev pub AsksNoDemo : (words : List (List ℕ)) → Type 0

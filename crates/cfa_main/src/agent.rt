@@ -1,5 +1,5 @@
 // The top call.
-ghost use Rattle.std.specs.Prelude.{◌≡◌, ◌≢◌, ◌<◌, ◌⊎◌, None, Some, IfSome, List, ℕ};
+ghost use Rattle.std.specs.Prelude.{◌≡◌, ◌≢◌, ◌<◌, ◌≤◌, ◌⊎◌, None, Some, IfSome, List, ℕ};
 ghost use Rattle.cfa_base.specs.Shown.{Untouched, Follows};
 ghost use Rattle.cfa_outside.specs.declared.worlds.World as declared;
 ghost use Rattle.cfa_outside.specs.Sinks.{adds_bytes};
@@ -11,7 +11,7 @@ ghost use Rattle.cfa_agent.specs.Marks.{marks_of};
 ghost use Rattle.cfa_agent.specs.Ran.{added, IfBothTold};
 ghost use Rattle.cfa_main.specs.Calls.{AsksUnaccepted, Does};
 ghost use Rattle.cfa_words.specs.Demos.{demo_asked};
-ghost use Rattle.cfa_main.specs.Demos.{AlwaysTells, AsksNoDemo, CalledFor, Demonstrates};
+ghost use Rattle.cfa_main.specs.Demos.{AlwaysTells, AsksNoDemo, CalledFor, Demonstrates, EndsDemo};
 ghost use Rattle.cfa_main.specs.Done.{Stands, Puts, HasFault};
 ghost use Rattle.cfa_main.specs.Ends.{IsEnd, IsStop, IsNotDone, AsksRun, AsksNoRun, AsksToObey, AsksTaken, AsksRefused, EndsWith, IsSettledBy, IsUnhindered, IsDoneOrMemory, PutsRefusal, IsUnread, PutsLast, StopsReading, StopsAtSite, ReadsInTurn, RefusesText, StopsAtPattern, StopsAtVisits};
 ghost use Rattle.cfa_main.specs.Stages.{Called};
@@ -23,6 +23,7 @@ use crate::performing::perform;
 use crate::preparing::prepare;
 use cfa_base::{LAST_MOMENT, Name, Patterns};
 use cfa_conflict::conflicts_meet_in_resources;
+use cfa_demo_laws::{demos_are_accepted, demos_are_taken, demos_are_walked};
 use cfa_output::Stop;
 use cfa_outside::{Inputs, Sink, Site};
 use cfa_words::read_demo;
@@ -244,6 +245,12 @@ pub fn agent_main<I: Inputs, S: Site, O: Sink, P: Patterns>(
     ensures demo { (number : ℕ) → demo_asked words.now ≡ Some number →
         Demonstrates (AlwaysTells S.shown) number moment (S.shown site.old) (S.shown site.new)
         (O.shown out.old) (O.shown out.new) result }
+
+    // A demo in time is neither refused nor found in conflict. Its second run comes to its end, and gives the status, unless a put
+    // failed, the site has counted a failed call, memory ends, or a site that needn't tell its world sees too many visits.
+    ensures demo_ends { (number : ℕ) → demo_asked words.now ≡ Some number →
+        moment ≤ LAST_MOMENT → EndsDemo (AlwaysTells S.shown) (S.shown site.new)
+        (O.shown out.old) (O.shown out.new) result }
     ensures demo_unread { (number : ℕ) → demo_asked words.now ≡ Some number →
         Untouched (I.shown inputs.old) (I.shown inputs.new)
         × Untouched (P.shown pats.old) (P.shown pats.new) }
@@ -251,5 +258,8 @@ pub fn agent_main<I: Inputs, S: Site, O: Sink, P: Patterns>(
     taken_requests_are_not_refused();
     a_policy_is_run_in_one_setting();
     conflicts_meet_in_resources();
+    demos_are_taken();
+    demos_are_walked();
+    demos_are_accepted();
     call_for(alloc, words, moment, inputs, site, out, pats)
 }

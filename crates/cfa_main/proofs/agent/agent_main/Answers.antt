@@ -2,6 +2,7 @@ use Rattle.cfa_main.proofs.CallLemmas as calls
 use Rattle.cfa_main.proofs.SettledLemmas as settled
 use Rattle.cfa_main.specs.Demos.{AlwaysTells}
 use Rattle.cfa_main.proofs.DemoLemmas as demos
+use Rattle.cfa_main.proofs.DemoEndLemmas as demo_ends
 use Rattle.cfa_main.proofs.agent.agent_main.Goals as goal
 
 pub returns-clause-exact : goal.returns-clause-exact
@@ -69,6 +70,19 @@ returns-clause-patterns_kept g c = λ none. calls.patterns_kept c.args.words.now
 
 pub returns-clause-demo : goal.returns-clause-demo
 returns-clause-demo g c number asks = demos.demonstrated (AlwaysTells g.S.Site.shown) c.args.words.now c.args.moment (g.I.Inputs.shown c.args.inputs.now) (g.I.Inputs.shown c.call_for.new.inputs) (g.S.Site.shown c.args.site.now) (g.S.Site.shown c.call_for.new.site) (g.O.Sink.shown c.args.out.now) (g.O.Sink.shown c.call_for.new.out) (g.P.Patterns.shown c.args.pats.now) (g.P.Patterns.shown c.call_for.new.pats) c.call_for.result c.call_for.ensures number asks
+
+pub returns-clause-demo_ends : goal.returns-clause-demo_ends
+returns-clause-demo_ends g c number asks in_time =
+    let laws : demo_ends.DemoLaws = record {
+      one_tree = c.demos_are_taken.ensures.one_tree;
+      never_refused = c.demos_are_taken.ensures.never_refused;
+      fits = c.demos_are_walked.ensures.fits;
+      accepted = c.demos_are_accepted.ensures;
+    } in
+    demo_ends.asked_ends (AlwaysTells g.S.Site.shown) (g.S.Site.shown c.call_for.new.site) laws c.args.words.now number c.args.moment asks in_time
+    (g.S.Site.shown c.args.site.now) (g.O.Sink.shown c.args.out.now) (g.O.Sink.shown c.call_for.new.out) c.call_for.result
+    (λ tells. tells c.args.site.now) (λ tells. tells c.call_for.new.site)
+    (demos.demonstrated (AlwaysTells g.S.Site.shown) c.args.words.now c.args.moment (g.I.Inputs.shown c.args.inputs.now) (g.I.Inputs.shown c.call_for.new.inputs) (g.S.Site.shown c.args.site.now) (g.S.Site.shown c.call_for.new.site) (g.O.Sink.shown c.args.out.now) (g.O.Sink.shown c.call_for.new.out) (g.P.Patterns.shown c.args.pats.now) (g.P.Patterns.shown c.call_for.new.pats) c.call_for.result c.call_for.ensures number asks)
 
 pub returns-clause-demo_unread : goal.returns-clause-demo_unread
 returns-clause-demo_unread g c number asks = demos.unread_by (AlwaysTells g.S.Site.shown) c.args.words.now c.args.moment (g.I.Inputs.shown c.args.inputs.now) (g.I.Inputs.shown c.call_for.new.inputs) (g.S.Site.shown c.args.site.now) (g.S.Site.shown c.call_for.new.site) (g.O.Sink.shown c.args.out.now) (g.O.Sink.shown c.call_for.new.out) (g.P.Patterns.shown c.args.pats.now) (g.P.Patterns.shown c.call_for.new.pats) c.call_for.result c.call_for.ensures number asks
