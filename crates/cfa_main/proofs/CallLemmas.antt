@@ -2,7 +2,8 @@
 use Rattle.std.proofs.Common.{◌≡◌, ◌≢◌, ◌<◌, ◌≤◌, ◌⊎◌, inl, inr, ℕ, Bool, true, List, Some, None, Option, Result, Ok, Err, IfSome, refl, sym, ap, subst, ◌∙◌, arith, append-nil}
 use Rattle.cfa_base.specs.lemmas.Options.{some_weaker, each_some, some_at, one_some}
 use Rattle.cfa_base.specs.declared.limits.TheConstants.{LAST_MOMENT}
-use Rattle.cfa_base.specs.Shown.{Shown, followed, Follows, Untouched}
+use Rattle.cfa_base.specs.Shown.{Shown, followed, Follows, Untouched, HasFailed}
+use Rattle.cfa_base.specs.Patterns.{refuses}
 use Rattle.cfa_words.specs.declared.words.Request.{Request}
 use Rattle.cfa_words.specs.declared.words.Request.TheVariants as request
 use Rattle.cfa_words.specs.Words.{asked}
@@ -15,7 +16,8 @@ use Rattle.cfa_output.specs.declared.ends.Stop.{Stop}
 use Rattle.cfa_output.specs.declared.ends.Stop.TheVariants.{Outside, Memory, Visits, Pattern}
 use Rattle.cfa_output.specs.declared.ends.Failure.{Failure}
 use Rattle.cfa_output.specs.declared.ends.Failure.TheVariants.{Refused, Stopped}
-use Rattle.cfa_output.specs.Lines.{words_line, moment_line, memory_line, visits_line, pattern_line, stop_line}
+use Rattle.cfa_output.specs.Lines.{words_line, moment_line, outside_line, memory_line, visits_line, pattern_line, stop_line}
+use Rattle.cfa_output.specs.Puts.{PutsShort}
 use Rattle.cfa_sources.specs.Sources.{Texts}
 use Rattle.cfa_states.specs.Views.{Setting}
 use Rattle.cfa_states.specs.Passes.{run}
@@ -29,15 +31,16 @@ use Rattle.cfa_main.specs.declared.ends.End.TheVariants.{Ended, PromiseFailed, I
 use Rattle.cfa_main.specs.declared.work.Work.{Work}
 use Rattle.cfa_main.specs.declared.work.Work.TheVariants.{Run, Judge, Search, Show}
 use Rattle.cfa_main.specs.Calls as calls
+use Rattle.cfa_main.specs.declared.work.PolicyInContext.{PolicyInContext}
 use Rattle.cfa_main.specs.declared.work.PolicyRun.{PolicyRun}
-use Rattle.cfa_main.specs.Calls.{IsAnalysedIn, IsBuiltFor, runs, judges, searches, Does, RefusesRequest, TakesRequest, AsksTask, AsksUnaccepted, IsUnaccepted, TakenIsNotRefused, ran}
-use Rattle.cfa_main.specs.Done.{IsDone, IsPut, Stands, Puts, HasFault, refused_with, status_of}
-use Rattle.cfa_main.specs.Ends.{IsEnd, IsStop, IsNotDone, IsRun, IsAnalysed, IsObeying, AsksRun, AsksNoRun, AsksAnalysis, AsksToObey, AsksTaken, AsksRefused, RefusesCall, of_words, of_moment, of_request, PutsRefusal, IsUnread, ReadsInTurn, PutsLast, StopsReading, StopsAtSite, AnalysisBuilt, RunBuilt, RefusesBefore, RefusesInRun, RefusesText, before_work, in_run, StopsAtPattern, stops_before, stops_in_run, StopsAtVisits, by_analysis, by_run}
-use Rattle.cfa_main.specs.Stages.{RunPerformed, RunsPolicy, Obeys, setting_in, task_of, IsAsked, OnlyRefused, Prepared, OneSetting, MayRun, PolicyRan, not_made, made, Performed, PutsEnd, PutsStop, status_of_stop, Called, not_prepared, ended, stopped_at_work}
+use Rattle.cfa_main.specs.Calls.{AnalysesTooMany, DoesTask, IsAnalysedIn, IsBuiltFor, NeedsManyVisits, ObeysAnalysis, runs, judges, searches, Does, RefusesRequest, TakesRequest, AsksTask, AsksUnaccepted, IsUnaccepted, TakenIsNotRefused, ran}
+use Rattle.cfa_main.specs.Done.{Done, IsDone, IsPut, Stands, Puts, HasFault, FallsShort, all_lines, refused_with, status_of}
+use Rattle.cfa_main.specs.Ends.{IsEnd, IsStop, IsNotDone, IsRun, MakesRun, IsToPut, of_refusal, of_work, of_reading, of_memory, of_pattern, of_visits, IsAnalysed, IsObeying, AsksRun, AsksNoRun, AsksAnalysis, AsksToObey, AsksTaken, AsksRefused, RefusesCall, of_words, of_moment, of_request, PutsRefusal, IsUnread, ReadsInTurn, PutsLast, StopsReading, StopsAtSite, RunBuilt, RefusesBefore, RefusesInRun, RefusesText, before_work, in_run, StopsAtPattern, stops_before, stops_in_run, StopsAtVisits, by_analysis, by_run}
+use Rattle.cfa_main.specs.Stages.{RunPerformed, RunsPolicy, Obeys, setting_in, task_of, IsAsked, OnlyRefused, Prepared, OneSetting, MayRun, IsObeyed, OnlyJudged, OnlySearched, OnlyPut, PolicyRan, not_made, made, Performed, PutsEnd, PutsStop, status_of_stop, Called, not_prepared, ended, stopped_at_work}
 use Rattle.cfa_agent.specs.lemmas.Hosts.{adds_none}
-use Rattle.cfa_main.proofs.SearchLemmas.{search_done, search_put}
+use Rattle.cfa_main.proofs.SearchLemmas.{search_done, search_put, search_text_done}
 use Rattle.cfa_main.proofs.Told.{untouched_both, both_weaker, both, along, fault_along, fault_before}
-use Rattle.cfa_main.proofs.WorkLemmas.{no_conflict, judged_by, judges_told, judged_done, judged_put, does_made, does_judged, made_accepted, cut_off_by, obeys_strict, text_done, text_put, IsNoSink, IsOfSite, work_stop, never_shown, untouched_at_stop, runs_by_site, patterns_by_stop, patterns_at_end, untouched_without_run, failed_runs, obeys_conflict}
+use Rattle.cfa_main.proofs.WorkLemmas.{no_conflict, judged_by, judges_told, judges_line, line_judged, judged_done, judged_put, does_made, does_judged, made_accepted, cut_off_by, obeys_strict, text_done, text_put, IsNoSink, IsOfSite, work_stop, never_shown, untouched_at_stop, runs_by_site, patterns_by_stop, patterns_at_end, untouched_without_run, failed_runs, obeys_conflict}
 
 -- ---- statuses
 
@@ -386,19 +389,34 @@ module _ (words : List (List ℕ)) (moment : ℕ) (inputs inputs' : Shown Librar
   outside (stopped_at_work {work = work} stop mid p performed puts) four =
       stopped_working stop mid (work_stop moment site site' out mid pats pats' work stop performed) (asks_by_site work stop mid p performed) puts four
 
-  read_by : (stop : Stop) → Prepared words moment inputs inputs' pats pats' (Err (Stopped stop)) → ReadsInTurn words inputs inputs'
-  read_by (Outside Inputs) p = inr (inr p.inputs_are)
-  read_by (Outside Site) p = absurd p.inputs_are
-  read_by (Outside Sink) p = absurd p.inputs_are
-  read_by Memory p = inr (inl p.inputs_are)
-  read_by Visits p = absurd p.inputs_are
-  read_by (Pattern text) p = inl p.inputs_are
+  abbrev ReadsHere : Type 0
+  ReadsHere = ReadsInTurn words inputs inputs' status
 
-  pub names : CalledHere → ReadsInTurn words inputs inputs'
+  read_by : (stop : Stop) → Prepared words moment inputs inputs' pats pats' (Err (Stopped stop)) → PutsStop (stop_line stop) (status_of_stop stop) out out' status → ReadsHere
+  read_by (Outside Inputs) p (inl (is, put)) = inr (inr (is, p.inputs_are))
+  read_by (Outside Inputs) p (inr (is, short)) = inr (inr (is, p.inputs_are))
+  read_by (Outside Site) p puts = absurd p.inputs_are
+  read_by (Outside Sink) p puts = absurd p.inputs_are
+  read_by Memory p (inl (is, put)) = inr (inl (inr is, p.inputs_are))
+  read_by Memory p (inr (is, short)) = inr (inl (inl is, p.inputs_are))
+  read_by Visits p puts = absurd p.inputs_are
+  read_by (Pattern text) p puts = inl p.inputs_are
+
+  pub names : CalledHere → ReadsHere
   names (not_prepared {failure = Refused line} p un puts) = inl p.inputs_are
-  names (not_prepared {failure = Stopped stop} p un puts) = read_by stop p
+  names (not_prepared {failure = Stopped stop} p un puts) = read_by stop p puts
   names (ended by p performed is) = inl p.inputs_are
   names (stopped_at_work stop mid p performed puts) = inl p.inputs_are
+
+  -- a reading that failed, or may have, stopped the call
+  whole : ReadsHere → IsEnd status → Untouched inputs inputs'
+  whole (inl un) end = un
+  whole (inr (inl (inl four, left))) end = absurd (no_end status (inl four) end)
+  whole (inr (inl (inr five, left))) end = absurd (no_end status (inr (inl five)) end)
+  whole (inr (inr (four, failed))) end = absurd (no_end status (inl four) end)
+
+  pub read_whole : CalledHere → IsEnd status → Untouched inputs inputs'
+  read_whole called end = whole (names called) end
 
   -- ---- by want of memory
 
@@ -467,14 +485,185 @@ module _ (words : List (List ℕ)) (moment : ℕ) (inputs inputs' : Shown Librar
   taken_run : (order : PolicyRun) (a : IsAsked words moment inputs.told (Run order)) (lib : Library) → TakesRequest lib.texts moment a.request (task_of (Run order)) → AsksTaken words moment lib.texts
   taken_run order a lib taken = (a.in_time, (task_of (Run order), asked_task words moment inputs.told (Run order) a lib taken))
 
+  makes_run : OneSetting → (order : PolicyRun) → IsAsked words moment inputs.told (Run order) → MayRun order.strict (analysis_of (setting_in order.policy)) → MakesRun words moment inputs.told
+  makes_run one order a may = (
+    asks_run words moment inputs.told (Run order) a tt,
+    some_weaker inputs.told _ _ (λ lib told taken. (
+      asks_run words moment inputs.told (Run order) a tt,
+      taken_run order a lib taken,
+      unaccepted_not_made one order a may lib taken,
+    )) a.is_work.taken,
+  )
+
+  -- ---- work that makes no run
+
+  abbrev ToPut : List ℕ → Type 0
+  ToPut = IsToPut words moment inputs inputs' site site' pats pats'
+
+  -- what its stop left of the sink, and the cause of a limit
+  abbrev TellsShort : Shown (List ℕ) → Stop → Type 0
+  TellsShort mid (Outside Inputs) = ⊥
+  TellsShort mid (Outside Site) = ⊥
+  TellsShort mid (Outside Sink) = FallsShort ToPut out mid
+  TellsShort mid Memory = Untouched out mid
+  TellsShort mid Visits = AsksToObey words × IfSome inputs.told (λ lib. AnalysesTooMany words moment lib.texts) × Untouched out mid
+  TellsShort mid (Pattern text) = RefusesBefore words moment inputs.told site site' pats pats' × Untouched out mid
+
+  -- the words ask for work that does this
+  to_put : (work : Work) → IsAsked words moment inputs.told work → (done : Done) → ((w : World) (marks : List Mark) → DoesTask (task_of work) moment w marks done) → (text : List ℕ) → text ≡ all_lines done.steps → ToPut text
+  to_put work a done does text is = of_work (some_weaker inputs.told _ _ (λ lib told taken w marks. (
+    done,
+    calls.work_done (task_of work) a.asked_is a.in_time taken (does w marks),
+    is,
+  )) a.is_work.taken)
+
+  too_many_of : (work : Work) → IsAsked words moment inputs.told work → (setting : Setting) → ObeysAnalysis (task_of work) setting → NeedsManyVisits (task_of work) setting → IfSome inputs.told (λ lib. AnalysesTooMany words moment lib.texts)
+  too_many_of work a setting obeys many = some_weaker inputs.told _ _ (λ lib told taken. record {
+    task = task_of work;
+    setting = setting;
+    asks = asked_task words moment inputs.told work a lib taken;
+    in_time = a.in_time;
+    obeys = obeys;
+    too_large = many;
+  }) a.is_work.taken
+
+  refused_of : (work : Work) (text : List ℕ) → IsAsked words moment inputs.told work → AsksAnalysis words → (setting : Setting) → IsAnalysedIn (task_of work) setting → IsBuiltFor (task_of work) setting text →
+      HasFailed (refuses text) pats pats' → Untouched site site' → RefusesBefore words moment inputs.told site site' pats pats'
+  refused_of work text a asks setting analysed built refused un = record {
+    text = text;
+    builds = inr (
+      asks,
+      some_weaker inputs.told _ _ (λ lib told taken. record {
+        task = task_of work;
+        setting = setting;
+        asks = asked_task words moment inputs.told work a lib taken;
+        analysed = analysed;
+        built = built;
+      }) a.is_work.taken,
+    );
+    refused = refused;
+    untouched = un;
+  }
+
+  not_made_short : (order : PolicyRun) (stop : Stop) (mid : Shown (List ℕ)) → IsAsked words moment inputs.told (Run order) → IsObeyed order.strict (analysis_of (setting_in order.policy)) (Err stop) →
+      OnlyJudged (setting_in order.policy) site site' out mid pats pats' (Err stop) → TellsShort mid stop
+  not_made_short order (Outside Inputs) mid a obeyed q = absurd q.judged.stopped
+  not_made_short order (Outside Site) mid a obeyed q = absurd q.judged.stopped
+  not_made_short order (Outside Sink) mid a obeyed q =
+      let verdict = analysis_of (setting_in order.policy) in
+      let short = q.judged.stopped in
+      let conflict = obeyed.short refl in
+      (short.0, to_put (Run order) a (judged_by verdict) (λ w marks. does_judged order.strict (setting_in order.policy) order.locks moment w marks conflict.0 conflict.1) short.0 (line_judged verdict short.0 short.1), short.2)
+  not_made_short order Memory mid a obeyed q = q.judged.stopped
+  not_made_short order Visits mid a obeyed q = (
+    asks_to_obey words moment inputs.told (Run order) a (obeyed.too_large refl),
+    too_many_of (Run order) a (setting_in order.policy) (obeys_strict order.strict (setting_in order.policy) order.locks (obeyed.too_large refl)) (q.judged.too_large refl),
+    q.judged.stopped,
+  )
+  not_made_short order (Pattern text) mid a obeyed q = (
+    refused_of (Run order) text a (a.request, a.asked_is, run_analysed a.request (a.is_work.runs tt)) (setting_in order.policy) refl q.judged.built q.judged.patterns_are q.site_is,
+    q.judged.stopped,
+  )
+
+  judged_short : (policy : PolicyInContext) (stop : Stop) (mid : Shown (List ℕ)) → IsAsked words moment inputs.told (Judge policy) →
+      OnlyJudged (setting_in policy) site site' out mid pats pats' (Err stop) → TellsShort mid stop
+  judged_short policy (Outside Inputs) mid a q = absurd q.judged.stopped
+  judged_short policy (Outside Site) mid a q = absurd q.judged.stopped
+  judged_short policy (Outside Sink) mid a q =
+      let verdict = analysis_of (setting_in policy) in
+      let short = q.judged.stopped in
+      (short.0, to_put (Judge policy) a (judged_by verdict) (λ w marks. judges_line verdict short.0 short.1) short.0 (line_judged verdict short.0 short.1), short.2)
+  judged_short policy Memory mid a q = q.judged.stopped
+  judged_short policy Visits mid a q = (
+    asks_to_obey words moment inputs.told (Judge policy) a tt,
+    too_many_of (Judge policy) a (setting_in policy) refl (q.judged.too_large refl),
+    q.judged.stopped,
+  )
+  judged_short policy (Pattern text) mid a q = (
+    refused_of (Judge policy) text a (a.request, a.asked_is, obeying_analysed a.request (a.is_work.obeys tt)) (setting_in policy) refl q.judged.built q.judged.patterns_are q.site_is,
+    q.judged.stopped,
+  )
+
+  searched_short : (policy : PolicyInContext) (stop : Stop) (mid : Shown (List ℕ)) → IsAsked words moment inputs.told (Search policy) →
+      OnlySearched (setting_in policy) site site' out mid pats pats' (Err stop) → TellsShort mid stop
+  searched_short policy (Outside Inputs) mid a q = absurd q.searched.stopped
+  searched_short policy (Outside Site) mid a q = absurd q.searched.stopped
+  searched_short policy (Outside Sink) mid a q =
+      let short = q.searched.stopped in
+      let does = search_text_done (setting_in policy) (run (setting_in policy) open_walk) short.0 short.1 in
+      (short.0, to_put (Search policy) a does.0 (λ w marks. does.1) short.0 does.2, short.2)
+  searched_short policy Memory mid a q = q.searched.stopped
+  searched_short policy Visits mid a q = (
+    asks_to_obey words moment inputs.told (Search policy) a tt,
+    too_many_of (Search policy) a (setting_in policy) refl (q.searched.too_large refl),
+    q.searched.stopped,
+  )
+  searched_short policy (Pattern text) mid a q = (
+    refused_of (Search policy) text a (a.request, a.asked_is, obeying_analysed a.request (a.is_work.obeys tt)) (setting_in policy) refl q.searched.built q.searched.patterns_are q.site_is,
+    q.searched.stopped,
+  )
+
+  shown_short : (text : List ℕ) (stop : Stop) (mid : Shown (List ℕ)) → IsAsked words moment inputs.told (Show text) → OnlyPut text site site' out mid pats pats' (Err stop) → TellsShort mid stop
+  shown_short text stop mid a q = subst (TellsShort mid) (sym q.puts.sink_failed.0) (text, to_put (Show text) a (calls.shown text) (λ w marks. refl) text (sym (append-nil text)), q.puts.sink_failed.1)
+
+  -- where no run is made
+  work_short : OneSetting → (work : Work) (stop : Stop) (mid : Shown (List ℕ)) → IsAsked words moment inputs.told work → StopsHere work stop mid → MakesRun words moment inputs.told ⊎ TellsShort mid stop
+  work_short one (Run order) stop mid a (made may q) = inl (makes_run one order a may)
+  work_short one (Run order) stop mid a (not_made obeyed q) = inr (not_made_short order stop mid a obeyed q)
+  work_short one (Judge policy) stop mid a q = inr (judged_short policy stop mid a q)
+  work_short one (Search policy) stop mid a q = inr (searched_short policy stop mid a q)
+  work_short one (Show text) stop mid a q = inr (shown_short text stop mid a q)
+
+  -- ---- a put that fails where no run is made
+
+  abbrev PutsInPart : Type 0
+  PutsInPart = MakesRun words moment inputs.told ⊎ (StopsReading words inputs inputs' site site' out out' ⊎ FallsShort ToPut out out')
+
+  -- the line of a stop, before which nothing was put
+  line_short : (line : List ℕ) (mid : Shown (List ℕ)) → ToPut line → Untouched out mid → PutsShort line mid out' → FallsShort ToPut out out'
+  line_short line mid is un short = (line, is, subst (λ (s : Shown (List ℕ)). PutsShort line s out') un short)
+
+  short_at_work : (stop : Stop) (mid : Shown (List ℕ)) → TellsShort mid stop → PutsStop (stop_line stop) (status_of_stop stop) mid out' status → status ≡ 4 → FallsShort ToPut out out'
+  short_at_work (Outside Inputs) mid tells puts four = absurd tells
+  short_at_work (Outside Site) mid tells puts four = absurd tells
+  short_at_work (Outside Sink) mid tells (is, un) four = subst (FallsShort ToPut out) (sym un) tells
+  short_at_work Memory mid tells (inl (is, put)) four = absurd (omega (arith, is, four))
+  short_at_work Memory mid tells (inr (is, short)) four = line_short memory_line mid of_memory tells short
+  short_at_work Visits mid tells (inl (is, put)) four = absurd (omega (arith, is, four))
+  short_at_work Visits mid tells (inr (is, short)) four = line_short visits_line mid (of_visits tells.0 tells.1) tells.2 short
+  short_at_work (Pattern text) mid tells (inl (is, put)) four = absurd (omega (arith, is, four))
+  short_at_work (Pattern text) mid tells (inr (is, short)) four = line_short pattern_line mid (of_pattern tells.0) tells.1 short
+
+  short_reading : (stop : Stop) → Prepared words moment inputs inputs' pats pats' (Err (Stopped stop)) → Untouched site site' → PutsStop (stop_line stop) (status_of_stop stop) out out' status → status ≡ 4 → PutsInPart
+  short_reading (Outside Inputs) p un (inl (is, put)) four = inr (inl (record { failed = p.inputs_are; untouched = un; put = put }))
+  short_reading (Outside Inputs) p un (inr (is, short)) four = inr (inr (outside_line, of_reading p.inputs_are, short))
+  short_reading (Outside Site) p un puts four = absurd p.inputs_are
+  short_reading (Outside Sink) p un puts four = absurd p.inputs_are
+  short_reading Memory p un (inl (is, put)) four = absurd (omega (arith, is, four))
+  short_reading Memory p un (inr (is, short)) four = inr (inr (memory_line, of_memory, short))
+  short_reading Visits p un puts four = absurd p.inputs_are
+  short_reading (Pattern text) p un (inl (is, put)) four = absurd (omega (arith, is, four))
+  short_reading (Pattern text) p un (inr (is, short)) four = inr (inr (pattern_line, of_pattern (refused_reading text p un), short))
+
+  short_working : (stop : Stop) (mid : Shown (List ℕ)) → MakesRun words moment inputs.told ⊎ TellsShort mid stop → PutsStop (stop_line stop) (status_of_stop stop) mid out' status → status ≡ 4 → PutsInPart
+  short_working stop mid (inl makes) puts four = inl makes
+  short_working stop mid (inr tells) puts four = inr (inr (short_at_work stop mid tells puts four))
+
+  pub put_short : OneSetting → CalledHere → status ≡ 4 → PutsInPart
+  put_short one (not_prepared {failure = Refused line} p un (inl (is, put))) four = absurd (omega (arith, is, four))
+  put_short one (not_prepared {failure = Refused line} p un (inr (is, short))) four = inr (inr (line, of_refusal p.refused, short))
+  put_short one (not_prepared {failure = Stopped stop} p un puts) four = short_reading stop p un puts four
+  put_short one (ended by p performed is) four = absurd (no_end status (inl four) (is_end by status is))
+  put_short one (stopped_at_work {work = work} stop mid p performed puts) four = short_working stop mid (work_short one work stop mid p.work performed) puts four
+
+  -- ---- by a limit, of work that makes no run or of a run
+
+  by_told : (mid : Shown (List ℕ)) → TellsShort mid Visits → Untouched site site' → Untouched pats pats' → Follows (adds_bytes visits_line) mid out' → StopsAtVisits words moment inputs.told site site' out out' pats pats'
+  by_told mid tells un kept put = by_analysis tells.0 tells.1 un kept (along visits_line out mid out' tells.2 put)
+
   limit_of_visits : OneSetting → (work : Work) (mid : Shown (List ℕ)) → Prepared words moment inputs inputs' pats pats (Ok work) → StopsHere work Visits mid → Follows (adds_bytes visits_line) mid out' →
       StopsAtVisits words moment inputs.told site site' out out' pats pats'
-  limit_of_visits one (Run order) mid p (made may q) put = by_run (asks_run words moment inputs.told (Run order) p.work tt)
-      (some_weaker inputs.told _ _ (λ lib told taken. (
-        asks_run words moment inputs.told (Run order) p.work tt,
-        taken_run order p.work lib taken,
-        unaccepted_not_made one order p.work may lib taken,
-      )) p.work.is_work.taken)
+  limit_of_visits one (Run order) mid p (made may q) put = by_run (makes_run one order p.work may)
       (some_weaker inputs.told _ _ (λ lib told taken. both_weaker _ _ site site' (λ before after cut. record {
         setting = setting_in order.policy;
         has_locks = order.locks;
@@ -484,57 +673,10 @@ module _ (words : List (List ℕ)) (moment : ℕ) (inputs inputs' : Shown Librar
         cut_off = cut_off_by order.strict (setting_in order.policy) (started moment order.locks before after) (analysis_of (setting_in order.policy)) may cut;
       }) (q.too_large refl)) p.work.is_work.taken)
       q.patterns_are (mid, put)
-  limit_of_visits one (Run order) mid p (not_made obeyed q) put = by_analysis (asks_to_obey words moment inputs.told (Run order) p.work (obeyed.too_large refl))
-      (some_weaker inputs.told _ _ (λ lib told taken. record {
-        task = task_of (Run order);
-        setting = setting_in order.policy;
-        asks = asked_task words moment inputs.told (Run order) p.work lib taken;
-        in_time = p.work.in_time;
-        obeys = obeys_strict order.strict (setting_in order.policy) order.locks (obeyed.too_large refl);
-        too_large = q.judged.too_large refl;
-      }) p.work.is_work.taken)
-      q.site_is q.judged.patterns_are (along visits_line out mid out' q.judged.stopped put)
-  limit_of_visits one (Judge policy) mid p q put = by_analysis (asks_to_obey words moment inputs.told (Judge policy) p.work tt)
-      (some_weaker inputs.told _ _ (λ lib told taken. record {
-        task = task_of (Judge policy);
-        setting = setting_in policy;
-        asks = asked_task words moment inputs.told (Judge policy) p.work lib taken;
-        in_time = p.work.in_time;
-        obeys = refl;
-        too_large = q.judged.too_large refl;
-      }) p.work.is_work.taken)
-      q.site_is q.judged.patterns_are (along visits_line out mid out' q.judged.stopped put)
-  limit_of_visits one (Search policy) mid p q put = by_analysis (asks_to_obey words moment inputs.told (Search policy) p.work tt)
-      (some_weaker inputs.told _ _ (λ lib told taken. record {
-        task = task_of (Search policy);
-        setting = setting_in policy;
-        asks = asked_task words moment inputs.told (Search policy) p.work lib taken;
-        in_time = p.work.in_time;
-        obeys = refl;
-        too_large = q.searched.too_large refl;
-      }) p.work.is_work.taken)
-      q.site_is q.searched.patterns_are (along visits_line out mid out' q.searched.stopped put)
+  limit_of_visits one (Run order) mid p (not_made obeyed q) put = by_told mid (not_made_short order Visits mid p.work obeyed q) q.site_is q.judged.patterns_are put
+  limit_of_visits one (Judge policy) mid p q put = by_told mid (judged_short policy Visits mid p.work q) q.site_is q.judged.patterns_are put
+  limit_of_visits one (Search policy) mid p q put = by_told mid (searched_short policy Visits mid p.work q) q.site_is q.searched.patterns_are put
   limit_of_visits one (Show text) mid p q put = absurd (never_shown moment site site' out mid pats pats' text Visits q tt)
-
-  analysed_at_pattern : (work : Work) (text : List ℕ) (mid : Shown (List ℕ)) → IsAsked words moment inputs.told work → StopsHere work (Pattern text) mid → AsksAnalysis words
-  analysed_at_pattern (Run order) text mid a q = (a.request, a.asked_is, run_analysed a.request (a.is_work.runs tt))
-  analysed_at_pattern (Judge policy) text mid a q = (a.request, a.asked_is, obeying_analysed a.request (a.is_work.obeys tt))
-  analysed_at_pattern (Search policy) text mid a q = (a.request, a.asked_is, obeying_analysed a.request (a.is_work.obeys tt))
-  analysed_at_pattern (Show shown) text mid a q = absurd (never_shown moment site site' out mid pats pats' shown (Pattern text) q tt)
-
-  -- the text is one that the analysis or the walk builds
-  built_by_analysis : (work : Work) (text : List ℕ) (mid : Shown (List ℕ)) → IsAsked words moment inputs.told work → StopsHere work (Pattern text) mid →
-      (setting : Setting) → IsAnalysedIn (task_of work) setting → IsBuiltFor (task_of work) setting text → AnalysisBuilt words moment inputs.told text
-  built_by_analysis work text mid a q setting analysed built = (
-    analysed_at_pattern work text mid a q,
-    some_weaker inputs.told _ _ (λ lib told taken. record {
-      task = task_of work;
-      setting = setting;
-      asks = asked_task words moment inputs.told work a lib taken;
-      analysed = analysed;
-      built = built;
-    }) a.is_work.taken,
-  )
 
   -- the text is one that the run builds
   built_by_run : (order : PolicyRun) (text : List ℕ) (mid : Shown (List ℕ)) → IsAsked words moment inputs.told (Run order) →
@@ -560,33 +702,9 @@ module _ (words : List (List ℕ)) (moment : ℕ) (inputs inputs' : Shown Librar
 
   refused_working : (work : Work) (text : List ℕ) (mid : Shown (List ℕ)) → Prepared words moment inputs inputs' pats pats (Ok work) → StopsHere work (Pattern text) mid → RefusedAtWork mid
   refused_working (Run order) text mid p (made may q) = inr (record { text = text; builds = built_by_run order text mid p.work q; refused = q.patterns_are })
-  refused_working (Run order) text mid p (not_made obeyed q) = inl (
-    record {
-      text = text;
-      builds = inr (built_by_analysis (Run order) text mid p.work (not_made obeyed q) (setting_in order.policy) refl q.judged.built);
-      refused = q.judged.patterns_are;
-      untouched = q.site_is;
-    },
-    q.judged.stopped,
-  )
-  refused_working (Judge policy) text mid p q = inl (
-    record {
-      text = text;
-      builds = inr (built_by_analysis (Judge policy) text mid p.work q (setting_in policy) refl q.judged.built);
-      refused = q.judged.patterns_are;
-      untouched = q.site_is;
-    },
-    q.judged.stopped,
-  )
-  refused_working (Search policy) text mid p q = inl (
-    record {
-      text = text;
-      builds = inr (built_by_analysis (Search policy) text mid p.work q (setting_in policy) refl q.searched.built);
-      refused = q.searched.patterns_are;
-      untouched = q.site_is;
-    },
-    q.searched.stopped,
-  )
+  refused_working (Run order) text mid p (not_made obeyed q) = inl (not_made_short order (Pattern text) mid p.work obeyed q)
+  refused_working (Judge policy) text mid p q = inl (judged_short policy (Pattern text) mid p.work q)
+  refused_working (Search policy) text mid p q = inl (searched_short policy (Pattern text) mid p.work q)
   refused_working (Show shown) text mid p q = absurd (never_shown moment site site' out mid pats pats' shown (Pattern text) q tt)
 
   limit_of_pattern : (mid : Shown (List ℕ)) → RefusedAtWork mid → Follows (adds_bytes pattern_line) mid out' → StopsAtPattern words moment inputs.told site site' out out' pats pats'

@@ -118,13 +118,13 @@ module _ (Tells : Type 0) (site' : Shown Told) where
   IsWorkOfDemo (Ok end) = IsEndOfDemo end
   IsWorkOfDemo (Err stop) = IsStopOfDemo stop
 
-  putting : (out out' : Shown (List ℕ)) (stop : Stop) → StopsPutting out out' stop → IsStopOfDemo stop
-  putting out out' (Outside Inputs) h = absurd h
-  putting out out' (Outside Site) h = absurd h
-  putting out out' (Outside Sink) h = tt
-  putting out out' Memory h = tt
-  putting out out' Visits h = absurd h
-  putting out out' (Pattern text) h = absurd h
+  putting : (IsText : List ℕ → Type 0) → (out out' : Shown (List ℕ)) (stop : Stop) → StopsPutting IsText out out' stop → IsStopOfDemo stop
+  putting IsText out out' (Outside Inputs) h = absurd h
+  putting IsText out out' (Outside Site) h = absurd h
+  putting IsText out out' (Outside Sink) h = tt
+  putting IsText out out' Memory h = tt
+  putting IsText out out' Visits h = absurd h
+  putting IsText out out' (Pattern text) h = absurd h
 
   module _ (laws : DemoLaws) (number : ℕ) (few : Few number) (setting : Setting) (same : setting.policy ≡ demo_tree number) (moment : ℕ) where
     never_large : (start : Start) → IsTooLarge (run_of setting start) → ⊥
@@ -145,7 +145,7 @@ module _ (Tells : Type 0) (site' : Shown Told) where
 
     second_told : (live : ℕ) (run : CountedRun) (out out' : Shown (List ℕ)) (result : Result End Stop) → SecondIsTold live run out out' result → IsWorkOfDemo result
     second_told live run out out' _ (demos.told put) = end_of (nat_lt 0 run.tally.failed)
-    second_told live run out out' _ (demos.not_told {stop = stop} stops) = putting out out' stop stops
+    second_told live run out out' _ (demos.not_told {stop = stop} stops) = putting _ out out' stop stops
 
     again : (live : ℕ) (site : Shown Told) (out out' : Shown (List ℕ)) (result : Result End Stop) → (Tells → IsTold site) → (Tells → IsTold site') →
         RunsAgain setting moment live site site' out out' result → IsWorkOfDemo result
@@ -155,7 +155,7 @@ module _ (Tells : Type 0) (site' : Shown Told) where
     first_told : (live : ℕ) (run : CountedRun) (site : Shown Told) (out out' : Shown (List ℕ)) (result : Result End Stop) → (Tells → IsTold site) → (Tells → IsTold site') →
         FirstIsTold setting moment live run site site' out out' result → IsWorkOfDemo result
     first_told live run site out out' result before after (demos.first_told mid put runs) = again live site mid out' result before after runs
-    first_told live run site out out' _ before after (demos.first_not_told {stop = stop} un stops) = putting out out' stop stops
+    first_told live run site out out' _ before after (demos.first_not_told {stop = stop} un stops) = putting _ out out' stop stops
 
     twice : (live : ℕ) (site : Shown Told) (out out' : Shown (List ℕ)) (result : Result End Stop) → (Tells → IsTold site) → (Tells → IsTold site') →
         RunsTwice Tells setting moment live site site' out out' result → IsWorkOfDemo result
@@ -165,7 +165,7 @@ module _ (Tells : Type 0) (site' : Shown Told) where
     shown : (live : ℕ) (site : Shown Told) (out out' : Shown (List ℕ)) (result : Result End Stop) → (Tells → IsTold site) → (Tells → IsTold site') →
         IsShown Tells setting number moment live site site' out out' result → IsWorkOfDemo result
     shown live site out out' result before after (demos.begun mid put runs) = twice live site mid out' result before after runs
-    shown live site out out' _ before after (demos.not_begun {stop = stop} un stops) = putting out out' stop stops
+    shown live site out out' _ before after (demos.not_begun {stop = stop} un stops) = putting _ out out' stop stops
 
     is_accepted : IsAcceptance (analysis_of setting)
     is_accepted =

@@ -24,8 +24,8 @@ use Rattle.cfa_agent.specs.lemmas.Hosts.{adds_none}
 use Rattle.cfa_main.specs.declared.searching.Found.{Found}
 use Rattle.cfa_main.specs.declared.ends.End.{End}
 use Rattle.cfa_main.specs.declared.ends.End.TheVariants.{Ended, InConflict}
-use Rattle.cfa_main.specs.Done.{Done, IsDone, IsPut, status_of}
-use Rattle.cfa_main.specs.Searches.{edits_file, script_of, script_of_work, seen_finding, Finding, has_clash, AreFindings, search_text, search_end, searched, SearchDoes, TellsFindings, TellsSearch}
+use Rattle.cfa_main.specs.Done.{Done, IsDone, IsPut, all_lines, status_of}
+use Rattle.cfa_main.specs.Searches.{edits_file, script_of, script_of_work, seen_finding, Finding, has_clash, AreFindings, search_text, search_end, searched, SearchDoes, IsFindingsText, IsSearchText, TellsFindings, TellsSearch}
 use Rattle.cfa_main.specs.Stages.{StopsPutting, PolicySearched}
 
 -- ---- one first clash
@@ -145,7 +145,8 @@ IsInTime (Err Memory) = Unit {0}
 IsInTime (Err Visits) = ⊥
 IsInTime (Err (Pattern text)) = Unit {0}
 
-putting_searched : (setting : Setting) (out out' : Shown (List ℕ)) (pats pats' : Shown (List (List ℕ))) (stop : Stop) → pats' ≡ pats → StopsPutting out out' stop → PolicySearched setting out out' pats pats' (Err stop)
+putting_searched : (setting : Setting) (out out' : Shown (List ℕ)) (pats pats' : Shown (List (List ℕ))) (stop : Stop) → pats' ≡ pats → StopsPutting (IsSearchText setting (run setting open_walk)) out out' stop →
+    PolicySearched setting out out' pats pats' (Err stop)
 putting_searched setting out out' pats pats' (Outside Inputs) kept stops = absurd stops
 putting_searched setting out out' pats pats' (Outside Site) kept stops = absurd stops
 putting_searched setting out out' pats pats' (Outside Sink) kept stops = record { told = tt; too_large = λ is. absurd (subst IsInTime is tt); stopped = stops; built = tt; patterns_are = kept }
@@ -153,9 +154,24 @@ putting_searched setting out out' pats pats' Memory kept stops = record { told =
 putting_searched setting out out' pats pats' Visits kept stops = absurd stops
 putting_searched setting out out' pats pats' (Pattern text) kept stops = absurd stops
 
+-- the text of a walk's instances is that of its search
+search_text_of : (setting : Setting) (course : Course) (walk : Walk) (instances : List Instance) (text : List ℕ) → GoesTo course (λ h. walk ≡ walked setting h) → instances ≡ walk.instances →
+    IsFindingsText instances text → IsSearchText setting course text
+search_text_of setting (goes h) walk instances text is are found = subst (λ (xs : List Instance). IsFindingsText xs text) (are ∙ ap (λ (w : Walk). w.instances) is) found
+search_text_of setting (too_large h) walk instances text is are found = absurd is
+
+putting_walked : (setting : Setting) (course : Course) (walk : Walk) (instances : List Instance) (out out' : Shown (List ℕ)) (stop : Stop) → GoesTo course (λ h. walk ≡ walked setting h) →
+    instances ≡ walk.instances → StopsPutting (IsFindingsText instances) out out' stop → StopsPutting (IsSearchText setting course) out out' stop
+putting_walked setting course walk instances out out' (Outside Inputs) is are stops = absurd stops
+putting_walked setting course walk instances out out' (Outside Site) is are stops = absurd stops
+putting_walked setting course walk instances out out' (Outside Sink) is are stops = (stops.0, search_text_of setting course walk instances stops.0 is are stops.1, stops.2)
+putting_walked setting course walk instances out out' Memory is are stops = stops
+putting_walked setting course walk instances out out' Visits is are stops = absurd stops
+putting_walked setting course walk instances out out' (Pattern text) is are stops = absurd stops
+
 -- a walk that was made, and its lines
 pub policy_searched : (setting : Setting) (walk : Walk) (instances : List Instance) (out out' : Shown (List ℕ)) (pats pats' : Shown (List (List ℕ))) (result : Result End Stop) → GoesTo (run setting open_walk) (λ h. walk ≡ walked setting h) →
-    instances ≡ walk.instances → IfOk result (λ end. TellsFindings instances end out out') → IfErr result (StopsPutting out out') → pats' ≡ pats → PolicySearched setting out out' pats pats' result
+    instances ≡ walk.instances → IfOk result (λ end. TellsFindings instances end out out') → IfErr result (StopsPutting (IsFindingsText instances) out out') → pats' ≡ pats → PolicySearched setting out out' pats pats' result
 policy_searched setting walk instances out out' pats pats' (Ok end) is are told stopped kept = record {
   told = search_told setting (run setting open_walk) walk end out out' is (subst (λ (xs : List Instance). TellsFindings xs end out out') are told);
   too_large = λ is. absurd (subst IsInTime is tt);
@@ -163,7 +179,8 @@ policy_searched setting walk instances out out' pats pats' (Ok end) is are told 
   built = tt;
   patterns_are = kept;
 }
-policy_searched setting walk instances out out' pats pats' (Err stop) is are told stopped kept = putting_searched setting out out' pats pats' stop kept stopped
+policy_searched setting walk instances out out' pats pats' (Err stop) is are told stopped kept =
+    putting_searched setting out out' pats pats' stop kept (putting_walked setting (run setting open_walk) walk instances out out' stop is are stopped)
 
 -- ---- what is done by the definition
 
@@ -177,6 +194,10 @@ not_two false is = omega (arith, is)
 pub search_not_failed : (setting : Setting) (course : Course) (end : End) (out out' : Shown (List ℕ)) → TellsSearch setting course end out out' → status_of end ≡ 2 → ⊥
 search_not_failed setting (too_large h) end out out' told two = told
 search_not_failed setting (goes h) end out out' told two = not_two (list_any has_clash told.0) (sym (ap status_of told.2) ∙ two)
+
+pub search_text_done : (setting : Setting) (course : Course) (text : List ℕ) → IsSearchText setting course text → (done : Done) × SearchDoes setting course done × (text ≡ all_lines done.steps)
+search_text_done setting (too_large h) text is = absurd is
+search_text_done setting (goes h) text is = (searched is.0, (is.0, is.1, refl), is.2 ∙ sym (append-nil (search_text is.0)))
 
 pub search_done : (setting : Setting) (course : Course) (t : Told) (out out' : Shown (List ℕ)) (end : End) (n : ℕ) → n ≡ status_of end → TellsSearch setting course end out out' →
     (done : Done) × SearchDoes setting course done × IsDone done t t out out' n

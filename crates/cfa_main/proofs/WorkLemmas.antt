@@ -10,7 +10,7 @@ use Rattle.cfa_output.specs.declared.ends.Stop.{Stop}
 use Rattle.cfa_output.specs.declared.ends.Stop.TheVariants.{Outside, Memory, Visits, Pattern}
 use Rattle.cfa_sources.specs.Readings.{text_too_big}
 use Rattle.cfa_states.specs.Levels.{IsTooLarge}
-use Rattle.cfa_states.specs.Passes.{run}
+use Rattle.cfa_states.specs.Passes.{Course, goes, too_large, run}
 use Rattle.cfa_states.specs.Tellers.{open_walk}
 use Rattle.cfa_states.specs.Views.{Setting}
 use Rattle.cfa_conflict.specs.declared.verdicts.Verdict.{Verdict}
@@ -25,8 +25,9 @@ use Rattle.cfa_main.specs.declared.ends.End.TheVariants.{Ended, PromiseFailed, I
 use Rattle.cfa_main.specs.declared.work.Work.{Work}
 use Rattle.cfa_main.specs.declared.work.Work.TheVariants.{Run, Judge, Search, Show}
 use Rattle.cfa_main.specs.Calls.{runs, judged, shown, verdict_line, RunDoes, StrictRunDoes, Judges, DoesTask, IsUnaccepted, IsCutOffBy, ObeysAnalysis}
-use Rattle.cfa_main.specs.Done.{Done, IsDone, IsPut, status_of}
-use Rattle.cfa_main.specs.Stages.{RunsPolicy, Obeys, setting_in, TellsVerdict, StopsTelling, IsEndOfRun, MayRun, IsInConflict, not_made, made, Performed, TextPut, OnlyPut}
+use Rattle.cfa_main.specs.Done.{Done, IsDone, IsPut, all_lines, status_of}
+use Rattle.cfa_main.specs.Searches.{TellsSearch}
+use Rattle.cfa_main.specs.Stages.{RunsPolicy, Obeys, setting_in, TellsVerdict, StopsTelling, IsVerdictLine, IsEndOfRun, MayRun, IsInConflict, not_made, made, Performed, TextPut, OnlyPut}
 use Rattle.cfa_main.proofs.SearchLemmas.{search_not_failed}
 
 -- ---- ends
@@ -100,6 +101,16 @@ pub obeys_strict : (strict : Bool) (setting : Setting) (locks : Bool) → strict
 obeys_strict true setting locks is = refl
 obeys_strict false setting locks is = absurd (false≢true is)
 
+-- ---- the text that is put by the definition
+
+pub judges_line : (verdict : Option Verdict) (text : List ℕ) → IsVerdictLine verdict text → Judges verdict (judged_by verdict)
+judges_line None text is = absurd is
+judges_line (Some verdict) text is = refl
+
+pub line_judged : (verdict : Option Verdict) (text : List ℕ) → IsVerdictLine verdict text → text ≡ all_lines (judged_by verdict).steps
+line_judged None text is = absurd is
+line_judged (Some verdict) text is = is ∙ sym (append-nil (verdict_line verdict))
+
 -- ---- a text that was put
 
 pub text_done : (text : List ℕ) (t : Told) (out out' : Shown (List ℕ)) (end : End) (n : ℕ) → n ≡ status_of end → TextPut text out out' (Ok end) → IsDone (shown text) t t out out' n
@@ -136,21 +147,21 @@ IsOfSite Memory = ⊥
 IsOfSite Visits = ⊥
 IsOfSite (Pattern text) = ⊥
 
-telling_untouched : (stop : Stop) (out out' : Shown (List ℕ)) → StopsTelling out out' stop → IsNoSink stop → Untouched out out'
-telling_untouched (Outside Inputs) out out' stops other = absurd stops
-telling_untouched (Outside Site) out out' stops other = absurd stops
-telling_untouched (Outside Sink) out out' stops other = absurd other
-telling_untouched Memory out out' stops other = stops
-telling_untouched Visits out out' stops other = stops
-telling_untouched (Pattern text) out out' stops other = stops
+telling_untouched : (IsText : List ℕ → Type 0) → (stop : Stop) (out out' : Shown (List ℕ)) → StopsTelling IsText out out' stop → IsNoSink stop → Untouched out out'
+telling_untouched IsText (Outside Inputs) out out' stops other = absurd stops
+telling_untouched IsText (Outside Site) out out' stops other = absurd stops
+telling_untouched IsText (Outside Sink) out out' stops other = absurd other
+telling_untouched IsText Memory out out' stops other = stops
+telling_untouched IsText Visits out out' stops other = stops
+telling_untouched IsText (Pattern text) out out' stops other = stops
 
-not_of_site : (stop : Stop) (out out' : Shown (List ℕ)) → StopsTelling out out' stop → IsOfSite stop → ⊥
-not_of_site (Outside Inputs) out out' stops of_site = of_site
-not_of_site (Outside Site) out out' stops of_site = stops
-not_of_site (Outside Sink) out out' stops of_site = of_site
-not_of_site Memory out out' stops of_site = of_site
-not_of_site Visits out out' stops of_site = of_site
-not_of_site (Pattern text) out out' stops of_site = of_site
+not_of_site : (IsText : List ℕ → Type 0) → (stop : Stop) (out out' : Shown (List ℕ)) → StopsTelling IsText out out' stop → IsOfSite stop → ⊥
+not_of_site IsText (Outside Inputs) out out' stops of_site = of_site
+not_of_site IsText (Outside Site) out out' stops of_site = stops
+not_of_site IsText (Outside Sink) out out' stops of_site = of_site
+not_of_site IsText Memory out out' stops of_site = of_site
+not_of_site IsText Visits out out' stops of_site = of_site
+not_of_site IsText (Pattern text) out out' stops of_site = of_site
 
 -- the status of a verdict is neither that of a failed run nor, where the policy is accepted, that of a conflict
 verdict_not_failed : (verdict : Option Verdict) (end : End) (out out' : Shown (List ℕ)) → TellsVerdict verdict end out out' → status_of end ≡ 2 → ⊥
@@ -163,21 +174,21 @@ module _ (moment : ℕ) (site site' : Shown Told) (out out' : Shown (List ℕ)) 
   Did work result = Performed work moment site site' out out' pats pats' result
 
   put_stop : (text : List ℕ) (stop : Stop) → OnlyPut text site site' out out' pats pats' (Err stop) → StopsRun site site' out out' stop
-  put_stop text stop p = subst (StopsRun site site' out out') (sym p.puts.sink_failed.0) p.puts.sink_failed.1
+  put_stop text stop p = subst (StopsRun site site' out out') (sym p.puts.sink_failed.0) p.puts.sink_failed.1.failed.rose
 
-  telling_stop : (stop : Stop) → StopsTelling out out' stop → StopsRun site site' out out' stop
-  telling_stop (Outside Inputs) stops = absurd stops
-  telling_stop (Outside Site) stops = absurd stops
-  telling_stop (Outside Sink) stops = stops
-  telling_stop Memory stops = ap (λ (s : Shown (List ℕ)). s.faults) stops
-  telling_stop Visits stops = ap (λ (s : Shown (List ℕ)). s.faults) stops
-  telling_stop (Pattern text) stops = ap (λ (s : Shown (List ℕ)). s.faults) stops
+  telling_stop : (IsText : List ℕ → Type 0) → (stop : Stop) → StopsTelling IsText out out' stop → StopsRun site site' out out' stop
+  telling_stop IsText (Outside Inputs) stops = absurd stops
+  telling_stop IsText (Outside Site) stops = absurd stops
+  telling_stop IsText (Outside Sink) stops = stops.2.failed.rose
+  telling_stop IsText Memory stops = ap (λ (s : Shown (List ℕ)). s.faults) stops
+  telling_stop IsText Visits stops = ap (λ (s : Shown (List ℕ)). s.faults) stops
+  telling_stop IsText (Pattern text) stops = ap (λ (s : Shown (List ℕ)). s.faults) stops
 
   pub work_stop : (work : Work) (stop : Stop) → Did work (Err stop) → StopsRun site site' out out' stop
-  work_stop (Run order) stop (not_made obeyed p) = telling_stop stop p.judged.stopped
+  work_stop (Run order) stop (not_made obeyed p) = telling_stop _ stop p.judged.stopped
   work_stop (Run order) stop (made may p) = p.stopped
-  work_stop (Judge policy) stop p = telling_stop stop p.judged.stopped
-  work_stop (Search policy) stop p = telling_stop stop p.searched.stopped
+  work_stop (Judge policy) stop p = telling_stop _ stop p.judged.stopped
+  work_stop (Search policy) stop p = telling_stop _ stop p.searched.stopped
   work_stop (Show text) stop p = put_stop text stop p
 
   only_sink : (text : List ℕ) (stop : Stop) → OnlyPut text site site' out out' pats pats' (Err stop) → IsNoSink stop → ⊥
@@ -189,8 +200,8 @@ module _ (moment : ℕ) (site site' : Shown Told) (out out' : Shown (List ℕ)) 
 
   pub untouched_at_stop : (work : Work) (stop : Stop) → Did work (Err stop) → ¬ RunsPolicy work → IsNoSink stop → Untouched out out'
   untouched_at_stop (Run order) stop p no_run other = absurd (no_run tt)
-  untouched_at_stop (Judge policy) stop p no_run other = telling_untouched stop out out' p.judged.stopped other
-  untouched_at_stop (Search policy) stop p no_run other = telling_untouched stop out out' p.searched.stopped other
+  untouched_at_stop (Judge policy) stop p no_run other = telling_untouched _ stop out out' p.judged.stopped other
+  untouched_at_stop (Search policy) stop p no_run other = telling_untouched _ stop out out' p.searched.stopped other
   untouched_at_stop (Show text) stop p no_run other = absurd (only_sink text stop p other)
 
   site_is_no_sink : (stop : Stop) → IsOfSite stop → IsNoSink stop
@@ -203,8 +214,8 @@ module _ (moment : ℕ) (site site' : Shown Told) (out out' : Shown (List ℕ)) 
 
   pub runs_by_site : (work : Work) (stop : Stop) → Did work (Err stop) → IsOfSite stop → RunsPolicy work
   runs_by_site (Run order) stop p of_site = tt
-  runs_by_site (Judge policy) stop p of_site = absurd (not_of_site stop out out' p.judged.stopped of_site)
-  runs_by_site (Search policy) stop p of_site = absurd (not_of_site stop out out' p.searched.stopped of_site)
+  runs_by_site (Judge policy) stop p of_site = absurd (not_of_site _ stop out out' p.judged.stopped of_site)
+  runs_by_site (Search policy) stop p of_site = absurd (not_of_site _ stop out out' p.searched.stopped of_site)
   runs_by_site (Show text) stop p of_site = absurd (only_sink text stop p (site_is_no_sink stop of_site))
 
   put_patterns : (text : List ℕ) (stop : Stop) → OnlyPut text site site' out out' pats pats' (Err stop) → Refuses (text_too_big (Some stop)) pats pats'
@@ -229,6 +240,22 @@ module _ (moment : ℕ) (site site' : Shown Told) (out out' : Shown (List ℕ)) 
   untouched_without_run (Judge policy) result p no_run = p.site_is
   untouched_without_run (Search policy) result p no_run = p.site_is
   untouched_without_run (Show text) result p no_run = p.site_is
+
+  verdict_calm : (verdict : Option Verdict) (end : End) → TellsVerdict verdict end out out' → out'.faults ≡ out.faults
+  verdict_calm None end told = absurd told
+  verdict_calm (Some verdict) end told = ap (λ (s : Shown (List ℕ)). s.faults) told.1
+
+  search_calm : (setting : Setting) (course : Course) (end : End) → TellsSearch setting course end out out' → out'.faults ≡ out.faults
+  search_calm setting (too_large h) end told = absurd told
+  search_calm setting (goes h) end told = ap (λ (s : Shown (List ℕ)). s.faults) told.3
+
+  -- work that came to its end put all that it puts
+  pub work_calm : (work : Work) (end : End) → Did work (Ok end) → out'.faults ≡ out.faults
+  work_calm (Run order) end (not_made obeyed p) = verdict_calm (analysis_of (setting_in order.policy)) end p.judged.told
+  work_calm (Run order) end (made may p) = p.calm
+  work_calm (Judge policy) end p = verdict_calm (analysis_of (setting_in policy)) end p.judged.told
+  work_calm (Search policy) end p = search_calm (setting_in policy) (run (setting_in policy) open_walk) end p.searched.told
+  work_calm (Show text) end p = ap (λ (s : Shown (List ℕ)). s.faults) p.puts.put.1
 
   shown_not : (n : ℕ) (text : List ℕ) (end : End) → OnlyPut text site site' out out' pats pats' (Ok end) → status_of end ≡ n → 0 ≡ n
   shown_not n text end p is = sym (ap status_of p.puts.put.0) ∙ is

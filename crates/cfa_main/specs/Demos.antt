@@ -33,7 +33,7 @@ use Rattle.cfa_main.specs.declared.ends.End.{End}
 use Rattle.cfa_main.specs.declared.work.PolicyInContext.{PolicyInContext}
 use Rattle.cfa_main.specs.Calls.{TakesPolicy, end_by, settled_by}
 use Rattle.cfa_main.specs.Done.{HasFault, status_of}
-use Rattle.cfa_main.specs.Stages.{setting_in, StopsPutting, VerdictPut, IsRefusalWith, PutsStop, PutsFailure, status_of_stop, Called}
+use Rattle.cfa_main.specs.Stages.{setting_in, Is, StopsPutting, VerdictPut, IsRefusalWith, PutsStop, PutsFailure, status_of_stop, Called}
 
 -- ---- the policy
 
@@ -91,10 +91,10 @@ abbrev pub second_lines : (live : ℕ) → CountedRun → List ℕ
 second_lines live run =
     number_line (codes "rerun") run.entries ++ settled_line (settled_by false run.tally.failed (Some (Accepted live)))
 
--- two lines were put, or memory ended or the sink failed
+-- two lines were put, or memory ended, or a put of them failed
 pub record LinesPut (lines : List ℕ) (out out' : Shown (List ℕ)) (result : Result (Unit {0}) Stop) : Type 0 where
   pub put : OnOk result (Follows (adds_bytes lines) out out')
-  pub stopped : IfErr result (StopsPutting out out')
+  pub stopped : IfErr result (StopsPutting (Is lines) out out')
 
 -- ---- the order of work, from its end on
 
@@ -109,7 +109,7 @@ AlwaysTells {X} shown = (x : X) → IsTold (shown x)
 pub data SecondIsTold (live : ℕ) (run : CountedRun) (out out' : Shown (List ℕ)) : Result End Stop → Type 0 where
   told : Follows (adds_bytes (second_lines live run)) out out' →
       SecondIsTold live run out out' (Ok (end_by run.tally.failed))
-  not_told : {stop : Stop} → StopsPutting out out' stop → SecondIsTold live run out out' (Err stop)
+  not_told : {stop : Stop} → StopsPutting (Is (second_lines live run)) out out' stop → SecondIsTold live run out out' (Err stop)
 
 -- the second run, and what follows it
 pub data RunsAgain (setting : Setting) (moment live : ℕ) (site site' : Shown Told) (out out' : Shown (List ℕ)) :
@@ -125,7 +125,7 @@ pub data FirstIsTold (setting : Setting) (moment live : ℕ) (run : CountedRun) 
   first_told : {result : Result End Stop} (mid : Shown (List ℕ)) → Follows (adds_bytes (first_lines run)) out mid →
       RunsAgain setting moment live site site' mid out' result →
       FirstIsTold setting moment live run site site' out out' result
-  first_not_told : {stop : Stop} → Untouched site site' → StopsPutting out out' stop →
+  first_not_told : {stop : Stop} → Untouched site site' → StopsPutting (Is (first_lines run)) out out' stop →
       FirstIsTold setting moment live run site site' out out' (Err stop)
 
 -- the first run, and what follows it; between the runs the site tells its world where sites of its type do
@@ -143,7 +143,7 @@ pub data IsShown (Tells : Type 0) (setting : Setting) (number moment live : ℕ)
   begun : {result : Result End Stop} (mid : Shown (List ℕ)) → Follows (adds_bytes (demo_lines number live)) out mid →
       RunsTwice Tells setting moment live site site' mid out' result →
       IsShown Tells setting number moment live site site' out out' result
-  not_begun : {stop : Stop} → Untouched site site' → StopsPutting out out' stop →
+  not_begun : {stop : Stop} → Untouched site site' → StopsPutting (Is (demo_lines number live)) out out' stop →
       IsShown Tells setting number moment live site site' out out' (Err stop)
 
 -- the analysis, and what follows it: only an accepted policy is run

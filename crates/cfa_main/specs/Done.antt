@@ -6,6 +6,7 @@ use Rattle.cfa_base.specs.Shown.{Shown, Follows}
 use Rattle.cfa_outside.specs.declared.sites.Entry.{Entry}
 use Rattle.cfa_outside.specs.Sites.{Told, adds}
 use Rattle.cfa_outside.specs.Sinks.{adds_bytes}
+use Rattle.cfa_output.specs.Puts.{PutsShort}
 use Rattle.cfa_main.specs.declared.ends.End.{End}
 use Rattle.cfa_main.specs.declared.ends.End.TheVariants.{Ended, PromiseFailed, InConflict}
 
@@ -45,6 +46,10 @@ ends_with end steps = record { steps = steps; status = status_of end }
 -- a call on the object failed, or its count of faults stands at its end
 abbrev pub HasFault : {T : Type 0} → (before after : Shown T) → Type 0
 HasFault before after = Rose before.faults after.faults
+
+-- a first part of a text of which this holds was put, which isn't all, and then a put failed; behind it nothing was put
+abbrev pub FallsShort : (IsText : List ℕ → Type 0) → (out out' : Shown (List ℕ)) → Type 0
+FallsShort IsText out out' = (text : List ℕ) × IsText text × PutsShort text out out'
 
 -- what the site tells, the sink and the status are those of what was to be done, and no put failed
 pub record IsDone (done : Done) (before after : Told) (out out' : Shown (List ℕ)) (status : ℕ) : Type 0 where

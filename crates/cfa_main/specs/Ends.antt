@@ -11,15 +11,17 @@ use Rattle.cfa_outside.specs.Inputs.{Library}
 use Rattle.cfa_outside.specs.Sinks.{adds_bytes}
 use Rattle.cfa_outside.specs.declared.worlds.World.{World}
 use Rattle.cfa_outside.specs.Sites.{Told}
-use Rattle.cfa_output.specs.Lines.{words_line, moment_line, outside_line, visits_line, pattern_line}
+use Rattle.cfa_output.specs.Lines.{words_line, moment_line, outside_line, memory_line, visits_line, pattern_line}
 use Rattle.cfa_sources.specs.Sources.{Texts, IsNamed, IsNextFile}
 use Rattle.cfa_sources.specs.Checks.{RefusesSize}
 use Rattle.cfa_sources.specs.Readings.{FailsNext}
+use Rattle.cfa_agent.specs.Actuations.{Mark}
 use Rattle.cfa_agent.specs.Marks.{marks_of}
 use Rattle.cfa_agent.specs.Ran.{added, IfBothTold}
 use Rattle.cfa_states.specs.Views.{Setting}
 use Rattle.cfa_convergence.specs.Settled.{Settles}
-use Rattle.cfa_main.specs.Calls.{Task, RefusesRequest, AsksTask, AsksUnaccepted, NeedsTooMany, AnalysesTooMany, AnalysisBuildsText, RunBuildsText, RunsIn}
+use Rattle.cfa_main.specs.Calls.{Task, Does, RefusesRequest, AsksTask, AsksUnaccepted, NeedsTooMany, AnalysesTooMany, AnalysisBuildsText, RunBuildsText, RunsIn}
+use Rattle.cfa_main.specs.Done.{Done, all_lines}
 
 -- ---- statuses
 
@@ -135,10 +137,13 @@ IsNextOf (History journal) texts name = IsNamed journal texts name
 abbrev pub AsksNext : (words : List (List ℕ)) → Texts → (name : List ℕ) → Type 0
 AsksNext words texts name = Asks (λ request. IsNextOf request texts name) words
 
--- no reading failed but that of the name that is read next; after want of memory the count of faults is left open
-abbrev pub ReadsInTurn : (words : List (List ℕ)) → (inputs inputs' : Shown Library) → Type 0
-ReadsInTurn words inputs inputs' =
-    Untouched inputs inputs' ⊎ (IsLeft inputs inputs' ⊎ FailsNext (AsksNext words) inputs inputs')
+-- no reading failed, unless the call was stopped: after want of memory the count of faults is left open; and by status 4 a reading may
+-- have failed, that of the name that is read next
+abbrev pub ReadsInTurn : (words : List (List ℕ)) → (inputs inputs' : Shown Library) → (status : ℕ) → Type 0
+ReadsInTurn words inputs inputs' status =
+    Untouched inputs inputs'
+    ⊎ ((((status ≡ 4) ⊎ (status ≡ 5)) × IsLeft inputs inputs')
+    ⊎ ((status ≡ 4) × FailsNext (AsksNext words) inputs inputs'))
 
 -- a run, a check and `edits` build the texts of the patterns of their policy, where nothing else is refused
 abbrev pub BuildsOf : Request → (told : Option Library) → (text : List ℕ) → Type 0
@@ -158,6 +163,10 @@ AsksBuilt words told text = Asks (λ request. BuildsOf request told text) words
 -- the line is the last that was put
 abbrev pub PutsLast : (line : List ℕ) → (out' : Shown (List ℕ)) → Type 0
 PutsLast line out' = (mid : Shown (List ℕ)) × Follows (adds_bytes line) mid out'
+
+-- the words ask for a run that is made, as far as the inputs tell
+abbrev pub MakesRun : (words : List (List ℕ)) → (moment : ℕ) → (told : Option Library) → Type 0
+MakesRun words moment told = AsksRun words × IfSome told (λ library. AsksMadeRun words moment library.texts)
 
 -- the reading of the next name failed, and its stop is all that was done
 pub record StopsReading (words : List (List ℕ)) (inputs inputs' : Shown Library)
@@ -202,6 +211,23 @@ pub record RefusesInRun (words : List (List ℕ)) (moment : ℕ) (told : Option 
   pub builds : RunBuilt words moment told site site' text
   pub refused : HasFailed (refuses text) pats pats'
 
+-- the text is all that a call puts: the line of a refusal, what its definition says of the call, or the line of a stop that came before
+-- anything was put, by its cause
+pub data IsToPut (words : List (List ℕ)) (moment : ℕ) (inputs inputs' : Shown Library) (site site' : Shown Told)
+    (pats pats' : Shown (List (List ℕ))) : (text : List ℕ) → Type 0 where
+  of_refusal : {line : List ℕ} → RefusesCall words moment inputs.told line →
+      IsToPut words moment inputs inputs' site site' pats pats' line
+  of_work : {text : List ℕ} → IfSome inputs.told (λ library. (world : World) (marks : List Mark) →
+      (done : Done) × Does words moment library.texts world marks done × (text ≡ all_lines done.steps)) →
+      IsToPut words moment inputs inputs' site site' pats pats' text
+  of_reading : FailsNext (AsksNext words) inputs inputs' →
+      IsToPut words moment inputs inputs' site site' pats pats' outside_line
+  of_memory : IsToPut words moment inputs inputs' site site' pats pats' memory_line
+  of_pattern : RefusesBefore words moment inputs.told site site' pats pats' →
+      IsToPut words moment inputs inputs' site site' pats pats' pattern_line
+  of_visits : AsksToObey words → IfSome inputs.told (λ library. AnalysesTooMany words moment library.texts) →
+      IsToPut words moment inputs inputs' site site' pats pats' visits_line
+
 -- a text was refused for its size in this call
 pub data RefusesText (words : List (List ℕ)) (moment : ℕ) (told : Option Library) (site site' : Shown Told)
     (pats pats' : Shown (List (List ℕ))) : Type 0 where
@@ -224,7 +250,7 @@ pub data StopsAtVisits (words : List (List ℕ)) (moment : ℕ) (told : Option L
   by_analysis : AsksToObey words → IfSome told (λ library. AnalysesTooMany words moment library.texts) →
       Untouched site site' → Untouched pats pats' → Follows (adds_bytes visits_line) out out' →
       StopsAtVisits words moment told site site' out out' pats pats'
-  by_run : AsksRun words → IfSome told (λ library. AsksMadeRun words moment library.texts) →
+  by_run : MakesRun words moment told →
       IfSome told (λ library. IfBothTold (λ before after.
       NeedsTooMany words moment library.texts before.world (marks_of (added before after))) site site') →
       Untouched pats pats' → PutsLast visits_line out' →

@@ -111,6 +111,15 @@ abbrev pub TellsSearch : Setting → Course → End → (out out' : Shown (List 
 TellsSearch setting (goes h) end out out' = TellsFindings (walked setting h).instances end out out'
 TellsSearch setting (too_large h) end out out' = ⊥
 
+-- the text is that of what is found of instances
+abbrev pub IsFindingsText : List Instance → (text : List ℕ) → Type 0
+IsFindingsText instances text = (findings : List Finding) × AreFindings instances findings × (text ≡ search_text findings)
+
+-- the text is that of a search, by how its walk ends
+abbrev pub IsSearchText : Setting → Course → (text : List ℕ) → Type 0
+IsSearchText setting (goes h) text = IsFindingsText (walked setting h).instances text
+IsSearchText setting (too_large h) text = ⊥
+
 -- the text that stopped the work is one that the walk builds
 abbrev pub BuiltToSearch : Setting → Option (List ℕ) → Type 0
 BuiltToSearch setting None = ⊤

@@ -43,8 +43,8 @@ use Rattle.cfa_main.specs.declared.work.Work.{Work}
 use Rattle.cfa_main.specs.declared.work.Work.TheVariants.{Run, Judge, Search, Show}
 use Rattle.cfa_main.specs.Audits.{bytes_of, RefusesJournal}
 use Rattle.cfa_main.specs.Calls.{Task, runs, judges, searches, shows, TakesPolicy, TakesRun, RefusesRequest, TakesRequest, settled_by, verdict_line, verdict_end, ran}
-use Rattle.cfa_main.specs.Done.{IsDone, HasFault, status_of}
-use Rattle.cfa_main.specs.Searches.{TellsSearch, BuiltToSearch}
+use Rattle.cfa_main.specs.Done.{IsDone, FallsShort, status_of}
+use Rattle.cfa_main.specs.Searches.{TellsSearch, IsSearchText, BuiltToSearch}
 use Rattle.cfa_main.specs.Ends.{IsRun, IsObeying, IsNextOf, AsksNext, BuildsOf, AsksBuilt, RefusesCall}
 
 -- ---- the work
@@ -177,28 +177,37 @@ abbrev pub TellsVerdict : Option Verdict → End → (out out' : Shown (List ℕ
 TellsVerdict None end out out' = ⊥
 TellsVerdict (Some verdict) end out out' = (end ≡ verdict_end verdict) × Follows (adds_bytes (verdict_line verdict)) out out'
 
--- nothing was put, unless the sink failed
-abbrev pub StopsTelling : (out out' : Shown (List ℕ)) → Stop → Type 0
-StopsTelling out out' (Outside Inputs) = ⊥
-StopsTelling out out' (Outside Site) = ⊥
-StopsTelling out out' (Outside Sink) = HasFault out out'
-StopsTelling out out' Memory = Untouched out out'
-StopsTelling out out' Visits = Untouched out out'
-StopsTelling out out' (Pattern text) = Untouched out out'
+-- nothing was put, unless a put of such a text failed
+abbrev pub StopsTelling : (IsText : List ℕ → Type 0) → (out out' : Shown (List ℕ)) → Stop → Type 0
+StopsTelling IsText out out' (Outside Inputs) = ⊥
+StopsTelling IsText out out' (Outside Site) = ⊥
+StopsTelling IsText out out' (Outside Sink) = FallsShort IsText out out'
+StopsTelling IsText out out' Memory = Untouched out out'
+StopsTelling IsText out out' Visits = Untouched out out'
+StopsTelling IsText out out' (Pattern text) = Untouched out out'
 
--- the sink failed, or memory ended before
-abbrev pub StopsPutting : (out out' : Shown (List ℕ)) → Stop → Type 0
-StopsPutting out out' (Outside Inputs) = ⊥
-StopsPutting out out' (Outside Site) = ⊥
-StopsPutting out out' (Outside Sink) = HasFault out out'
-StopsPutting out out' Memory = Untouched out out'
-StopsPutting out out' Visits = ⊥
-StopsPutting out out' (Pattern text) = ⊥
+-- a put of such a text failed, or memory ended before
+abbrev pub StopsPutting : (IsText : List ℕ → Type 0) → (out out' : Shown (List ℕ)) → Stop → Type 0
+StopsPutting IsText out out' (Outside Inputs) = ⊥
+StopsPutting IsText out out' (Outside Site) = ⊥
+StopsPutting IsText out out' (Outside Sink) = FallsShort IsText out out'
+StopsPutting IsText out out' Memory = Untouched out out'
+StopsPutting IsText out out' Visits = ⊥
+StopsPutting IsText out out' (Pattern text) = ⊥
+
+-- the text is this one
+abbrev pub Is : (wanted text : List ℕ) → Type 0
+Is wanted text = text ≡ wanted
+
+-- the text is the line of the verdict
+abbrev pub IsVerdictLine : Option Verdict → (text : List ℕ) → Type 0
+IsVerdictLine None text = ⊥
+IsVerdictLine (Some verdict) text = text ≡ verdict_line verdict
 
 -- the line of this verdict was put, or memory ended or the sink failed
 pub record VerdictPut (verdict : Verdict) (out out' : Shown (List ℕ)) (result : Result End Stop) : Type 0 where
   pub put : IfOk result (λ end. TellsVerdict (Some verdict) end out out')
-  pub stopped : IfErr result (StopsPutting out out')
+  pub stopped : IfErr result (StopsPutting (Is (verdict_line verdict)) out out')
 
 -- the text that stopped the work is one that the analysis builds
 abbrev pub BuiltToAnalyse : Setting → Option (List ℕ) → Type 0
@@ -209,7 +218,7 @@ BuiltToAnalyse setting (Some text) = AnalysisBuilds setting text
 pub record PolicyJudged (setting : Setting) (out out' : Shown (List ℕ)) (pats pats' : Shown (List (List ℕ))) (result : Result End Stop) : Type 0 where
   pub told : IfOk result (λ end. TellsVerdict (analysis_of setting) end out out')
   pub too_large : IsErrOf result Visits → analysis_of setting ≡ None
-  pub stopped : IfErr result (StopsTelling out out')
+  pub stopped : IfErr result (StopsTelling (IsVerdictLine (analysis_of setting)) out out')
   pub built : BuiltToAnalyse setting (text_too_big (stopped_by result))
   pub patterns_are : Refuses (text_too_big (stopped_by result)) pats pats'
 
@@ -224,7 +233,7 @@ pub record OnlyJudged (setting : Setting) (site site' : Shown Told) (out out' : 
 pub record PolicySearched (setting : Setting) (out out' : Shown (List ℕ)) (pats pats' : Shown (List (List ℕ))) (result : Result End Stop) : Type 0 where
   pub told : IfOk result (λ end. TellsSearch setting (run setting open_walk) end out out')
   pub too_large : IsErrOf result Visits → IsTooLarge (run setting open_walk)
-  pub stopped : IfErr result (StopsTelling out out')
+  pub stopped : IfErr result (StopsTelling (IsSearchText setting (run setting open_walk)) out out')
   pub built : BuiltToSearch setting (text_too_big (stopped_by result))
   pub patterns_are : Refuses (text_too_big (stopped_by result)) pats pats'
 
@@ -252,6 +261,7 @@ pub record RunPerformed (setting : Setting) (moment : ℕ) (has_locks : Bool) (s
       settled_by has_locks (tally_of setting (started moment has_locks before after)).failed (analysis_of setting) ≡ Yes → Settles setting after.world) site site')
   pub too_large : IsErrOf result Visits → IfBothTold (λ before after.
       IsTooLarge (run_of setting (started moment has_locks before after))) site site'
+  pub calm : OnOk result (out'.faults ≡ out.faults)
   pub stopped : IfErr result (StopsRun site site' out out')
   pub built : RunBuilds setting moment has_locks site site' (text_too_big (stopped_by result))
   pub patterns_are : Refuses (text_too_big (stopped_by result)) pats pats'
@@ -268,9 +278,11 @@ IsInConflict None = ⊥
 IsInConflict (Some (Accepted live)) = ⊥
 IsInConflict (Some (InConflictBy c)) = ⊤
 
--- the work came to its end with the analysis of a run, or was stopped there: by a conflict and by too many visits in a strict run alone
+-- the work came to its end with the analysis of a run, or was stopped there: by a conflict, told or cut short, and by too many visits in
+-- a strict run alone
 pub record IsObeyed (is_strict : Bool) (verdict : Option Verdict) (result : Result End Stop) : Type 0 where
   pub conflict : OnOk result ((is_strict ≡ true) × IsInConflict verdict)
+  pub short : IsErrOf result (Outside Sink) → (is_strict ≡ true) × IsInConflict verdict
   pub too_large : IsErrOf result Visits → is_strict ≡ true
 
 -- a policy was run, or its run ended with its analysis
@@ -280,10 +292,10 @@ pub data PolicyRan (setting : Setting) (moment : ℕ) (has_locks is_strict : Boo
   made : MayRun is_strict (analysis_of setting) → RunPerformed setting moment has_locks site site' out out' pats pats' result →
       PolicyRan setting moment has_locks is_strict site site' out out' pats pats' result
 
--- a text was put, or the sink failed
+-- a text was put, or a put of it failed
 pub record TextPut (text : List ℕ) (out out' : Shown (List ℕ)) (result : Result End Stop) : Type 0 where
   pub put : IfOk result (λ end. (end ≡ Ended) × Follows (adds_bytes text) out out')
-  pub sink_failed : IfErr result (λ stop. (stop ≡ Outside Sink) × HasFault out out')
+  pub sink_failed : IfErr result (λ stop. (stop ≡ Outside Sink) × PutsShort text out out')
 
 -- a text was put, and that is all
 pub record OnlyPut (text : List ℕ) (site site' : Shown Told) (out out' : Shown (List ℕ)) (pats pats' : Shown (List (List ℕ))) (result : Result End Stop) : Type 0 where

@@ -12,8 +12,8 @@ ghost use Rattle.cfa_agent.specs.Ran.{added, IfBothTold};
 ghost use Rattle.cfa_main.specs.Calls.{AsksUnaccepted, Does};
 ghost use Rattle.cfa_words.specs.Demos.{demo_asked};
 ghost use Rattle.cfa_main.specs.Demos.{AlwaysTells, AsksNoDemo, CalledFor, Demonstrates, EndsDemo};
-ghost use Rattle.cfa_main.specs.Done.{Stands, Puts, HasFault};
-ghost use Rattle.cfa_main.specs.Ends.{IsEnd, IsStop, IsNotDone, AsksRun, AsksNoRun, AsksToObey, AsksTaken, AsksRefused, EndsWith, IsSettledBy, IsUnhindered, IsDoneOrMemory, PutsRefusal, IsUnread, PutsLast, StopsReading, StopsAtSite, ReadsInTurn, RefusesText, StopsAtPattern, StopsAtVisits};
+ghost use Rattle.cfa_main.specs.Done.{Stands, Puts, HasFault, FallsShort};
+ghost use Rattle.cfa_main.specs.Ends.{IsEnd, IsStop, IsNotDone, AsksRun, AsksNoRun, AsksToObey, AsksTaken, AsksRefused, EndsWith, IsSettledBy, IsUnhindered, IsDoneOrMemory, PutsRefusal, IsUnread, PutsLast, MakesRun, IsToPut, StopsReading, StopsAtSite, ReadsInTurn, RefusesText, StopsAtPattern, StopsAtVisits};
 ghost use Rattle.cfa_main.specs.Stages.{Called};
 
 use crate::demonstrating::demonstrate;
@@ -200,16 +200,32 @@ pub fn agent_main<I: Inputs, S: Site, O: Sink, P: Patterns>(
         (S.shown site.old) (S.shown site.new) (O.shown out.old) (O.shown out.new)
         (P.shown pats.old) (P.shown pats.new) → IsDoneOrMemory result) }
 
+    // With every status but 4 no put failed: the sink's count of faults stands. This holds of demos too.
+    ensures calm { result ≢ 4 → (O.shown out.new).faults ≡ (O.shown out.old).faults }
+
+    // Where a call isn't stopped no reading failed. This holds of demos too.
+    ensures read_whole { IsEnd result → Untouched (I.shown inputs.old) (I.shown inputs.new) }
+
     // Status 4 comes only where a put failed; or the reading of a file of the policy or of the journal did, before anything
     // was done on the site or put but the line that tells the stop; or, for a run, a call on the site did. No reading fails but
-    // that of the file that is read next.
+    // that of the file that is read next, and then the status is 4.
     ensures outside { AsksNoDemo words.now
         → result ≡ 4 → HasFault (O.shown out.old) (O.shown out.new)
         ⊎ (StopsReading words.now (I.shown inputs.old) (I.shown inputs.new)
         (S.shown site.old) (S.shown site.new) (O.shown out.old) (O.shown out.new)
         ⊎ StopsAtSite words.now (S.shown site.old) (S.shown site.new) (O.shown out.new)) }
     ensures names { AsksNoDemo words.now
-        → ReadsInTurn words.now (I.shown inputs.old) (I.shown inputs.new) }
+        → ReadsInTurn words.now (I.shown inputs.old) (I.shown inputs.new) result }
+
+    // Where a put fails, and no run is made, what was put is a first part of all that the call puts, which isn't all, and nothing
+    // was put behind it.
+    ensures put_short { AsksNoDemo words.now
+        → result ≡ 4 → MakesRun words.now moment (I.shown inputs.old).told
+        ⊎ (StopsReading words.now (I.shown inputs.old) (I.shown inputs.new)
+        (S.shown site.old) (S.shown site.new) (O.shown out.old) (O.shown out.new)
+        ⊎ FallsShort (IsToPut words.now moment (I.shown inputs.old) (I.shown inputs.new)
+        (S.shown site.old) (S.shown site.new) (P.shown pats.old) (P.shown pats.new))
+        (O.shown out.old) (O.shown out.new)) }
 
     // The line that tells want of memory is the last; where no run is asked for, it is all that was put.
     ensures memory { AsksNoDemo words.now

@@ -3,7 +3,7 @@ ghost use Rattle.std.specs.Prelude.{◌≡◌, ◌++◌, IfErr, IfOk, OnOk, flat
 ghost use Rattle.std.specs.List.{list_any};
 ghost use Rattle.cfa_edit_proof.specs.Quiet.{IsFirstClash};
 ghost use Rattle.cfa_output.specs.Lines.{line_of};
-ghost use Rattle.cfa_main.specs.Searches.{AreFindings, finding_line, has_clash, is_quiet, line_by, rule_code, script_among, script_of_work, search_end, search_text, seen_finding, TellsFindings};
+ghost use Rattle.cfa_main.specs.Searches.{AreFindings, finding_line, has_clash, IsFindingsText, is_quiet, line_by, rule_code, script_among, script_of_work, search_end, search_text, seen_finding, TellsFindings};
 ghost use Rattle.cfa_main.specs.Stages.{PolicySearched, StopsPutting, setting_in};
 
 use crate::auditing::append_line;
@@ -159,7 +159,8 @@ fn search_text(alloc: Global, found: &[Found<'_>]) -> Result<String, NoMemory>
 fn tell_findings<O: Sink>(alloc: Global, instances: &[Instance], out: &mut O) -> Result<End, Stop>
     ensures told { IfOk result
         (λ end. TellsFindings instances.now end (O.shown out.old) (O.shown out.new)) }
-    ensures stopped { IfErr result (StopsPutting (O.shown out.old) (O.shown out.new)) }
+    ensures stopped { IfErr result (StopsPutting (IsFindingsText instances.now)
+        (O.shown out.old) (O.shown out.new)) }
 {
     let found = find_clashes(alloc, instances)?;
     let text = search_text(alloc, &found)?;

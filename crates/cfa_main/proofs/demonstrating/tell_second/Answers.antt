@@ -3,6 +3,7 @@ use Rattle.cfa_base.specs.Shown.{Follows}
 use Rattle.cfa_outside.specs.Sinks.{adds_bytes}
 use Rattle.cfa_output.specs.Lines.{number_line, settled_line}
 use Rattle.cfa_main.specs.Demos.{SecondIsTold, told, not_told}
+use Rattle.cfa_main.specs.Stages.{Is, StopsPutting}
 use Rattle.cfa_main.proofs.demonstrating.tell_second.Goals as goal
 
 pub returns-in-Ok : goal.returns-in-Ok
@@ -13,4 +14,5 @@ returns-in-Ok g c =
     (told (subst (λ end. Follows (adds_bytes (number_line (codes "rerun") c.args.second.now.entries ++ settled_line end)) before after) c.settled_by-settled.ensures c.in-Ok.ensures.put))
 
 pub returns-in-Err : goal.returns-in-Err
-returns-in-Err g c = not_told c.in-Err.ensures.stopped
+returns-in-Err g c = not_told
+    (subst (λ end. StopsPutting (Is (number_line (codes "rerun") c.args.second.now.entries ++ settled_line end)) (g.O.Sink.shown c.args.out.now) (g.O.Sink.shown c.put_lines.new.out) c.in-Err.stop) c.settled_by-settled.ensures c.in-Err.ensures.stopped)
