@@ -1,5 +1,5 @@
-// Changes of a host. All texts are made before the first effect, and a row is put in memory before its line is written
-// and taken back where that fails. So an error leaves the host as it was.
+// Changes of a host. All texts are made before the first effect, and a row is put in memory before
+// its line is written and taken back where that fails. So an error leaves the host as it was.
 use crate::errors::{HostErr, Part, Why, at, refused};
 use crate::growing::When;
 use crate::held::Held;
@@ -49,7 +49,8 @@ fn behind_line(alloc: Global, journal: u64, key: &Key, moment: u64) -> Result<By
     line_of(alloc, RowChange::LockBehind(journal, key.copy(), moment))
 }
 
-// A row that was put stays where its line was written, and gives way to what it replaced where it wasn't.
+// A row that was put stays where its line was written, and gives way to what it replaced where it
+// wasn't.
 fn keep_if<V: Drop>(
     noted: Result<(), HostErr>,
     rows: &mut KeptRows<V>,
@@ -79,8 +80,8 @@ impl<F: Write + OpenFile> Held<F> {
         Ok(())
     }
 
-    // Takes away the rows of a path and of what stands above it from the part of its real path that ends at `end` on.
-    // Nothing stands there, and what comes there now is new.
+    // Takes away the rows of a path and of what stands above it from the part of its real path that
+    // ends at `end` on. Nothing stands there, and what comes there now is new.
     fn forget_rows<R: Files<File = F>>(
         &mut self,
         rt: &R,
@@ -140,7 +141,8 @@ impl<F: Write + OpenFile> Held<F> {
         self.forget_walked();
         let lasting = remove(rt, real.as_str(), spot)?;
         self.keep(alloc, folder, lasting)?;
-        // The row of a node that is gone counts for nothing, so the change is made also where the row stays.
+        // The row of a node that is gone counts for nothing, so the change is made also where the
+        // row stays.
         let _ = self.forget_row(rt, alloc, text);
         Ok(())
     }
@@ -204,8 +206,9 @@ impl<F: Write + OpenFile> Held<F> {
         keep_if(noted, &mut self.tables.services, text, old)
     }
 
-    // Sets a lock. Where the record before it waits for its sync, the lock waits too, and its row tells behind how many bytes of
-    // the journal it counts: the two stand in two files, and a disk may write either first.
+    // Sets a lock. Where the record before it waits for its sync, the lock waits too, and its row
+    // tells behind how many bytes of the journal it counts: the two stand in two files, and a disk
+    // may write either first.
     fn put_lock<R: Files<File = F>>(
         &mut self,
         rt: &R,
@@ -224,7 +227,9 @@ impl<F: Write + OpenFile> Held<F> {
         keep_if(noted, &mut self.tables.locks, text, old)
     }
 
-    // Brings what waits for a sync to the disk, where a change can't wait with it, or be synced with it.
+    // Brings what waits for a sync to the disk, where a change can't wait with it, or be synced
+    // with it. So no node and no row of a table is changed before all records are there that were
+    // written.
     fn settle_before(&mut self, change: &Change) -> Result<(), HostErr> {
         match change {
             Change::Append(_) => self.settle_lock(),
@@ -242,8 +247,9 @@ impl<F: Write + OpenFile> Held<F> {
         }
     }
 
-    /// Makes a change. It lasts when this returns, and was made in order. A record that tells that a repair was done lasts when
-    /// the next change or `write_tables` returns, and so does a lock that is set behind it.
+    /// Makes a change. It lasts when this returns, and was made in order. But a record that tells
+    /// that a repair was done, the lock that is set behind it, and a record that tells that the
+    /// next one is begun last when a change that is none of these returns, or `write_tables`.
     pub fn change<R: Files<File = F>>(
         &mut self,
         rt: &R,

@@ -27,8 +27,8 @@ pub enum Part {
 /// Why an object of the machine refused.
 #[derive(Clone, Copy, Debug, PartialEq, Eq)]
 pub enum Why {
-    /// The system refused. The number of its error, of which `io::Error::from_raw_os_error` tells the words, or 0 where
-    /// it told none.
+    /// The system refused. The number of its error, of which `io::Error::from_raw_os_error` tells
+    /// the words, or 0 where it told none.
     System(i32),
     /// Another agent holds the folder.
     Taken,

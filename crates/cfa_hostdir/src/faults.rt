@@ -22,8 +22,9 @@ pub enum FailedCall {
 #[derive(Drop)]
 pub struct Fault {
     pub call: FailedCall,
-    /// The path in the machine's file system, from the folder in which the agent runs, of what refused, as `host/journal` or
-    /// `host/tree/etc/motd`; of an input its name. None for standard output, and where there was no memory for it.
+    /// The path in the machine's file system, from the folder in which the agent runs, of what
+    /// refused, as `host/journal` or `host/tree/etc/motd`; of an input its name. None for standard
+    /// output, and where there was no memory for it.
     pub path: Option<String>,
     /// Why it refused: the number of the system's error, the line of a table, or another cause.
     pub why: Why,

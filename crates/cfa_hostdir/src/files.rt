@@ -13,7 +13,8 @@ pub fn sync_folder<R: Files>(rt: &R, path: &str) -> Result<(), HostErr> {
     answer_of(fs::open(rt, path)?.sync_all())
 }
 
-/// Makes a file with these bytes and syncs it. Where something stands there already, a link too, none is made.
+/// Makes a file with these bytes and syncs it. Where something stands there already, a link too,
+/// none is made.
 pub fn write_new<R: Files>(rt: &R, path: &str, bytes: &[u8]) -> Result<(), HostErr> {
     let mut options = OpenOptions::new();
     options.write(true).create_new(true);
@@ -47,8 +48,8 @@ fn read_to_end<F: Read>(
     Err(refused(Why::OfAnotherLength))
 }
 
-/// The bytes of a regular file of no more than `most` bytes. What is opened is held against what was found,
-/// so that a file that was put in its place meanwhile isn't read.
+/// The bytes of a regular file of no more than `most` bytes. What is opened is held against what
+/// was found, so that a file that was put in its place meanwhile isn't read.
 pub fn read_found<R: Files>(
     rt: &R,
     alloc: Global,

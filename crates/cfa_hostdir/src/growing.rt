@@ -1,4 +1,5 @@
-// Files of a host that grow at their end: the journal, and the rows that changed since the tables were written.
+// Files of a host that grow at their end: the journal, and the rows that changed since the tables
+// were written.
 use crate::errors::{HostErr, Why, answer_of, refused};
 use crate::files::sync_folder;
 use crate::looking::{Kind, kind_at};
@@ -6,24 +7,28 @@ use std::fs::{OpenFile, OpenOptions};
 use std::io::Write;
 use std::rt::Files;
 
+/// How many additions to a file may wait for a sync. One more is written before it is synced with
+/// them, so that one more than these may not be on the disk.
+pub const MOST_WAITING: u8 = 2;
+
 /// When what is added to a file is to last.
 #[derive(Clone, Copy, PartialEq, Eq)]
 pub enum When {
     /// As soon as it is added.
     AtOnce,
-    /// As soon as the file is settled, or something else is added.
+    /// As soon as the file is settled, or something is added that is to last at once.
     Later,
 }
 
-/// A file that grows at its end. It is opened, and what another process left in it is synced, when it is first settled or
-/// written.
+/// A file that grows at its end. It is opened, and what another process left in it is synced, when
+/// it is first settled or written.
 #[derive(Drop)]
 pub struct Growing<F> {
     path: String,
     file: Option<F>,
     len: u64,
-    // What was added last isn't known to be on the disk.
-    is_pending: bool,
+    // How many of the last additions aren't known to be on the disk.
+    waiting: u8,
     // False once nobody knows what stands at its end.
     sound: bool,
 }
@@ -74,7 +79,7 @@ impl<F: Write + OpenFile> Growing<F> {
             path,
             file: None,
             len,
-            is_pending: false,
+            waiting: 0,
             sound: true,
         }
     }
@@ -89,7 +94,7 @@ impl<F: Write + OpenFile> Growing<F> {
 
     /// Whether what was added last isn't known to be on the disk.
     pub fn is_pending(&self) -> bool {
-        self.is_pending
+        self.waiting > 0
     }
 
     fn open<R: Files<File = F>>(&mut self, rt: &R, root: &str) -> Result<(), HostErr> {
@@ -123,23 +128,24 @@ impl<F: Write + OpenFile> Growing<F> {
         }
     }
 
-    // Syncs what was added since the file had so many bytes. Where that fails it is taken away; and what was added before it
-    // and was never synced can't be known to be there, from then on.
+    // Syncs what was added since the file had so many bytes. Where that fails it is taken away; and
+    // what was added before it and was never synced can't be known to be there, from then on.
     fn sync_from(&mut self, len: u64) -> Result<(), HostErr> {
         let Some(file) = &self.file else {
             return Err(refused(Why::Unsure));
         };
         let synced = answer_of(file.sync_data());
         if synced.is_err() {
-            self.sound = cut_to(file, len).is_ok() && !self.is_pending;
+            self.sound = cut_to(file, len).is_ok() && self.waiting == 0;
             self.len = len;
         } else {
-            self.is_pending = false;
+            self.waiting = 0;
         }
         synced
     }
 
-    /// Brings what another process left in the file to the disk. Nothing is made where the file has no bytes.
+    /// Brings what another process left in the file to the disk. Nothing is made where the file has
+    /// no bytes.
     pub fn make_ready<R: Files<File = F>>(&mut self, rt: &R, root: &str) -> Result<(), HostErr> {
         if self.len == 0 {
             return Ok(());
@@ -147,9 +153,10 @@ impl<F: Write + OpenFile> Growing<F> {
         self.open(rt, root)
     }
 
-    /// Syncs what was added last, where that isn't done. A second sync behind one that failed would tell nothing of it.
+    /// Syncs what was added last, where that isn't done. A second sync behind one that failed would
+    /// tell nothing of it.
     pub fn settle(&mut self) -> Result<(), HostErr> {
-        if !self.is_pending {
+        if self.waiting == 0 {
             return Ok(());
         }
         if !self.sound {
@@ -158,7 +165,8 @@ impl<F: Write + OpenFile> Growing<F> {
         self.sync_from(self.len)
     }
 
-    /// Adds bytes at the end, or leaves the file as it was.
+    /// Adds bytes at the end, or leaves the file as it was. Where as many additions wait as may,
+    /// these wait no more than what is to last at once.
     pub fn append<R: Files<File = F>>(
         &mut self,
         rt: &R,
@@ -169,8 +177,8 @@ impl<F: Write + OpenFile> Growing<F> {
         self.open(rt, root)?;
         let len = self.len;
         self.write(bytes)?;
-        if when == When::Later && !self.is_pending {
-            self.is_pending = true;
+        if when == When::Later && self.waiting < MOST_WAITING {
+            self.waiting = self.waiting.saturating_add(1);
             return Ok(());
         }
         self.sync_from(len)

@@ -1,21 +1,20 @@
 // A host whose folder is held: what it answers, and how it writes its tables.
 use crate::errors::{HostErr, Part, Why, at, refused};
-use crate::files::read_found;
 use crate::growing::{Growing, When};
 use crate::kept_rows::HostTables;
 use crate::layout::{Layout, Table};
-use crate::looking::{Found, Kind, Spot, folder_of, has_nodes, kind_at, walk};
+use crate::looking::{Found, Kind, Spot, folder_of, kind_at, walk};
 use crate::putting::{Lasting, Leaf, put};
 use crate::settled::Settled;
 use crate::walked::Walked;
-use cfa_base::{Bytes, MOST_FILE_BYTES};
-use cfa_outside::{Look, Path, Perms, root_perms};
+use cfa_base::Bytes;
 use std::alloc::Global;
 use std::fs::OpenFile;
 use std::io::Write;
 use std::rt::Files;
 
-// The tables are written once the changed rows have more bytes than this, and than so many for each row of the tables.
+// The tables are written once the changed rows have more bytes than this, and than so many for each
+// row of the tables.
 const LEAST_CHANGES: u64 = 1 << 20;
 
 const CHANGES_PER_ROW: u64 = 256;
@@ -64,6 +63,18 @@ fn above(root: &str) -> &str {
         Ok("") => "/",
         Ok(folder) => folder,
         Err(_) => ".",
+    }
+}
+
+// When a record is to last. One that tells that a repair was done is synced with what follows it:
+// where it is lost, the journal tells that the repair was begun, and what it did is there. One that
+// tells that a repair is begun is synced before its first change is made, or with the record of the
+// file that this puts: where it is lost, nothing was changed behind it.
+fn when_of(record: &[u8]) -> When {
+    if record.starts_with(b"done ") || record.starts_with(b"open ") {
+        When::Later
+    } else {
+        When::AtOnce
     }
 }
 
@@ -145,9 +156,10 @@ impl<F: Write + OpenFile> Held<F> {
         }
     }
 
-    // Brings what agents before left to the disk: the folder, the journal and the changed rows, and all folders of the
-    // tree where one was stopped in a repair. The changed rows are written into the tables before the journal grows, so that
-    // the row of a lock that doesn't count never comes to count.
+    // Brings what agents before left to the disk: the folder, the journal and the changed rows, and
+    // all folders of the tree where one was stopped in a repair. The changed rows are written into
+    // the tables before the journal grows, so that the row of a lock that doesn't count never comes
+    // to count.
     fn bring_left<R: Files<File = F>>(&mut self, rt: &R, alloc: Global) -> Result<(), HostErr> {
         let root = self.layout.root.as_str();
         at(Part::Folder, self.settled.settle(rt, alloc, above(root)))?;
@@ -161,7 +173,8 @@ impl<F: Write + OpenFile> Held<F> {
         self.fold(rt, alloc)
     }
 
-    /// Makes the host ready to be changed: what agents before left is on the disk before anything is built on it.
+    /// Makes the host ready to be changed: what agents before left is on the disk before anything
+    /// is built on it.
     pub fn make_ready<R: Files<File = F>>(&mut self, rt: &R, alloc: Global) -> Result<(), HostErr> {
         if !self.is_sound() {
             return Err(refused(Why::Unsure));
@@ -184,19 +197,21 @@ impl<F: Write + OpenFile> Held<F> {
         self.settled.settle_above(rt, alloc, folder, from)
     }
 
-    /// Brings the row of the last lock to the disk, where that isn't done. It counts for nothing as long as the record before it
-    /// isn't there.
+    /// Brings the row of the last lock to the disk, where that isn't done. It counts for nothing as
+    /// long as the record before it isn't there.
     pub fn settle_lock(&mut self) -> Result<(), HostErr> {
         at(Part::Changes, self.changes.settle())
     }
 
-    /// Brings the last record, and the row of the lock behind it, to the disk, where that isn't done.
+    /// Brings the last records, and the row of a lock that waits with them, to the disk, where that
+    /// isn't done.
     pub fn settle(&mut self) -> Result<(), HostErr> {
         self.settle_lock()?;
         at(Part::Journal, self.journal.settle())
     }
 
-    /// The length of the journal, where its last record waits for a sync: what is built on that record can wait with it.
+    /// The length of the journal, where its last record waits for a sync: what is built on that
+    /// record can wait with it.
     pub fn waiting_at(&self) -> Option<u64> {
         if self.journal.is_pending() && !self.changes.is_pending() {
             Some(self.journal.len())
@@ -205,8 +220,8 @@ impl<F: Write + OpenFile> Held<F> {
         }
     }
 
-    /// What stands at a real path of the host. Where it is in the directory in which a file was found last, it is walked
-    /// to from there.
+    /// What stands at a real path of the host. Where it is in the directory in which a file was
+    /// found last, it is walked to from there.
     pub fn spot<R: Files<File = F>>(&mut self, rt: &R, real: &str) -> Result<Spot, HostErr> {
         let from = self.walked.start_of(real, self.layout.tree.len());
         let spot = walk(rt, real, from)?;
@@ -226,59 +241,14 @@ impl<F: Write + OpenFile> Held<F> {
         self.walked.forget_file();
     }
 
-    // The file at a real path, which is looked at unless it is the one that was found last.
-    fn file_at<R: Files<File = F>>(&mut self, rt: &R, real: &str) -> Result<Found, HostErr> {
+    /// The file at a real path, which is looked at unless it is the one that was found last.
+    pub fn file_at<R: Files<File = F>>(&mut self, rt: &R, real: &str) -> Result<Found, HostErr> {
         if let Some(found) = self.walked.file_at(real) {
             return Ok(found);
         }
         match self.spot(rt, real)? {
             Spot::File(found) => Ok(found),
             Spot::Missing(_) | Spot::Blocked | Spot::Dir => Err(refused(Why::Misfit)),
-        }
-    }
-
-    pub fn look<R: Files<File = F>>(
-        &mut self,
-        rt: &R,
-        alloc: Global,
-        path: &Path,
-    ) -> Result<Look, HostErr> {
-        let real = self.layout.real(alloc, path.text().as_str())?;
-        match self.spot(rt, real.as_str())? {
-            Spot::Missing(_) => Ok(Look::Nothing),
-            Spot::Blocked => Ok(Look::Blocked),
-            Spot::File(found) => Ok(Look::File(found.size)),
-            Spot::Dir => Ok(Look::Dir(!has_nodes(rt, real.as_str())?)),
-        }
-    }
-
-    pub fn read<R: Files<File = F>>(
-        &mut self,
-        rt: &R,
-        alloc: Global,
-        path: &Path,
-    ) -> Result<Bytes, HostErr> {
-        let real = self.layout.real(alloc, path.text().as_str())?;
-        let found = self.file_at(rt, real.as_str())?;
-        read_found(rt, alloc, real.as_str(), found, MOST_FILE_BYTES as u64)
-    }
-
-    pub fn perms<R: Files<File = F>>(
-        &mut self,
-        rt: &R,
-        alloc: Global,
-        path: &Path,
-    ) -> Result<Perms, HostErr> {
-        let text = path.text().as_str();
-        let real = self.layout.real(alloc, text)?;
-        let mode = match self.spot(rt, real.as_str())? {
-            Spot::File(_) => 0o600,
-            Spot::Dir => 0o700,
-            Spot::Missing(_) | Spot::Blocked => return Err(refused(Why::Misfit)),
-        };
-        match self.tables.perms.get(text) {
-            Some(row) => Ok(row.1.copy(alloc)?),
-            None => Ok(root_perms(alloc, mode)?),
         }
     }
 
@@ -296,16 +266,11 @@ impl<F: Write + OpenFile> Held<F> {
         at(Part::Changes, noted)
     }
 
-    /// Adds bytes at the end of the journal, or leaves it as it was. A record that tells that a repair was done is synced
-    /// with what follows it: where it is lost, the journal tells that the repair was begun, and what it did is there.
+    /// Adds bytes at the end of the journal, or leaves it as it was.
     pub fn append<R: Files<File = F>>(&mut self, rt: &R, bytes: &Bytes) -> Result<(), HostErr> {
-        let when = if bytes.as_slice().starts_with(b"done ") {
-            When::Later
-        } else {
-            When::AtOnce
-        };
+        let record = bytes.as_slice();
         let root = self.layout.root.as_str();
-        let added = self.journal.append(rt, root, bytes.as_slice(), when);
+        let added = self.journal.append(rt, root, record, when_of(record));
         at(Part::Journal, added)
     }
 
@@ -325,8 +290,8 @@ impl<F: Write + OpenFile> Held<F> {
         }
     }
 
-    // Writes each table that has changed rows, and then takes these rows' lines away. Where that is cut off at any place, the
-    // lines still tell the rows.
+    // Writes each table that has changed rows, and then takes these rows' lines away. Where that is
+    // cut off at any place, the lines still tell the rows.
     fn fold<R: Files<File = F>>(&mut self, rt: &R, alloc: Global) -> Result<(), HostErr> {
         if self.changes.len() == 0 {
             return Ok(());
@@ -344,7 +309,8 @@ impl<F: Write + OpenFile> Held<F> {
         Ok(())
     }
 
-    /// Brings all that was done to the disk, and writes the tables where rows changed since they were written.
+    /// Brings all that was done to the disk, and writes the tables where rows changed since they
+    /// were written.
     pub fn write_tables<R: Files<File = F>>(
         &mut self,
         rt: &R,
@@ -358,7 +324,8 @@ impl<F: Write + OpenFile> Held<F> {
         self.fold(rt, alloc)
     }
 
-    /// Writes the tables where the changed rows have become long, so that each row is written a few times at most.
+    /// Writes the tables where the changed rows have become long, so that each row is written a few
+    /// times at most.
     pub fn keep_short<R: Files<File = F>>(&mut self, rt: &R, alloc: Global) {
         if self.is_sound() && self.changes.len() > self.most_changes {
             let _ = self.write_tables(rt, alloc);

@@ -32,8 +32,9 @@ struct Host<R: Files> {
     held: Option<Held<R::File>>,
 }
 
-/// A host in a folder: its nodes in `tree`, its tables, its journal. It tells nothing of its content. The folder is
-/// opened at the first call, made where it is missing, and held against other agents from then on.
+/// A host in a folder: its nodes in `tree`, its tables, its journal. It tells nothing of its
+/// content. The folder is opened at the first call, made where it is missing, and held against
+/// other agents from then on.
 #[derive(Drop)]
 pub struct HostSite<R: Files> {
     host: Host<R>,
@@ -56,8 +57,8 @@ impl<R: Files + Drop> HostSite<R> {
         }
     }
 
-    /// What is known of the call that failed last, where one did: which call it was, at which path of the machine, and the
-    /// system's word.
+    /// What is known of the call that failed last, where one did: which call it was, at which path
+    /// of the machine, and the system's word.
     pub fn last_fault(&self) -> Option<&Fault> {
         self.last.as_ref()
     }
@@ -72,8 +73,9 @@ impl<R: Files + Drop> HostSite<R> {
         }
     }
 
-    /// Brings the last record, and the lock behind it, to the disk, and tells whether all that was changed is there. To be asked
-    /// at the end of a command: a record that tells that a repair was done is synced with what follows it.
+    /// Brings the last records, and a lock that waits with them, to the disk, and tells whether all
+    /// that was changed is there. To be asked at the end of a command: a record that tells that a
+    /// repair was done, or is begun, is synced with what follows it.
     pub fn settle(&mut self) -> bool {
         match &mut self.host.held {
             Some(held) => held.settle().is_ok(),
@@ -81,9 +83,10 @@ impl<R: Files + Drop> HostSite<R> {
         }
     }
 
-    /// Brings the last record to the disk, writes the tables where rows changed since they were written, and tells whether
-    /// nothing is left to be written. Where it can't, the next agent at this folder reads the changed rows, and only a power
-    /// cut may still take the last record away.
+    /// Brings the last records to the disk, writes the tables where rows changed since they were
+    /// written, and tells whether nothing is left to be written. Where it can't, the next agent at
+    /// this folder reads the changed rows, and only a power cut may still take the last records
+    /// away.
     pub fn write_tables(&mut self, alloc: Global) -> bool {
         match &mut self.host.held {
             Some(held) => held.write_tables(&self.host.rt, alloc).is_ok(),

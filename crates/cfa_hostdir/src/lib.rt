@@ -1,5 +1,5 @@
-//! The real host: its tables, and the folder in which a host is kept, seen and changed as a site; files as inputs; standard
-//! output as a sink.
+//! The real host: its tables, and the folder in which a host is kept, seen and changed as a site;
+//! files as inputs; standard output as a sink.
 #![tactic(auto)]
 
 mod changing;
@@ -16,6 +16,7 @@ mod layout;
 mod looking;
 mod opening;
 mod putting;
+mod seeing;
 mod settled;
 mod walked;
 

@@ -1,8 +1,8 @@
-// What is done at the first call on a host: its folder is taken hold of, the tables are read with the rows that changed
-// since, and a last line of the journal that was cut off is taken away.
+// What is done at the first call on a host: its folder is taken hold of, the tables are read with
+// the rows that changed since, and a last line of the journal that was cut off is taken away.
 use crate::errors::{HostErr, Part, Why, answer_of, at, refused};
 use crate::files::read_if_there;
-use crate::growing::Growing;
+use crate::growing::{Growing, MOST_WAITING};
 use crate::held::{Changed, Held, Left};
 use crate::kept_rows::HostTables;
 use crate::layout::{Layout, Table};
@@ -15,8 +15,8 @@ use std::fs::{OpenFile, OpenOptions};
 use std::io::{ErrorKind, Read, Seek, SeekFrom, Write};
 use std::rt::Files;
 
-/// A file that can be taken hold of, against every other opening of it, as long as it is open. The system lets it go
-/// where the process ends in any way.
+/// A file that can be taken hold of, against every other opening of it, as long as it is open. The
+/// system lets it go where the process ends in any way.
 pub trait Exclusive {
     /// Takes hold, and tells whether it is held now. It never waits.
     fn take_hold(&self) -> bool;
@@ -27,6 +27,9 @@ impl Exclusive for fs::File {
         self.try_lock().is_ok()
     }
 }
+
+// How many lines at the end of the journal may not have been synced.
+const MOST_UNSYNCED: u8 = MOST_WAITING + 1;
 
 // The most bytes of a table, and of a file of changed rows.
 const MOST_TABLE_BYTES: u64 = 1 << 30;
@@ -87,8 +90,8 @@ fn written_tables<R: Files>(rt: &R, alloc: Global, layout: &Layout) -> Result<Ho
     Ok(tables)
 }
 
-// The bytes before the first zero, where that stands in the last line: a power cut left it there for a byte that never came to
-// the disk.
+// The bytes before the first zero, where that stands in the last line: a power cut left it there
+// for a byte that never came to the disk.
 fn before_zeros(bytes: &[u8]) -> &[u8] {
     let Some(zero) = bytes.iter().position(|byte| *byte == 0) else {
         return bytes;
@@ -102,8 +105,8 @@ fn before_zeros(bytes: &[u8]) -> &[u8] {
     }
 }
 
-// Takes the rows that changed since and that count where the journal has so many bytes, and gives the length of all whole lines.
-// A last line that was cut off is none.
+// Takes the rows that changed since and that count where the journal has so many bytes, and gives
+// the length of all whole lines. A last line that was cut off is none.
 fn take_changes<R: Files>(
     rt: &R,
     alloc: Global,
@@ -169,13 +172,17 @@ fn first_zero<F: Read + Seek>(file: &mut F, from: u64, end: u64) -> Result<u64, 
     Ok(end)
 }
 
-// The length of the whole lines of a file. Two lines at most weren't synced when it was written last, and where a power cut
-// left zeros in one of them, for bytes that never came to the disk, it was cut off, and what is behind it.
+// The length of the whole lines of a file. Its last lines may not have been synced when it was
+// written last, as many as may wait and the one that was added behind them. Where a power cut left
+// zeros in one of them, for bytes that never came to the disk, it was cut off, and what is behind
+// it.
 fn whole_lines<F: Read + Seek>(file: &mut F, len: u64) -> Result<u64, HostErr> {
     let end = behind_newline(file, len)?;
-    let last = behind_newline(file, end.saturating_sub(1))?;
-    let before = behind_newline(file, last.saturating_sub(1))?;
-    let zero = first_zero(file, before, end)?;
+    let mut first = end;
+    for _ in 0..MOST_UNSYNCED {
+        first = behind_newline(file, first.saturating_sub(1))?;
+    }
+    let zero = first_zero(file, first, end)?;
     if zero < end {
         behind_newline(file, zero)
     } else {
@@ -183,8 +190,8 @@ fn whole_lines<F: Read + Seek>(file: &mut F, len: u64) -> Result<u64, HostErr> {
     }
 }
 
-// Whether the last line of a file, which ends at a place, begins with `open `: a repair was begun, and nothing tells that
-// it was done.
+// Whether the last line of a file, which ends at a place, begins with `open ` or `file `: a repair
+// was begun, and nothing tells that it was done.
 fn ends_open<F: Read + Seek>(file: &mut F, end: u64) -> Result<bool, HostErr> {
     let start = behind_newline(file, end.saturating_sub(1))?;
     if end.saturating_sub(start) < 5 {
@@ -192,10 +199,11 @@ fn ends_open<F: Read + Seek>(file: &mut F, end: u64) -> Result<bool, HostErr> {
     }
     let mut word = [0u8; 5];
     read_piece(file, start, &mut word)?;
-    Ok(word == *b"open ")
+    Ok(word == *b"open " || word == *b"file ")
 }
 
-/// The journal as it was found: its length, that of its whole lines, and whether the last one tells of a repair that was begun.
+/// The journal as it was found: its length, that of its whole lines, and whether the last one tells
+/// of a repair that was begun.
 #[derive(Clone, Copy)]
 struct Ending {
     found: u64,
@@ -236,7 +244,8 @@ fn ending_of<R: Files>(rt: &R, path: &str) -> Result<Ending, HostErr> {
     })
 }
 
-// The tables with the rows that changed since they were written, and the length of these rows' lines.
+// The tables with the rows that changed since they were written, and the length of these rows'
+// lines.
 fn open_tables<R: Files>(
     rt: &R,
     alloc: Global,

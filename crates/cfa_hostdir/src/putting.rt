@@ -1,5 +1,5 @@
-// Files and directories, put and taken away as a whole. What is put is built at the stage, synced from the deepest up, and
-// comes by one rename; then the folder above is synced.
+// Files and directories, put and taken away as a whole. What is put is built at the stage, synced
+// from the deepest up, and comes by one rename; then the folder above is synced.
 use crate::errors::{HostErr, Part, Why, answer_of, at, refused};
 use crate::files::{sync_folder, write_new};
 use crate::looking::{Kind, Spot, ends_component, folder_of, kind_at, part_of};
@@ -33,7 +33,8 @@ fn clear_stage<R: Files>(rt: &R, alloc: Global, stage: &str) -> Result<(), HostE
     }
 }
 
-// Makes the leaf at `staged`, with the directories that the path names from the stage on, and syncs all of them.
+// Makes the leaf at `staged`, with the directories that the path names from the stage on, and syncs
+// all of them.
 fn build<R: Files>(rt: &R, staged: &str, from: usize, leaf: Leaf<'_>) -> Result<(), HostErr> {
     for end in from..staged.len() {
         if ends_component(staged, end) {
@@ -79,7 +80,8 @@ fn synced<F: OpenFile>(folder: &F) -> Lasting {
     }
 }
 
-/// Puts the leaf at `path`. The path up to `end` is the first part that is missing, or the whole path.
+/// Puts the leaf at `path`. The path up to `end` is the first part that is missing, or the whole
+/// path.
 pub fn put<R: Files>(
     rt: &R,
     alloc: Global,

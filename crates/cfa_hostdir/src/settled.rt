@@ -1,5 +1,5 @@
-// Which folders this process brought to the disk itself. What another process left in a folder, as an agent that was killed
-// behind a rename, isn't known to be there.
+// Which folders this process brought to the disk itself. What another process left in a folder, as
+// an agent that was killed behind a rename, isn't known to be there.
 use crate::errors::{HostErr, answer_of};
 use crate::looking::{Kind, ends_component, kind_at, part_of};
 use std::alloc::Global;
@@ -9,7 +9,8 @@ use std::io::Read;
 use std::rt::Files;
 use std::{fs, str};
 
-/// The folders that were synced since this process began, by their real paths. What it changes in one of them it syncs by itself.
+/// The folders that were synced since this process began, by their real paths. What it changes in
+/// one of them it syncs by itself.
 #[derive(Drop)]
 pub struct Settled {
     folders: BTreeMap<String, ()>,
@@ -49,7 +50,8 @@ impl Settled {
         self.add(alloc, folder)
     }
 
-    /// Syncs each folder above a folder, from the one on whose path has `from` bytes, where that isn't done.
+    /// Syncs each folder above a folder, from the one on whose path has `from` bytes, where that
+    /// isn't done.
     pub fn settle_above<R: Files>(
         &mut self,
         rt: &R,
@@ -103,7 +105,8 @@ fn push_folder<R: Files>(
     Ok(())
 }
 
-// Adds the paths of those of some names in a folder that are folders. A name that is no text is no node's.
+// Adds the paths of those of some names in a folder that are folders. A name that is no text is no
+// node's.
 fn push_folders<R: Files>(
     rt: &R,
     alloc: Global,

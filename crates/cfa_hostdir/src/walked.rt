@@ -6,7 +6,8 @@ use std::alloc::Global;
 /// The directory in which a file was found last, and that file.
 #[derive(Drop)]
 pub struct Walked {
-    // The real path of the directory, empty where there is none. It was walked to, and no part of it was a link.
+    // The real path of the directory, empty where there is none. It was walked to, and no part of
+    // it was a link.
     directory: String,
     // The real path of the file, which counts where it is known which file it is.
     path: String,
@@ -23,8 +24,8 @@ impl Walked {
         }
     }
 
-    /// The place in a real path from which on it is to be walked: behind the directory, where it is beneath that, and else behind
-    /// the first `tree` bytes.
+    /// The place in a real path from which on it is to be walked: behind the directory, where it is
+    /// beneath that, and else behind the first `tree` bytes.
     pub fn start_of(&self, real: &str, tree: usize) -> usize {
         let directory = self.directory.as_str();
         if is_beneath(real, directory) {
