@@ -2,7 +2,8 @@
 
 A node is a folder, with names of nodes, or a file, with bytes. What was synced lasts:
 
-- a name that was put, taken away or moved lasts once a folder that it stood or stands in was synced; a rename is one step
+- a name that was put, taken away or moved lasts once the folder in which it stands, or stood, was synced, and where it was moved the one
+  into which it was; a rename is one step
 - bytes that were written, and a length that was set, last once their file was synced
 
 Of what wasn't synced any part may be there, in no order. Of a file's writes it is a first part, the last of them maybe cut; or, with `holes`,
@@ -102,13 +103,12 @@ class Disk:
             self.nodes[op.node] = self.nodes[op.node].ljust(op.length, b"\0")[: op.length]
 
 
-def carriers(op):
-    """The nodes of which one sync makes the operation last."""
+def carrier(op):
+    """The node whose sync makes the operation last. Of a move it is the folder into which it goes: a disk that brought the other one alone
+    to rest may have the name in neither."""
     if isinstance(op, Move):
-        return (op.folder, op.to)
-    if isinstance(op, NAMES):
-        return (op.folder,)
-    return (op.node,) if isinstance(op, BYTES) else ()
+        return op.to
+    return op.folder if isinstance(op, NAMES) else op.node
 
 
 def pages(op):
@@ -124,19 +124,18 @@ class Cut:
     """What a power cut behind the first operations leaves on a disk. `how` is what stays of what wasn't synced: none, all, all names,
     all bytes, or some; and with holes any pages of it."""
 
-    def __init__(self, start, numbers, ops, how, random, forgets=None):
+    def __init__(self, start, numbers, ops, how, random):
         self.how, self.random, self.disk, self.count, self.written = how, random, start.copy(), len(ops), {}
         for number, node in numbers.items():
             self.disk.nodes.setdefault(number, {} if isinstance(node, dict) else b"")
-        self.synced = {op.node: place for place, op in enumerate(ops)
-                       if isinstance(op, Sync) and not (forgets and forgets.fullmatch(op.path))}
+        self.synced = {op.node: place for place, op in enumerate(ops) if isinstance(op, Sync)}
         loose = {}
         for place, op in enumerate(ops):
             if isinstance(op, BYTES) and not self.lasts(place, op):
                 loose[op.node] = loose.get(op.node, 0) + 1
         self.kept = {node: self.some_of(number) for node, number in loose.items()}
         for place, op in enumerate(ops):
-            if self.lasts(place, op):
+            if isinstance(op, NAMES + BYTES) and self.lasts(place, op):
                 self.disk.do(op)
             elif isinstance(op, NAMES):
                 if how in ("all", "names") or how in ("some", "holes") and random.random() < 0.5:
@@ -146,7 +145,7 @@ class Cut:
         self.disk.next = max(self.disk.nodes) + 1
 
     def lasts(self, place, op):
-        return any(place < self.synced.get(node, -1) for node in carriers(op))
+        return place < self.synced.get(carrier(op), -1)
 
     def some_of(self, number):
         """How many of a file's writes that weren't synced are there."""
