@@ -1,12 +1,17 @@
 // The real host, in folders that the test makes where it runs.
 //
-// A row is `== ` and the name of its folder, which isn't there yet, and steps. `folder` makes it, `folder NAME` one in it, `write NAME
-// TEXT` a file in it, `link NAME TARGET` a link, and `second NAME OTHER` a second name of a file. The other steps are calls of the
-// agent, with the answer behind ` => `, or of a second one behind `2 `; `has NAME` asks for the text of a file in the folder. `agent`
-// lets the next agent follow the first one, and `agent PATH` one at a path in the folder. Texts have bars for newlines, and `Z` for
-// 64 zeros.
+// A row is `== ` and the name of its folder, which isn't there yet, and steps. `folder` makes it,
+// `folder NAME` one in it, `write NAME TEXT` a file in it, `long NAME SIZE` one of so many bytes,
+// `link NAME TARGET` a link, and `second NAME OTHER` a second name of a file. `broken FAULT` lets
+// the machine's files have a fault from there on, and `mended FAULT` takes it away. The other steps
+// are calls of the agent, with the answer behind ` => `, or of a second one behind `2 `; `has NAME`
+// asks for the text of a file in the folder, and `synced` for what was synced in the row since that
+// was asked last. `agent` lets the next agent follow the first one, and `agent PATH` one at a path
+// in the folder. Texts have bars for newlines, `Z` for 64 zeros, and `^` for a zero byte.
+use crate::faulty_files::FaultyFiles;
 use crate::host_calls::{RealHost, make_call};
-use crate::odd_things::{DAMAGED, ODD, RECORDS};
+use crate::odd_things::{DAMAGED, LINKS, ODD, RECORDS};
+use crate::refusals::{FAILING, LONG, SYNCED, ZERO_BYTES};
 use crate::reports::Report;
 use crate::texts::parts;
 use cfa_hostdir::HostSite;
@@ -67,8 +72,9 @@ has perms.tab => /a/b/c 0644 root root|
 has changes => nothing
 ";
 
-// Where an agent was killed: a row of a node that isn't there counts for nothing, lines that were cut off are taken away, the rows
-// that changed go before those of the tables, and what was being built is gone.
+// Where an agent was killed: a row of a node that isn't there counts for nothing, lines that were
+// cut off are taken away, the rows that changed go before those of the tables, and what was being
+// built is gone.
 const KILLED: &str = "== cut
 folder
 write changes perms /a 0700 root root|perms /b 07
@@ -111,39 +117,8 @@ look /a/b => Ok(Dir(true))
 has new/a => no file
 ";
 
-// No link is followed, in any call, and what it names stays as it is.
-const LINKS: &str = "== links
-folder
-write out out
-file /a/b in => Ok(())
-link tree/end ../out
-link tree/mid a
-link tree/loose nowhere
-look /end => Err(Failed)
-file /end text => Err(Failed)
-dir /end => Err(Failed)
-remove /end => Err(Failed)
-look /mid => Err(Failed)
-file /mid text => Err(Failed)
-dir /mid => Err(Failed)
-remove /mid => Err(Failed)
-look /mid/b => Err(Failed)
-file /mid/b text => Err(Failed)
-dir /mid/b => Err(Failed)
-remove /mid/b => Err(Failed)
-look /mid/new => Err(Failed)
-file /mid/new text => Err(Failed)
-dir /mid/new => Err(Failed)
-remove /mid/new => Err(Failed)
-look /loose => Err(Failed)
-file /loose text => Err(Failed)
-dir /loose => Err(Failed)
-remove /loose => Err(Failed)
-has out => out
-has tree/a/b => in
-";
-
-// One agent holds a folder at a time, and one that was refused stays so. A missing folder is made, and a file in its place is none.
+// One agent holds a folder at a time, and one that was refused stays so. A missing folder is made,
+// and a file in its place is none.
 const HOLDING: &str = "== held
 file /a 1 => Ok(())
 2 look /a => Err(Failed)
@@ -166,7 +141,8 @@ struct Scene {
 
 fn host_in(root: &str, report: &Report) -> Option<RealHost> {
     let root = report.name(root)?;
-    Some(HostSite::new(report.rt.clone().ok()?, root))
+    let files = FaultyFiles::new(report.rt.clone().ok()?);
+    Some(HostSite::new(files, root))
 }
 
 // Lets a new agent follow one.
@@ -207,6 +183,15 @@ fn second_name(place: &str, name: &str, report: &mut Report) -> bool {
     fs::hard_link(&report.rt, other.as_str(), place).is_ok()
 }
 
+// Makes a file of so many bytes.
+fn write_long(place: &str, told: &str, report: &mut Report) -> bool {
+    let size = report.number(told);
+    match fs::create(&report.rt, place) {
+        Ok(file) => file.set_len(size).is_ok(),
+        Err(_) => false,
+    }
+}
+
 // Makes a folder, a file or a link at a place, and tells whether it could.
 fn make_at(place: &str, word: &str, text: &str, report: &mut Report) -> bool {
     match word {
@@ -214,8 +199,27 @@ fn make_at(place: &str, word: &str, text: &str, report: &mut Report) -> bool {
         "link" => symlink(&report.rt, text, place).is_ok(),
         "second" => second_name(place, text, report),
         "write" => write_file(place, text, report),
+        "long" => write_long(place, text, report),
         _ => false,
     }
+}
+
+// Lets the machine's files have a fault, or takes it away.
+fn set_fault(word: &str, fault: &str, report: &mut Report) {
+    let is_set = match word {
+        "broken" => fs::write(&report.rt, fault, "").is_ok(),
+        _ => fs::remove_file(&report.rt, fault).is_ok(),
+    };
+    report.require(is_set, fault);
+}
+
+// Tells what was synced, and forgets it.
+fn tell_synced(report: &mut Report) {
+    match fs::read_to_string(&report.rt, "synced") {
+        Ok(text) => report.put(&[text.as_str()]),
+        Err(_) => report.put(&["nothing"]),
+    }
+    let _ = fs::remove_file(&report.rt, "synced");
 }
 
 fn arrange(folder: &str, step: &str, report: &mut Report) {
@@ -231,6 +235,7 @@ fn make(folder: &str, call: &str, scene: &mut Scene) {
     let (word, rest) = parts(call, " ");
     match word {
         "has" => tell_file(folder, rest, &mut scene.report),
+        "synced" => tell_synced(&mut scene.report),
         "2" => call_on(&mut scene.second, rest, &mut scene.report),
         _ => call_on(&mut scene.first, call, &mut scene.report),
     }
@@ -238,12 +243,14 @@ fn make(folder: &str, call: &str, scene: &mut Scene) {
 
 // Takes a step that has no answer.
 fn take_step(folder: &str, step: &str, scene: &mut Scene) {
-    let (word, path) = parts(step, " ");
-    if word == "agent" {
-        let root = scene.report.joined(&[folder, path]);
-        renew(&mut scene.first, root.as_str(), &mut scene.report);
-    } else {
-        arrange(folder, step, &mut scene.report);
+    let (word, rest) = parts(step, " ");
+    match word {
+        "agent" => {
+            let root = scene.report.joined(&[folder, rest]);
+            renew(&mut scene.first, root.as_str(), &mut scene.report);
+        }
+        "broken" | "mended" => set_fault(word, rest, &mut scene.report),
+        _ => arrange(folder, step, &mut scene.report),
     }
 }
 
@@ -263,6 +270,7 @@ fn compare_row(row: &str, scene: &mut Scene) {
     renew(&mut scene.first, folder, &mut scene.report);
     renew(&mut scene.second, folder, &mut scene.report);
     let _ = fs::remove_dir_all(&scene.report.rt, folder);
+    let _ = fs::remove_file(&scene.report.rt, "synced");
     for step in steps.lines() {
         compare_step(folder, step, scene);
     }
@@ -283,6 +291,10 @@ fn compare_tables(scene: &mut Scene) {
     compare_rows(HOLDING, scene);
     compare_rows(ODD, scene);
     compare_rows(RECORDS, scene);
+    compare_rows(SYNCED, scene);
+    compare_rows(FAILING, scene);
+    compare_rows(ZERO_BYTES, scene);
+    compare_rows(LONG, scene);
 }
 
 fn scene_of(report: Report) -> Scene {

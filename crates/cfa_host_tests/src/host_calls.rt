@@ -1,4 +1,5 @@
 // Calls of an agent on the real host, each as a text, and what it is answered.
+use crate::faulty_files::FaultyFiles;
 use crate::reports::Report;
 use crate::texts::{ZEROS, parts};
 use cfa_base::Key;
@@ -6,7 +7,7 @@ use cfa_hostdir::{Fault, HostSite};
 use cfa_outside::{Change, Path, Perms, ServiceRow, Site};
 use std::str;
 
-pub type RealHost = HostSite<HostRuntime>;
+pub type RealHost = HostSite<FaultyFiles>;
 
 fn file_put(text: &str, report: &mut Report) -> Option<Change> {
     let (path, content) = parts(text, " ");
@@ -65,6 +66,13 @@ fn tell_bytes(site: &mut RealHost, path: &Path, report: &mut Report) {
     }
 }
 
+fn tell_length(site: &mut RealHost, path: &Path, report: &mut Report) {
+    match site.read(report.alloc, path) {
+        Ok(bytes) => report.tell(&bytes.as_slice().len()),
+        Err(error) => report.tell(&error),
+    }
+}
+
 fn put_perms(perms: &Perms, report: &mut Report) {
     let mode = perms.mode;
     match format!(in report.alloc; "{mode:o}") {
@@ -90,6 +98,7 @@ fn tell_path(site: &mut RealHost, word: &str, path: &str, report: &mut Report) -
     let path = report.path(path)?;
     match word {
         "read" => tell_bytes(site, &path, report),
+        "length" => tell_length(site, &path, report),
         "perms" => tell_perms(site, &path, report),
         _ => {
             let look = site.look(report.alloc, &path);
@@ -143,13 +152,16 @@ fn tell_change(site: &mut RealHost, kind: &str, text: &str, report: &mut Report)
     Some(())
 }
 
-// Makes a call of an agent, and takes what it is answered. `look`, `read`, `perms` and `row` are asked at a path or a name, `moment` of
-// the lock of 64 zeros; `tables` writes the tables; `fault` tells the last fault. The others are changes: `file PATH TEXT`, `set PATH MODE OWNER GROUP`,
-// `service ROW`, `lock MOMENT`, `append TEXT`, `dir PATH` and `remove PATH`. None comes where the call can't be read.
+// Makes a call of an agent, and takes what it is answered. `look`, `read`, `perms` and `row` are
+// asked at a path or a name, and so is `length`, which reads a file and tells its bytes' number;
+// `moment` is asked of the lock of 64 zeros; `tables` writes the tables; `fault` tells the last
+// fault. The others are changes: `file PATH TEXT`, `set PATH MODE OWNER GROUP`, `service ROW`,
+// `lock MOMENT`, `append TEXT`, `dir PATH` and `remove PATH`. None comes where the call can't be
+// read.
 pub fn make_call(site: &mut RealHost, call: &str, report: &mut Report) -> Option<()> {
     let (word, text) = parts(call, " ");
     match word {
-        "look" | "read" | "perms" => tell_path(site, word, text, report),
+        "look" | "read" | "length" | "perms" => tell_path(site, word, text, report),
         "row" => tell_row(site, text, report),
         "moment" => tell_moment(site, report),
         "tables" => tell_tables(site, report),

@@ -2,11 +2,15 @@
 #![tactic(auto)]
 
 #[cfg(test)]
+mod faulty_files;
+#[cfg(test)]
 mod folders;
 #[cfg(test)]
 mod host_calls;
 #[cfg(test)]
 mod odd_things;
+#[cfg(test)]
+mod refusals;
 #[cfg(test)]
 mod reports;
 #[cfg(test)]

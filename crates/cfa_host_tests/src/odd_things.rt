@@ -51,7 +51,40 @@ remove /a => Err(Failed)
 has changes => gone a|
 ";
 
-// Odd things in the place of what an agent leaves: each call fails and changes nothing, and the fault names the place.
+// No link is followed, in any call, and what it names stays as it is.
+pub const LINKS: &str = "== links
+folder
+write out out
+file /a/b in => Ok(())
+link tree/end ../out
+link tree/mid a
+link tree/loose nowhere
+look /end => Err(Failed)
+file /end text => Err(Failed)
+dir /end => Err(Failed)
+remove /end => Err(Failed)
+look /mid => Err(Failed)
+file /mid text => Err(Failed)
+dir /mid => Err(Failed)
+remove /mid => Err(Failed)
+look /mid/b => Err(Failed)
+file /mid/b text => Err(Failed)
+dir /mid/b => Err(Failed)
+remove /mid/b => Err(Failed)
+look /mid/new => Err(Failed)
+file /mid/new text => Err(Failed)
+dir /mid/new => Err(Failed)
+remove /mid/new => Err(Failed)
+look /loose => Err(Failed)
+file /loose text => Err(Failed)
+dir /loose => Err(Failed)
+remove /loose => Err(Failed)
+has out => out
+has tree/a/b => in
+";
+
+// Odd things in the place of what an agent leaves: each call fails and changes nothing, and the
+// fault names the place.
 pub const ODD: &str = "== odd_tree
 folder
 write tree no folder

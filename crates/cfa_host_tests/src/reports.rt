@@ -7,8 +7,8 @@ use std::fmt::Debug;
 use std::mem::replace;
 use std::process::ExitCode;
 
-// What isn't met so far. No reader of a row stops at what can't be read or made: it is noted here, the row goes on without it, and so
-// it is told when the test ends.
+// What isn't met so far. No reader of a row stops at what can't be read or made: it is noted here,
+// the row goes on without it, and so it is told when the test ends.
 #[derive(Drop)]
 pub struct Report {
     pub rt: HostRuntime,
@@ -96,13 +96,14 @@ impl Report {
         text
     }
 
-    // A text with a newline for each bar, and 64 zeros for each `Z`.
+    // A text with a newline for each bar, 64 zeros for each `Z`, and a zero byte for each `^`.
     pub fn text(&mut self, told: &str) -> String {
         let mut text = String::new(self.alloc);
         for letter in told.chars() {
             let is_added = match letter {
                 '|' => text.push('\n').is_ok(),
                 'Z' => text.push_str(ZEROS).is_ok(),
+                '^' => text.push('\0').is_ok(),
                 _ => text.push(letter).is_ok(),
             };
             self.require(is_added, "memory");

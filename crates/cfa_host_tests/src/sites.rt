@@ -1,4 +1,5 @@
-// A world in memory, whose nodes are added one by one, and which is taken out of its site and looked at in another one.
+// A world in memory, whose nodes are added one by one, and which is taken out of its site and
+// looked at in another one.
 use crate::reports::Report;
 use crate::texts::parts;
 use cfa_base::Bytes;
@@ -15,7 +16,8 @@ dir /etc => Err(Misplaced)
 file /etc/motd/x => Err(Misplaced)
 dir /x/y => Err(Misplaced)";
 
-// Each path, what a look shows there, and whether it takes a file, takes a directory and may be removed.
+// Each path, what a look shows there, and whether it takes a file, takes a directory and may be
+// removed.
 const LOOKS: &str = "/etc => Dir(false) false false false
 /empty => Dir(true) false false true
 /etc/motd => File(2) true false true
