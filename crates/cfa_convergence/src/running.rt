@@ -2,8 +2,9 @@
 ghost use Rattle.std.specs.Prelude.{◌≡◌, ◌≤◌, ℕ, IfErr, IfOk, IsErrOf, OnOk, Some, false};
 ghost use Rattle.cfa_states.specs.Levels.{IsTooLarge};
 ghost use Rattle.cfa_walk.specs.Settings.{setting_of};
+ghost use Rattle.cfa_agent.specs.Bracketed.{AllBracketed};
 ghost use Rattle.cfa_agent.specs.Runs.{run_of};
-ghost use Rattle.cfa_agent.specs.Ran.{started, RunsAs, RunBuilds, IfBothTold, text_too_big, StopsRun, Refuses};
+ghost use Rattle.cfa_agent.specs.Ran.{added, started, RunsAs, RunBuilds, IfBothTold, text_too_big, StopsRun, Refuses};
 ghost use Rattle.cfa_conflict.specs.Analyses.{analysis_of};
 ghost use Rattle.cfa_conflict.specs.declared.verdicts.Verdict as verdicts;
 ghost use Rattle.cfa_convergence.specs.Settled.{Settles};
@@ -37,6 +38,8 @@ pub fn run<S: Site, O: Sink, P: Patterns>(
         → analysis_of (setting_of checked.now context.now) ≡ Some (verdicts.Verdict.Accepted live)
         → IfBothTold (λ before after. Settles (setting_of checked.now context.now) after.world)
         (S.shown site.old) (S.shown site.new)) }
+    ensures bracketed { OnOk result (IfBothTold (λ before after.
+        AllBracketed before.world (added before after)) (S.shown site.old) (S.shown site.new)) }
     ensures calm { OnOk result ((O.shown out.new).faults ≡ (O.shown out.old).faults) }
     ensures too_large { IsErrOf result Stop.Visits → IfBothTold (λ before after. IsTooLarge
         (run_of (setting_of checked.now context.now) (started moment locks before after)))
