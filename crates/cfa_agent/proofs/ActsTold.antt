@@ -32,7 +32,7 @@ use Rattle.cfa_agent.proofs.Agreeing.{KeepsMarks, acts_keep, same_before, met_ne
 use Rattle.cfa_agent.proofs.Behind.{EndsWith, behind_more, one_more_ended}
 use Rattle.cfa_agent.proofs.Logs.{adds_both}
 use Rattle.cfa_agent.proofs.MarkLemmas.{CouldMeet, added}
-use Rattle.cfa_agent.proofs.BracketLemmas.{rests_acts}
+use Rattle.cfa_agent.proofs.BracketedLogs.{rests_acts}
 use Rattle.cfa_agent.proofs.Planned.{actuated_of_acts, done_named, met_could}
 use Rattle.cfa_agent.proofs.Records.{record_of_added, outcome_is, line_is}
 use Rattle.cfa_agent.proofs.TellLemmas.{same_lock}

@@ -13,6 +13,7 @@ pub mod Planned
 pub mod Agreeing
 pub mod Records
 pub mod BracketLemmas
+pub mod BracketedLogs
 pub mod OpenRepairs
 pub mod LastFiles
 pub mod Behind

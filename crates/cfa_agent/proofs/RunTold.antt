@@ -25,7 +25,7 @@ use Rattle.cfa_agent.specs.Ran.{added, started, counts_of, IsWhole, RunsAs, IfBo
 use Rattle.cfa_agent.specs.Runs.{Counts, real, run_of, log_of, lines_of, tally_of, history_of, last_line, log_in, tally_in}
 use Rattle.cfa_agent.specs.Standing.{Given, Standing, IsBehind, Agrees, teller_of, IsFirst, since, text_in, IsWholeLog}
 use Rattle.cfa_agent.specs.lemmas.Hosts.{adds_none}
-use Rattle.cfa_agent.proofs.BracketLemmas.{rests_none, rests_bracketed}
+use Rattle.cfa_agent.proofs.BracketedLogs.{rests_none, rests_bracketed}
 use Rattle.cfa_agent.proofs.MarkLemmas.{whole_none}
 
 abbrev given_by : (moment : ℕ) → (locks : Bool) → (before after : Told) → (out : Shown (List ℕ)) → Given

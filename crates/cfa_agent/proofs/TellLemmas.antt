@@ -27,7 +27,7 @@ use Rattle.cfa_agent.specs.Runs.{Start, counted, actuations_in, log_in, world_in
 use Rattle.cfa_agent.specs.Standing.{Given, Standing, IsBehind, Agrees, teller_of, first_told}
 use Rattle.cfa_agent.proofs.Agreeing.{lock_keeps, same_before}
 use Rattle.cfa_agent.proofs.Behind.{EndsWith, behind_more, one_more_ended, one_more_skipped}
-use Rattle.cfa_agent.proofs.BracketLemmas.{rests_lock}
+use Rattle.cfa_agent.proofs.BracketedLogs.{rests_lock}
 use Rattle.cfa_agent.proofs.Records.{record_of_lock}
 
 -- ---- visits

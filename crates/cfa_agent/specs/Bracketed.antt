@@ -1,9 +1,9 @@
 -- Told by the journal: how the changes of a log stand to the records in it, from a first world on.
 --
--- The bytes that are appended are whole records, each in its place, and all of one run of version 2. Each change of a node or a
--- service stands behind an `open` and before its `done`, or behind the last `open`, if that has none. A file that is put stands
--- directly behind its `file` record, of which AFTER is the digest of what is put and BEFORE that of what stands there. `done` tells
--- as many changes as stand between it and its `open`. A lock is set while no instance is open.
+-- The bytes that are appended are whole records, each in its place, and all of one run of version 2. Each change of a node
+-- or a service stands behind an `open` and before its `done`, or behind the last `open`, if that has none. A file that is
+-- put stands directly behind its `file` record, of which AFTER is the digest of what is put and BEFORE that of what stands
+-- there. `done` tells as many changes as stand between it and its `open`. A lock is set while no instance is open.
 --
 -- A log is gone through entry by entry, so each first part of a bracketed log is one.
 use Rattle.std.specs.Prelude.{ℕ, suc, ◌≡◌, Bool, true, false, not, IsTrue, List, [], ◌∷◌, ◌++◌, Option, Some, None, ⊤}
@@ -26,8 +26,8 @@ use Rattle.cfa_agent.specs.Actuations.{content_digest}
 
 -- ---- a point of a log
 
--- what an entry finds before it: the position in the journal, the record directly before, if one stands there, how many changes the
--- instance that is open has made, and the world
+-- what an entry finds before it: the position in the journal, the record directly before, if one stands there, how many
+-- changes the instance that is open has made, and the world
 pub record Point : Type 0 where
   pub position : Position
   pub written : Option Record
@@ -82,8 +82,8 @@ is_open Start = false
 is_open (Between version) = false
 is_open (Within version n) = true
 
--- what a record tells is so: only the first one is a `run`, BEFORE is the digest of what stands at the path, and the changes of a
--- `done` are those that were made
+-- what a record tells is so: only the first one is a `run`, BEFORE is the digest of what stands at the path, and the changes
+-- of a `done` are those that were made
 abbrev pub TellsSo : Point → Record → Type 0
 TellsSo here (Run moment) = ⊥
 TellsSo here (Run2 moment) = here.position ≡ Start
@@ -127,3 +127,7 @@ IsBracketed world log = IsBracketedFrom (first_point world) log
 -- so is each first part of a log
 abbrev pub AllBracketed : World → List Entry → Type 0
 AllBracketed world log = (front rest : List Entry) → log ≡ front ++ rest → IsBracketed world front
+
+-- a first part of a bracketed log is bracketed
+abbrev pub FrontsAreBracketed : Type 0
+FrontsAreBracketed = (world : World) (log : List Entry) → IsBracketed world log → AllBracketed world log

@@ -1,6 +1,6 @@
--- The log of a run is bracketed, and so is each first part of it: whatever locks and marks it has, where what its instances did can
--- be told. For that the moment, the numbers of instances and of changes and the ids of promises have to be in the ranges of records,
--- and each file that is put has to have a name.
+-- The log of a run is bracketed, and so is each first part of it: whatever locks and marks it has, where what its
+-- instances did can be told. For that the moment, the numbers of instances and of changes and the ids of promises have
+-- to be in the ranges of records, and each file that is put has to have a name.
 use Rattle.std.specs.Prelude.{ℕ, suc, ◌≡◌, ◌+◌, ◌<◌, ◌≤◌, ◌^◌, ◌⊎◌, Bool, true, false, IsTrue, All, List, [], ◌∷◌, ◌++◌, length, count_by, Option, Some, None, IfSome, ⊤}
 use Rattle.std.specs.FinMap as finite
 use Rattle.cfa_outside.specs.declared.sites.Change.{Change}
@@ -124,8 +124,8 @@ ends_instance (records.Repaired n changes) = true
 ends_instance (records.Failed n reason) = true
 ends_instance _ = false
 
--- the bytes are records in their places, of one run at most; each `open` has its `done`, but for one at most; the last of them, where it is a
--- `file`, tells what stands there
+-- the bytes are records in their places, of one run at most; each `open` has its `done`, but for one at most; the last of
+-- them, where it is a `file`, tells what stands there
 pub record TellsRun (world : World) (log : List Entry) : Type 0 where
   pub told : List Record
   pub whole : journal_text told ≡ appended_in log

@@ -1,10 +1,16 @@
 // What the journal tells, each the contract of a function that changes nothing.
 ghost use Rattle.std.specs.Prelude.{All};
 ghost use Rattle.cfa_journal.specs.Records.{IsFilled};
+ghost use Rattle.cfa_agent.specs.Bracketed.{FrontsAreBracketed};
 ghost use Rattle.cfa_agent.specs.Journaled.{HasName, LogsAreBracketed, RunsAreBracketed, BracketedLogsTell};
 
 use cfa_acts::Act;
 use cfa_outside::Path;
+
+/// A first part of a bracketed log is one.
+pub fn fronts_are_bracketed()
+    ensures { FrontsAreBracketed }
+{}
 
 /// The log of a run is bracketed, and so is each first part of it.
 pub fn logs_are_bracketed()
@@ -12,8 +18,8 @@ pub fn logs_are_bracketed()
     ensures runs { RunsAreBracketed }
 {}
 
-/// The journal of a bracketed log is that of one run at most, in its place, and leaves at most one instance open. Where its last
-/// record is a `file`, this tells what stands at the path.
+/// The journal of a bracketed log is that of one run at most, in its place, and leaves at most one instance
+/// open. Where its last record is a `file`, this tells what stands at the path.
 pub fn bracketed_logs_tell()
     ensures { BracketedLogsTell }
 {}

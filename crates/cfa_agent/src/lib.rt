@@ -11,5 +11,5 @@ mod recording;
 mod running;
 mod telling;
 
-pub use laws::{bracketed_logs_tell, logs_are_bracketed};
+pub use laws::{bracketed_logs_tell, fronts_are_bracketed, logs_are_bracketed};
 pub use running::{Tally, run};

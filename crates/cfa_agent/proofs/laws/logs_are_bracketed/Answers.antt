@@ -1,4 +1,4 @@
-use Rattle.cfa_agent.proofs.BracketLemmas.{logs_bracketed, runs_bracketed}
+use Rattle.cfa_agent.proofs.BracketedLogs.{logs_bracketed, runs_bracketed}
 use Rattle.cfa_agent.proofs.laws.logs_are_bracketed.Goals as goal
 
 pub returns-clause-logs : goal.returns-clause-logs
