@@ -5,6 +5,7 @@ pub mod DemoEndLemmas
 pub mod DemoLemmas
 pub mod EndLemmas
 pub mod HistoryLemmas
+pub mod JournalLemmas
 pub mod LawLemmas
 pub mod PrepareLemmas
 pub mod RunLemmas

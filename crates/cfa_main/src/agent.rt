@@ -7,6 +7,7 @@ ghost use Rattle.cfa_output.specs.declared.items.End as settled_ends;
 ghost use Rattle.cfa_output.specs.Lines.{words_line, moment_line, memory_line, settled_line};
 ghost use Rattle.cfa_words.specs.Words.{asked};
 ghost use Rattle.cfa_agent.specs.Actuations.{Mark};
+ghost use Rattle.cfa_agent.specs.Bracketed.{AllBracketed};
 ghost use Rattle.cfa_agent.specs.Marks.{marks_of};
 ghost use Rattle.cfa_agent.specs.Ran.{added, IfBothTold};
 ghost use Rattle.cfa_main.specs.Calls.{AsksUnaccepted, Does};
@@ -129,6 +130,12 @@ pub fn agent_main<I: Inputs, S: Site, O: Sink, P: Patterns>(
         Stands (Does words.now moment library.texts before.world (marks_of (added before after)))
         before after (O.shown out.old) (O.shown out.new) result)
         (S.shown site.old) (S.shown site.new)) }
+
+    // Each first part of what a call that isn't stopped adds to the log is told by its journal: the repairs that were finished, and
+    // at most one in flight.
+    ensures journaled { AsksNoDemo words.now
+        → IsEnd result → IfBothTold (λ before after. AllBracketed before.world (added before after))
+        (S.shown site.old) (S.shown site.new) }
 
     // A call that asks for no run does so on any site, and leaves the site as it was, however it ends.
     ensures without_site { AsksNoDemo words.now

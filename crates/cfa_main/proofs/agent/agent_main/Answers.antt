@@ -1,5 +1,6 @@
 use Rattle.cfa_main.proofs.CallLemmas as calls
 use Rattle.cfa_main.proofs.CountLemmas as counts
+use Rattle.cfa_main.proofs.JournalLemmas as journal
 use Rattle.cfa_main.proofs.SettledLemmas as settled
 use Rattle.cfa_main.specs.Demos.{AlwaysTells}
 use Rattle.cfa_main.proofs.DemoLemmas as demos
@@ -50,6 +51,9 @@ returns-clause-settled g c = λ none. settled.settled c.args.words.now c.args.mo
 
 pub returns-clause-complete : goal.returns-clause-complete
 returns-clause-complete g c = λ none. settled.complete c.args.words.now c.args.moment (g.I.Inputs.shown c.args.inputs.now) (g.I.Inputs.shown c.call_for.new.inputs) (g.S.Site.shown c.args.site.now) (g.S.Site.shown c.call_for.new.site) (g.O.Sink.shown c.args.out.now) (g.O.Sink.shown c.call_for.new.out) (g.P.Patterns.shown c.args.pats.now) (g.P.Patterns.shown c.call_for.new.pats) c.call_for.result c.taken_requests_are_not_refused.ensures c.a_policy_is_run_in_one_setting.ensures (demos.called (AlwaysTells g.S.Site.shown) c.args.words.now c.args.moment (g.I.Inputs.shown c.args.inputs.now) (g.I.Inputs.shown c.call_for.new.inputs) (g.S.Site.shown c.args.site.now) (g.S.Site.shown c.call_for.new.site) (g.O.Sink.shown c.args.out.now) (g.O.Sink.shown c.call_for.new.out) (g.P.Patterns.shown c.args.pats.now) (g.P.Patterns.shown c.call_for.new.pats) c.call_for.result c.call_for.ensures none)
+
+pub returns-clause-journaled : goal.returns-clause-journaled
+returns-clause-journaled g c = λ none end. journal.journaled c.args.words.now c.args.moment (g.I.Inputs.shown c.args.inputs.now) (g.I.Inputs.shown c.call_for.new.inputs) (g.S.Site.shown c.args.site.now) (g.S.Site.shown c.call_for.new.site) (g.O.Sink.shown c.args.out.now) (g.O.Sink.shown c.call_for.new.out) (g.P.Patterns.shown c.args.pats.now) (g.P.Patterns.shown c.call_for.new.pats) c.call_for.result (demos.called (AlwaysTells g.S.Site.shown) c.args.words.now c.args.moment (g.I.Inputs.shown c.args.inputs.now) (g.I.Inputs.shown c.call_for.new.inputs) (g.S.Site.shown c.args.site.now) (g.S.Site.shown c.call_for.new.site) (g.O.Sink.shown c.args.out.now) (g.O.Sink.shown c.call_for.new.out) (g.P.Patterns.shown c.args.pats.now) (g.P.Patterns.shown c.call_for.new.pats) c.call_for.result c.call_for.ensures none) end
 
 pub returns-clause-calm : goal.returns-clause-calm
 returns-clause-calm g c = λ other. counts.calm (AlwaysTells g.S.Site.shown) c.args.words.now c.args.moment (g.I.Inputs.shown c.args.inputs.now) (g.I.Inputs.shown c.call_for.new.inputs) (g.S.Site.shown c.args.site.now) (g.S.Site.shown c.call_for.new.site) (g.O.Sink.shown c.args.out.now) (g.O.Sink.shown c.call_for.new.out) (g.P.Patterns.shown c.args.pats.now) (g.P.Patterns.shown c.call_for.new.pats) c.call_for.result c.call_for.ensures other
