@@ -1,4 +1,5 @@
 // The lines that were printed, read again.
+use cfa_base::Place;
 
 /// The line of a refusal: the file, its place where there is one, and the code.
 #[derive(Clone, Copy, Debug)]
@@ -10,11 +11,25 @@ pub struct RefusedLine<'a> {
     pub code: &'a str,
 }
 
+impl<'a> RefusedLine<'a> {
+    /// Its place in the file, where it has one.
+    pub fn place(self) -> Option<Place> {
+        let line = u32::try_from(self.line).ok()?;
+        let col = u32::try_from(self.col).ok()?;
+        if line == 0 || col == 0 {
+            return None;
+        }
+        Some(Place { file: 0, line, col })
+    }
+}
+
 /// A promise as a line names it.
 #[derive(Clone, Copy, Debug)]
 pub struct IdText<'a> {
     pub text: &'a str,
     pub bundle: &'a str,
+    /// Its number in the bundle, and its line, each from 1.
+    pub number: u64,
     pub line: u64,
 }
 
@@ -77,12 +92,18 @@ pub fn read_refused(line: &str) -> Option<RefusedLine<'_>> {
     Some(place_of(place, code))
 }
 
-// `BUNDLE:NUMBER@LINE`.
-fn read_id(text: &str) -> Option<IdText<'_>> {
+/// Reads `BUNDLE:NUMBER@LINE`.
+pub fn read_id(text: &str) -> Option<IdText<'_>> {
     let (bundle, rest) = text.split_once(':')?;
-    let (_, line) = rest.split_once('@')?;
+    let (number, line) = rest.split_once('@')?;
+    let number = number_of(number)?;
     let line = number_of(line)?;
-    Some(IdText { text, bundle, line })
+    Some(IdText {
+        text,
+        bundle,
+        number,
+        line,
+    })
 }
 
 /// Reads `failed ID REASON WORD`.

@@ -1,4 +1,4 @@
-// A site that keeps what was last looked at before each promise that failed.
+// A site that keeps what was last looked at before each promise that failed, and the locks that were found.
 ghost use Rattle.std.specs.Prelude.{◌≡◌};
 
 use cfa_base::{Bytes, Key, Name};
@@ -7,6 +7,9 @@ use std::alloc::Global;
 
 // The most promises of which is kept what they were about.
 const MOST_FAILURES: usize = 1000;
+
+// The most locks that are kept of instances that were skipped.
+const MOST_SKIPPED: usize = 1000;
 
 /// What was looked at.
 #[derive(Drop)]
@@ -17,12 +20,15 @@ pub enum Sight {
     Service(Name, bool),
 }
 
-/// What was last looked at before each promise that failed, in their order.
+/// What was last looked at before each promise that failed, in their order, and the locks that were found and not set again.
 #[derive(Drop)]
 pub struct Sights {
     alloc: Global,
     last: Option<Sight>,
     failures: Vec<Option<Sight>>,
+    // The lock that was found last, until it is set.
+    found: Option<Key>,
+    skipped: Vec<Key>,
 }
 
 // Whether the record of a journal tells a failure.
@@ -39,6 +45,8 @@ impl Sights {
             alloc,
             last: None,
             failures: Vec::new(alloc),
+            found: None,
+            skipped: Vec::new(alloc),
         }
     }
 
@@ -47,6 +55,47 @@ impl Sights {
         match self.failures.get(number) {
             Some(sight) => sight.as_ref(),
             None => None,
+        }
+    }
+
+    /// Whether locks were found that weren't set before the next one was looked at.
+    pub fn has_skipped(&self) -> bool {
+        self.found.is_some() || !self.skipped.is_empty()
+    }
+
+    /// Whether the lock with these digits is one of them.
+    pub fn is_skipped(&self, digits: &[u8]) -> bool {
+        if let Some(found) = &self.found {
+            if found.digits() == digits {
+                return true;
+            }
+        }
+        for key in &self.skipped {
+            if key.digits() == digits {
+                return true;
+            }
+        }
+        false
+    }
+
+    // What was found before, and wasn't set, was that of an instance that was skipped.
+    fn note_lock(&mut self, key: &Key, is_found: bool) {
+        if let Some(before) = self.found.take() {
+            if self.skipped.len() < MOST_SKIPPED {
+                let _ = self.skipped.push(before);
+            }
+        }
+        if is_found {
+            self.found = Some(key.copy());
+        }
+    }
+
+    fn note_set(&mut self, key: &Key) {
+        let Some(found) = self.found.take() else {
+            return;
+        };
+        if found.digits() != key.digits() {
+            self.found = Some(found);
         }
     }
 
@@ -65,18 +114,23 @@ impl Sights {
         };
     }
 
-    fn note_change(&mut self, change: &Change) {
-        let Change::Append(record) = change else {
-            return;
-        };
-        if tells_failure(record.as_slice()) && self.failures.len() < MOST_FAILURES {
+    fn note_record(&mut self, record: &[u8]) {
+        if tells_failure(record) && self.failures.len() < MOST_FAILURES {
             let sight = self.last.take();
             let _ = self.failures.push(sight);
         }
     }
+
+    fn note_change(&mut self, change: &Change) {
+        match change {
+            Change::Append(record) => self.note_record(record.as_slice()),
+            Change::PutLock(key, _) => self.note_set(key),
+            _ => {}
+        }
+    }
 }
 
-/// A site that keeps what was last looked at on another one before each promise that failed.
+/// A site that keeps what was last looked at on another one before each promise that failed, and the locks that were found there.
 #[derive(Drop)]
 pub struct NotingSite<S> {
     inner: S,
@@ -134,7 +188,11 @@ impl<S: Site + Drop> Site for NotingSite<S> {
     }
 
     fn lock(&mut self, alloc: Global, key: &Key) -> Result<Option<u64>, OutsideErr> {
-        self.inner.lock(alloc, key)
+        let answer = self.inner.lock(alloc, key);
+        if let Ok(moment) = answer {
+            self.sights.note_lock(key, moment.is_some());
+        }
+        answer
     }
 
     fn change(&mut self, alloc: Global, change: &Change) -> Result<(), OutsideErr> {

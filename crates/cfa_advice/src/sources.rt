@@ -42,7 +42,7 @@ impl Sources {
         Sources { texts }
     }
 
-    // The sources, with their names.
+    /// The sources, with their names.
     pub fn texts(&self) -> &[(Name, Bytes)] {
         self.texts.as_slice()
     }

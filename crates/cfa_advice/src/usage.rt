@@ -1,5 +1,7 @@
 // The words of a command line that are refused: what is wrong with them, and how they are written.
 
+use cfa_base::is_decimal;
+
 /// Why the words are refused.
 #[derive(Clone, Copy, Debug, PartialEq, Eq)]
 pub enum WordsFault<'a> {
@@ -11,6 +13,8 @@ pub enum WordsFault<'a> {
     NoCommand,
     /// The command has no file.
     NoFile(&'a str),
+    /// This is no number of promises of a demo.
+    DemoNumber(&'a str),
     /// This word is one too many.
     TooMany(&'a str),
     /// No command has this name.
@@ -62,6 +66,11 @@ fn bad_class(list: &str) -> Option<&str> {
         }
     }
     None
+}
+
+// From 1 to 10000, without a zero in front.
+fn is_demo_number(text: &str) -> bool {
+    is_decimal(text.as_bytes()) && text != "0" && (text.len() < 5 || text == "10000")
 }
 
 fn is_dashed(word: &str) -> bool {
@@ -214,7 +223,7 @@ impl<'a> Seen<'a> {
 
     // What the command doesn't take of the options that were given.
     fn not_its_own(&self, command: &'a str) -> Option<WordsFault<'a>> {
-        let takes_define = command == "run" || command == "check" || command == "edits";
+        let takes_define = matches!(command, "run" | "check" | "edits");
         if command != "run" {
             if let Some(option) = self.locks.or(self.strict) {
                 return Some(WordsFault::NotItsOwn(command, option));
@@ -234,16 +243,19 @@ impl<'a> Seen<'a> {
         match command {
             "help" => return Some(WordsFault::Help),
             "version" => return Some(WordsFault::Version),
-            "run" | "check" | "show" | "audit" | "demo" | "edits" | "history" => {}
+            "run" | "check" | "show" | "edits" | "audit" | "history" | "demo" => {}
             _ => return Some(WordsFault::UnknownCommand(command)),
         }
-        if self.file.is_none() {
+        let Some(file) = self.file else {
             return Some(WordsFault::NoFile(command));
+        };
+        if let Some(word) = self.extra {
+            return Some(WordsFault::TooMany(word));
         }
-        match self.extra {
-            Some(word) => Some(WordsFault::TooMany(word)),
-            None => self.not_its_own(command),
+        if command == "demo" && !is_demo_number(file) {
+            return Some(WordsFault::DemoNumber(file));
         }
+        self.not_its_own(command)
     }
 
     fn end(self) -> Option<WordsFault<'a>> {
@@ -257,10 +269,12 @@ impl<'a> Seen<'a> {
     }
 }
 
-// The command, and the list of classes that are set from the start; each empty where there is none.
-#[derive(Clone, Copy)]
+/// What words give that aren't refused: the command, its file, and the list of classes that are set from the start; each empty where
+/// there is none.
+#[derive(Clone, Copy, Debug)]
 pub struct Given<'a> {
     pub command: &'a str,
+    pub file: &'a str,
     pub classes: &'a str,
 }
 
@@ -272,11 +286,12 @@ fn see<'a>(words: &[&'a str]) -> Seen<'a> {
     seen
 }
 
-// What words give that aren't refused.
+/// What words give that aren't refused.
 pub fn given_by<'a>(words: &[&'a str]) -> Given<'a> {
     let seen = see(words);
     Given {
         command: seen.command.unwrap_or(""),
+        file: seen.file.unwrap_or(""),
         classes: seen.classes.unwrap_or(""),
     }
 }

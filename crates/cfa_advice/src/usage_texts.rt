@@ -5,20 +5,20 @@ use std::alloc::{AllocError, Global};
 const USAGE: &str = "usage: diwalmeq run POLICY [-K] [-D CLASSES] [--strict]
        diwalmeq check POLICY [-D CLASSES]
        diwalmeq show POLICY
+       diwalmeq edits POLICY [-D CLASSES]
        diwalmeq audit JOURNAL
        diwalmeq history JOURNAL
-       diwalmeq edits POLICY [-D CLASSES]
        diwalmeq demo NUMBER
 ";
 
 const COMMANDS: &str = "
-run     brings the host in the folder `host` of this folder to the state that the policy promises
-check   tells whether the policy is accepted, or names its first fault or conflict; touches no host
-show    prints the policy in its canonical text
-audit   tells of each run in a journal, as host/journal
-history tells of each promise in a journal, and of files that something else changed
-edits   tells which scripts of line edits always settle; touches no host
-demo    runs a policy of so many promises, from 1 to 10000, twice on the host in the folder `host`, and tells what each run did
+run      brings the host in the folder `host` of this folder to the state that the policy promises
+check    tells whether the policy is accepted, or names its first fault or conflict; touches no host
+show     prints the policy in its canonical text
+edits    tells which edits of files settle on any file; touches no host
+audit    tells of each run in a journal, as host/journal
+history  tells what became of each promise in the runs of a journal, and which files changed in between
+demo     runs a policy of so many promises, from 1 to 10000, twice on the host in the folder `host`, and tells what each run did
 
 -K, --no-lock         run without locks: look at each promise, and tell whether a rerun would change nothing
 -D, --define CLASSES  classes that are set from the start, with a comma between two
@@ -46,6 +46,11 @@ fn sentence_of(alloc: Global, fault: WordsFault<'_>) -> Result<String, AllocErro
             String::from_str(alloc, "demo: the number of promises is missing\n")
         }
         WordsFault::NoFile(command) => format!(in alloc; "{command}: the file is missing\n"),
+        WordsFault::DemoNumber(word) => {
+            format!(in alloc;
+                "demo {word}: the number of promises is from 1 to 10000, in digits alone\n"
+            )
+        }
         WordsFault::TooMany(word) => {
             format!(in alloc; "{word}: one word too many; a command takes one file\n")
         }

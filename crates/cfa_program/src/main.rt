@@ -3,6 +3,7 @@
 #![tactic(auto)]
 
 mod descriptors;
+mod reading;
 mod telling;
 
 use cfa_advice::{NotingInputs, NotingSink, NotingSite};

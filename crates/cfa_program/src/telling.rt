@@ -1,7 +1,9 @@
 // What a person is told on standard error.
+use crate::reading::further;
 use crate::{Host, Inputs, Out};
-use cfa_advice::{Heard, Sights, Sources, Style, ToldLines, wants_sources};
+use cfa_advice::{Sources, Style};
 use cfa_base::Name;
+use cfa_hints::{Heard, wants_journal, wants_sources};
 use cfa_hostdir::{FailedCall, Fault, Why};
 use std::alloc::{AllocError, Global};
 use std::io::{IsTerminal, Write};
@@ -86,27 +88,23 @@ fn sources_of(alloc: Global, is_wanted: bool, inputs: &mut Inputs) -> Sources {
     Sources::read(alloc, names.as_slice(), inputs.inner())
 }
 
-// What a person is told of a call of these words that ended so.
-fn advice_on<'a>(
-    alloc: Global,
-    words: &'a [Name],
-    status: u8,
-    told: &'a ToldLines,
-    sights: &'a Sights,
-    sources: &'a Sources,
-    outside: Option<&'a str>,
-    style: Style,
-) -> Result<String, AllocError> {
-    let heard = Heard {
-        words,
-        status,
-        told,
-        sights,
-        sources,
-        outside,
-        style,
-    };
-    heard.advice(alloc)
+const JOURNAL: &str = "host/journal";
+
+// The journal of the host, where something is told by it.
+fn journal_of(alloc: Global, is_wanted: bool, inputs: &mut Inputs) -> Sources {
+    match Name::from_text(alloc, JOURNAL) {
+        Ok(name) if is_wanted => Sources::read(alloc, &[name], inputs.inner()),
+        _ => Sources::none(alloc),
+    }
+}
+
+// What a person is told of a call. Where there is no memory for what further is refused, that isn't told.
+fn advice_on(alloc: Global, heard: Heard<'_>) -> Result<String, AllocError> {
+    let mut text = heard.advice(alloc)?;
+    if let Ok(more) = further(alloc, heard) {
+        text.push_str(more.as_str())?;
+    }
+    Ok(text)
 }
 
 fn advice(
@@ -122,14 +120,22 @@ fn advice(
     let style = style_of(rt);
     let is_wanted = wants_sources(alloc, words, status, style)?;
     let sources = sources_of(alloc, is_wanted, inputs);
-    let sentence = match &outside {
-        Some(told) => Some(told.as_str()),
-        None => None,
+    let is_wanted = wants_journal(alloc, words, status, site.sights(), style)?;
+    let journal = journal_of(alloc, is_wanted, inputs);
+    let heard = Heard {
+        words,
+        status,
+        told: out.told(),
+        sights: site.sights(),
+        sources: &sources,
+        journal: journal.named(JOURNAL).unwrap_or(&[]),
+        outside: match &outside {
+            Some(told) => Some(told.as_str()),
+            None => None,
+        },
+        style,
     };
-    let (told, sights) = (out.told(), site.sights());
-    advice_on(
-        alloc, words, status, told, sights, &sources, sentence, style,
-    )
+    advice_on(alloc, heard)
 }
 
 /// Tells a person of a call that ended. Whatever becomes of it, nothing else changes.

@@ -31,6 +31,11 @@ const ROOM: u64 = 1_048_576;
 // The lines of a check that is about validity alone, whatever the verdict.
 const VALID: &str = "valid\n";
 
+// The lines of a run that repaired something, and of one that did nothing, behind either of which nothing is left to be done.
+const SETTLED: &str = "settled\n";
+
+const UNCHANGED: &str = "unchanged\n";
+
 // What stands behind a mark in the line of a call.
 fn told<'a>(line: &'a str, mark: &str) -> &'a str {
     let (_, behind) = parts(line, mark);
@@ -127,6 +132,16 @@ fn is_verdict(put: &str, status: Option<u64>) -> bool {
     }
 }
 
+// These are the lines and the status of a run behind which nothing is left to be done.
+fn is_settled(put: &str, status: Option<u64>) -> bool {
+    status == Some(0) && put.ends_with("\nsettled: yes\n")
+}
+
+// These are the lines of a run that did nothing.
+fn is_unchanged(put: &str) -> bool {
+    put.contains(" repaired 0 failed 0 skipped 0\n")
+}
+
 // These lines were put, or as many first bytes of them as the sink has room for, where its room is told.
 fn is_put(line: &str, lines: &str, report: &mut Report) -> bool {
     match told(line, " #") {
@@ -138,12 +153,17 @@ fn is_put(line: &str, lines: &str, report: &mut Report) -> bool {
     }
 }
 
-// Compares what a call put and answered with its line and the lines behind it, or with a verdict where it is about validity alone.
+// Compares what a call put and answered with its line and the lines behind it, or with a verdict where it is about validity alone, or
+// with what a run is to leave.
 pub fn compare_answer(line: &str, lines: &str, status: Option<u64>, report: &mut Report) {
-    let (wanted, _) = parts(line, " ");
     let is_met = if lines == VALID {
         is_verdict(report.put.as_str(), status)
+    } else if lines == SETTLED {
+        is_settled(report.put.as_str(), status) && !is_unchanged(report.put.as_str())
+    } else if lines == UNCHANGED {
+        is_settled(report.put.as_str(), status) && is_unchanged(report.put.as_str())
     } else {
+        let (wanted, _) = parts(line, " ");
         let wanted = report.number(wanted);
         status.unwrap_or(u64::MAX) == wanted && is_put(line, lines, report)
     };

@@ -1,9 +1,10 @@
 // Rows of runs. Behind the title of a row stand the lines of the host as it is before (`site_of`), and the policy `a.cf`, to which the
 // blocks below are added. Files behind it are as they stand (`files_of`), and one of the name `a.cf` stands for the policy. Then come
 // runs on this host, one after the other: `$ ` and the call (`calls`); the entries that it adds to the host's log, each behind `> `,
-// or their number alone, `> N entries`; and the lines that it puts, or `valid` for those of any verdict. A run that tells lines of a
-// host itself is made on that host, as are those behind it. A line of a text that is much repeated is told once, `* FROM TO LINE`
-// (`add_line`).
+// or their number alone, `> N entries`, or `> any entries`; and the lines that it puts, or `valid` for those of any verdict, `settled`
+// for those of a run that repaired something and left nothing to be done, `unchanged` for those of one that did nothing then. A run
+// that tells lines of a host itself is made on that host, as are those behind it. A line of a text that is much repeated is told once,
+// `* FROM TO LINE` (`add_line`).
 use crate::calls::{Top, compare_answer, make};
 use crate::folders::host_in;
 use crate::reports::Report;

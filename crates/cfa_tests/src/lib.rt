@@ -11,6 +11,10 @@ mod demo;
 #[cfg(test)]
 mod escapes;
 #[cfg(test)]
+mod hints;
+#[cfg(test)]
 mod history;
 #[cfg(test)]
 mod output;
+#[cfg(test)]
+mod told;

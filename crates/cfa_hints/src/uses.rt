@@ -16,6 +16,16 @@ pub struct Mention<'a> {
     pub name: &'a str,
 }
 
+// A promise that restarts a service.
+#[derive(Clone, Copy)]
+pub struct Restart<'a> {
+    pub bundle: &'a str,
+    // Its number in the bundle, and its line, each from 1.
+    pub number: u32,
+    pub line: u32,
+    pub service: &'a str,
+}
+
 // Names, each once.
 #[derive(Drop)]
 pub struct NameSet<'a> {
@@ -60,6 +70,9 @@ pub struct Frame<'a> {
 #[derive(Drop)]
 pub struct Uses<'a> {
     pub bundles: Vec<Mention<'a>>,
+    // The names of bundles and bodies.
+    pub blocks: NameSet<'a>,
+    pub restarts: Vec<Restart<'a>>,
     // References to variables, and classes of guards.
     pub references: Vec<Mention<'a>>,
     pub guards: Vec<Mention<'a>>,
@@ -82,6 +95,8 @@ impl<'a> Uses<'a> {
     pub fn new(alloc: Global) -> Uses<'a> {
         Uses {
             bundles: Vec::new(alloc),
+            blocks: NameSet::new(alloc),
+            restarts: Vec::new(alloc),
             references: Vec::new(alloc),
             guards: Vec::new(alloc),
             variables: Vec::new(alloc),

@@ -1,8 +1,9 @@
 // A walk over the tokens of a policy's files, for what they define, set, raise, call and ask for.
-use crate::references::{Spot, frame_of, list_of, reference_of};
-use crate::sources::Sources;
-use crate::uses::{Mention, Uses};
-use cfa_base::{Bytes, Kind, Name, NoMemory};
+use crate::places::{behind, further};
+use crate::references::{content_of, frame_of, list_of, reference_of};
+use crate::uses::{Mention, Restart, Uses};
+use cfa_advice::Sources;
+use cfa_base::{Bytes, Kind, Name, NoMemory, Place};
 use cfa_lexer::{Token, lex};
 use std::alloc::Global;
 
@@ -28,20 +29,14 @@ struct Walk<'a> {
     kind: &'a str,
     block: &'a str,
     section: &'a str,
+    // The promiser, the number of its promise in the bundle, and its line.
+    promiser: &'a str,
+    number: u32,
+    line: u32,
     // Empty before the first attribute of a promise.
     attribute: &'a str,
     // How many braces are open in an attribute.
     braces: usize,
-}
-
-fn content_of(text: &str) -> &str {
-    match text.strip_prefix('"') {
-        Some(inner) => inner.strip_suffix('"').unwrap_or(inner),
-        None => match text.strip_prefix('\'') {
-            Some(inner) => inner.strip_suffix('\'').unwrap_or(inner),
-            None => text,
-        },
-    }
 }
 
 // Promisees, and attributes that are never read.
@@ -68,16 +63,19 @@ impl<'a> Walk<'a> {
             kind: "",
             block: "",
             section: "",
+            promiser: "",
+            number: 0,
+            line: 0,
             attribute: "",
             braces: 0,
         }
     }
 
-    fn mention(&self, spot: Spot, of: &'a str, name: &'a str) -> Mention<'a> {
+    fn mention(&self, at: Place, of: &'a str, name: &'a str) -> Mention<'a> {
         Mention {
             source: self.source,
-            line: spot.line,
-            col: spot.col,
+            line: at.line,
+            col: at.col,
             of,
             name,
         }
@@ -87,20 +85,22 @@ impl<'a> Walk<'a> {
         self.part = Part::Heading;
         self.is_bundle = word == "bundle";
         self.words = 0;
+        self.number = 0;
         self.section = "";
         self.attribute = "";
         self.braces = 0;
     }
 
-    fn take_heading_word(&mut self, spot: Spot, word: &'a str) -> Result<(), NoMemory> {
+    fn take_heading_word(&mut self, at: Place, word: &'a str) -> Result<(), NoMemory> {
         let words = self.words;
         self.words = words.saturating_add(1);
         if words == 0 {
             self.kind = word;
         } else if words == 1 {
             self.block = word;
+            self.uses.blocks.add(word)?;
             if self.is_bundle {
-                let bundle = self.mention(spot, self.kind, word);
+                let bundle = self.mention(at, self.kind, word);
                 self.uses.bundles.push(bundle)?;
             }
         } else if self.is_bundle {
@@ -110,32 +110,32 @@ impl<'a> Walk<'a> {
     }
 
     // A qualified name has its bundle; the others are of this bundle, and in a body they are its parameters.
-    fn add_reference(&mut self, spot: Spot, name: &'a str) -> Result<(), NoMemory> {
+    fn add_reference(&mut self, at: Place, name: &'a str) -> Result<(), NoMemory> {
         let (bundle, variable) = match name.split_once('.') {
             Some(pair) => pair,
             None if self.is_bundle => (self.block, name),
             None => return Ok(()),
         };
         if bundle != "const" {
-            let reference = self.mention(spot, bundle, variable);
+            let reference = self.mention(at, bundle, variable);
             self.uses.references.push(reference)?;
         }
         Ok(())
     }
 
-    fn add_references(&mut self, spot: Spot, content: &'a str) -> Result<(), NoMemory> {
+    fn add_references(&mut self, at: Place, content: &'a str) -> Result<(), NoMemory> {
         if let Some(name) = list_of(content) {
-            self.add_reference(spot, name)?;
+            self.add_reference(at, name)?;
         }
         let Some((front, rest)) = content.split_once('$') else {
             return Ok(());
         };
-        let mut spot = spot.behind(front);
+        let mut at = behind(at, front);
         for piece in rest.split('$') {
             if let Some(name) = reference_of(piece) {
-                self.add_reference(spot, name)?;
+                self.add_reference(at, name)?;
             }
-            spot = spot.further(1).behind(piece);
+            at = behind(further(at, 1), piece);
         }
         Ok(())
     }
@@ -151,15 +151,18 @@ impl<'a> Walk<'a> {
         Ok(())
     }
 
-    fn take_promiser(&mut self, spot: Spot, content: &'a str) -> Result<(), NoMemory> {
+    fn take_promiser(&mut self, at: Place, content: &'a str) -> Result<(), NoMemory> {
         self.part = Part::Attributes;
+        self.promiser = content;
+        self.number = self.number.saturating_add(1);
+        self.line = at.line;
         self.attribute = "";
         match self.section {
             "vars" => self.uses.set_variable(self.block, content)?,
             "classes" => self.raise(content)?,
             _ => {}
         }
-        self.add_references(spot, content)
+        self.add_references(at, content)
     }
 
     // The words of a class text.
@@ -184,26 +187,39 @@ impl<'a> Walk<'a> {
         Ok(())
     }
 
+    fn note_restart(&mut self) -> Result<(), NoMemory> {
+        self.uses.restarts.push(Restart {
+            bundle: self.block,
+            number: self.number,
+            line: self.line,
+            service: self.promiser,
+        })?;
+        Ok(())
+    }
+
     // A text, a word or a reference of an attribute.
-    fn take_value(&mut self, spot: Spot, content: &'a str) -> Result<(), NoMemory> {
+    fn take_value(&mut self, at: Place, content: &'a str) -> Result<(), NoMemory> {
         if !is_read(self.attribute) {
             return Ok(());
         }
         self.note_value(content)?;
+        if self.attribute == "service_policy" && content == "restart" {
+            self.note_restart()?;
+        }
         if self.is_bundle && self.section == "classes" {
             self.ask(content)?;
         }
-        self.add_references(spot, content)
+        self.add_references(at, content)
     }
 
-    fn take_text(&mut self, spot: Spot, content: &'a str) -> Result<(), NoMemory> {
+    fn take_text(&mut self, at: Place, content: &'a str) -> Result<(), NoMemory> {
         if raises(self.attribute) {
             self.raise(content)?;
         }
-        self.take_value(spot, content)
+        self.take_value(at, content)
     }
 
-    fn take_word(&mut self, spot: Spot, word: &'a str, next: Kind) -> Result<(), NoMemory> {
+    fn take_word(&mut self, at: Place, word: &'a str, next: Kind) -> Result<(), NoMemory> {
         if next == Kind::FatArrow {
             self.attribute = word;
             if word == "bundlesequence" {
@@ -214,7 +230,7 @@ impl<'a> Walk<'a> {
         if next == Kind::OpenParen && makes_names(word) {
             self.uses.makes_names = true;
         }
-        self.take_value(spot, word)
+        self.take_value(at, word)
     }
 
     fn close_brace(&mut self) {
@@ -227,14 +243,14 @@ impl<'a> Walk<'a> {
 
     fn take_in_attributes(
         &mut self,
-        spot: Spot,
+        at: Place,
         token: &Token<'a>,
         next: Kind,
     ) -> Result<(), NoMemory> {
         match token.kind {
-            Kind::Word => self.take_word(spot, token.text, next)?,
-            Kind::Text => self.take_text(spot.further(1), content_of(token.text))?,
-            Kind::Ref | Kind::ListRef => self.take_value(spot, token.text)?,
+            Kind::Word => self.take_word(at, token.text, next)?,
+            Kind::Text => self.take_text(further(at, 1), content_of(token.text))?,
+            Kind::Ref | Kind::ListRef => self.take_value(at, token.text)?,
             Kind::OpenBrace => self.braces = self.braces.saturating_add(1),
             Kind::CloseBrace => self.close_brace(),
             Kind::Semicolon if self.is_bundle => self.part = Part::Statement,
@@ -243,32 +259,27 @@ impl<'a> Walk<'a> {
         Ok(())
     }
 
-    fn take_guard_word(&mut self, spot: Spot, word: &'a str) -> Result<(), NoMemory> {
-        let guard = self.mention(spot, "", word);
+    fn take_guard_word(&mut self, at: Place, word: &'a str) -> Result<(), NoMemory> {
+        let guard = self.mention(at, "", word);
         self.uses.guards.push(guard)?;
         self.uses.asked.add(word)?;
         Ok(())
     }
 
-    fn take_in_bundle(
-        &mut self,
-        spot: Spot,
-        token: &Token<'a>,
-        next: Kind,
-    ) -> Result<(), NoMemory> {
+    fn take_in_bundle(&mut self, at: Place, token: &Token<'a>, next: Kind) -> Result<(), NoMemory> {
         match token.kind {
             Kind::Word if next == Kind::Colon => self.section = token.text,
-            Kind::Word => self.take_guard_word(spot, token.text)?,
-            Kind::Text => self.take_promiser(spot.further(1), content_of(token.text))?,
+            Kind::Word => self.take_guard_word(at, token.text)?,
+            Kind::Text => self.take_promiser(further(at, 1), content_of(token.text))?,
             Kind::CloseBrace => self.part = Part::Between,
             _ => {}
         }
         Ok(())
     }
 
-    fn take_in_heading(&mut self, spot: Spot, token: &Token<'a>) -> Result<(), NoMemory> {
+    fn take_in_heading(&mut self, at: Place, token: &Token<'a>) -> Result<(), NoMemory> {
         match token.kind {
-            Kind::Word => self.take_heading_word(spot, token.text)?,
+            Kind::Word => self.take_heading_word(at, token.text)?,
             Kind::OpenBrace if self.is_bundle => self.part = Part::Statement,
             Kind::OpenBrace => self.part = Part::Attributes,
             _ => {}
@@ -277,18 +288,15 @@ impl<'a> Walk<'a> {
     }
 
     fn take(&mut self, token: &Token<'a>, next: Kind) -> Result<(), NoMemory> {
-        let spot = Spot {
-            line: token.place.line,
-            col: token.place.col,
-        };
+        let at = token.place;
         match self.part {
             Part::Between => {
                 self.begin_block(token.text);
                 Ok(())
             }
-            Part::Heading => self.take_in_heading(spot, token),
-            Part::Statement => self.take_in_bundle(spot, token, next),
-            Part::Attributes => self.take_in_attributes(spot, token, next),
+            Part::Heading => self.take_in_heading(at, token),
+            Part::Statement => self.take_in_bundle(at, token, next),
+            Part::Attributes => self.take_in_attributes(at, token, next),
         }
     }
 

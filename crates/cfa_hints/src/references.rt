@@ -2,40 +2,14 @@
 use crate::uses::Frame;
 use cfa_base::{is_name, is_word_byte};
 
-// A line and a column, from 1.
-#[derive(Clone, Copy)]
-pub struct Spot {
-    pub line: u32,
-    pub col: u32,
-}
-
-impl Spot {
-    // So many bytes further on in its line.
-    pub fn further(self, count: u32) -> Spot {
-        Spot {
-            line: self.line,
-            col: self.col.saturating_add(count),
-        }
-    }
-
-    fn behind_byte(self, byte: u8) -> Spot {
-        if byte == b'\n' {
-            Spot {
-                line: self.line.saturating_add(1),
-                col: 1,
-            }
-        } else {
-            self.further(1)
-        }
-    }
-
-    // Behind a text that begins here.
-    pub fn behind(self, text: &str) -> Spot {
-        let mut spot = self;
-        for byte in text.bytes() {
-            spot = spot.behind_byte(byte);
-        }
-        spot
+// What stands between the quotes of a text, as it is written.
+pub fn content_of(text: &str) -> &str {
+    match text.strip_prefix('"') {
+        Some(inner) => inner.strip_suffix('"').unwrap_or(inner),
+        None => match text.strip_prefix('\'') {
+            Some(inner) => inner.strip_suffix('\'').unwrap_or(inner),
+            None => text,
+        },
     }
 }
 

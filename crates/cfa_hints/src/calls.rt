@@ -1,14 +1,12 @@
 // What is told of a whole call.
-use crate::advising::{Style, Subject, push_conflict, push_failed, push_refused};
-use crate::ends::{MOMENT, settled_sentence, stop_sentence};
+use crate::before::before_text;
 use crate::idle::idle_text;
-use crate::lines::{read_conflict, read_failed, read_refused};
-use crate::reasons::{Reason, reason_of};
-use crate::sought::{Sight, Sights};
-use crate::sources::Sources;
-use crate::told::ToldLines;
-use crate::usage::{Given, given_by, words_fault};
-use crate::usage_texts::words_advice;
+use crate::skipped::skipped_text;
+use cfa_advice::{
+    Given, MOMENT, Reason, Sight, Sights, Sources, Style, Subject, ToldLines, given_by,
+    push_conflict, push_failed, push_refused, read_conflict, read_failed, read_refused, reason_of,
+    settled_sentence, stop_sentence, words_advice, words_fault,
+};
 use cfa_base::{Bytes, Name, NoMemory};
 use cfa_outside::Look;
 use std::alloc::{AllocError, Global};
@@ -28,6 +26,8 @@ pub struct Heard<'a> {
     pub sights: &'a Sights,
     /// The sources that it read.
     pub sources: &'a Sources,
+    /// The journal of the host, where it was read (`wants_journal`), else nothing.
+    pub journal: &'a [u8],
     /// The call on the outside that failed last, where one did, as a sentence.
     pub outside: Option<&'a str>,
     pub style: Style,
@@ -114,6 +114,19 @@ pub fn wants_sources(
     Ok(tells_idle(given_by(words.as_slice()), status, style))
 }
 
+/// Whether something is told for which the journal of the host is read: of a run on a terminal in which locks kept promises back.
+pub fn wants_journal(
+    alloc: Global,
+    words: &[Name],
+    status: u8,
+    sights: &Sights,
+    style: Style,
+) -> Result<bool, AllocError> {
+    let words = texts_of(alloc, words)?;
+    let given = given_by(words.as_slice());
+    Ok(given.command == "run" && sights.has_skipped() && tells_idle(given, status, style))
+}
+
 impl<'a> Heard<'a> {
     fn push_words(&self, alloc: Global, text: &mut String) -> Result<(), AllocError> {
         let words = texts_of(alloc, self.words)?;
@@ -153,7 +166,13 @@ impl<'a> Heard<'a> {
 
     fn push_refused(&self, alloc: Global, text: &mut String, line: &str) -> Result<(), AllocError> {
         match read_refused(line) {
-            Some(refused) => push_refused(alloc, text, self.style, self.sources, refused),
+            Some(refused) => {
+                push_refused(alloc, text, self.style, self.sources, refused)?;
+                if let Ok(before) = before_text(alloc, self.sources, refused) {
+                    text.push_str(before.as_str())?;
+                }
+                Ok(())
+            }
             None => Ok(()),
         }
     }
@@ -254,6 +273,10 @@ impl<'a> Heard<'a> {
         let given = given_by(words.as_slice());
         if tells_idle(given, self.status, self.style) {
             let told = idle_text(alloc, self.sources, given.classes)?;
+            text.push_str(told.as_str())?;
+        }
+        if !self.journal.is_empty() {
+            let told = skipped_text(alloc, self.sources, self.sights, self.journal)?;
             text.push_str(told.as_str())?;
         }
         Ok(())
