@@ -1,8 +1,8 @@
 // What stands before a refusal, for who forgot a quote, a comma or a semicolon.
-use crate::places::behind;
 use cfa_advice::{FIRST_PLACE, RefusedLine, Sources, behind_byte};
 use cfa_base::{Kind, NoMemory, Place, is_before};
 use cfa_lexer::{Token, lex};
+use cfa_uses::behind;
 use std::alloc::Global;
 
 // Within so many tokens a text that wasn't closed is followed by what is refused.

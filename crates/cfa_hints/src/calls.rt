@@ -2,6 +2,7 @@
 use crate::before::before_text;
 use crate::idle::idle_text;
 use crate::skipped::skipped_text;
+use crate::takes::takes_text;
 use cfa_advice::{
     Given, MOMENT, Reason, Sight, Sights, Sources, Style, Subject, ToldLines, given_by,
     push_conflict, push_failed, push_refused, read_conflict, read_failed, read_refused, reason_of,
@@ -168,8 +169,11 @@ impl<'a> Heard<'a> {
         match read_refused(line) {
             Some(refused) => {
                 push_refused(alloc, text, self.style, self.sources, refused)?;
-                if let Ok(before) = before_text(alloc, self.sources, refused) {
-                    text.push_str(before.as_str())?;
+                if let Ok(more) = before_text(alloc, self.sources, refused) {
+                    text.push_str(more.as_str())?;
+                }
+                if let Ok(more) = takes_text(alloc, self.sources, refused) {
+                    text.push_str(more.as_str())?;
                 }
                 Ok(())
             }

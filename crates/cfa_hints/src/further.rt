@@ -1,10 +1,8 @@
 // The refusals of a policy behind its first one: those that are first once what was refused before is taken out.
-use crate::statements::{Statement, statement_at};
-use crate::uses::{NameSet, Uses};
-use crate::walking::uses_of;
 use cfa_advice::{RefusedLine, Sources, Style, blanked, push_shown, read_refused};
 use cfa_base::{Bytes, Name, NoMemory, Place};
 use cfa_lexer::lex;
+use cfa_uses::{NameSet, Statement, statement_at, uses_of};
 use std::alloc::Global;
 
 // The most refusals that are told.
@@ -68,10 +66,7 @@ fn makes_known(statement: Statement<'_>) -> bool {
 // The names of the bundles and bodies of these files.
 fn blocks_of(alloc: Global, sources: &Sources) -> Result<NameSet<'_>, NoMemory> {
     match uses_of(alloc, sources)? {
-        Some(uses) => {
-            let Uses { blocks, .. } = uses;
-            Ok(blocks)
-        }
+        Some(uses) => Ok(uses.into_blocks()),
         None => Ok(NameSet::new(alloc)),
     }
 }

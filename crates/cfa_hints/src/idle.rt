@@ -1,10 +1,9 @@
 // What a policy says of which nothing comes: names that are never set, guards that nothing raises, bundles that nothing calls, and
 // classes of -D that no guard asks for.
 use crate::near::{Nearest, nearest_of};
-use crate::uses::{Mention, NameSet, Uses};
-use crate::walking::uses_of;
 use cfa_advice::Sources;
 use cfa_base::{NoMemory, PairIndex};
+use cfa_uses::{Mention, NameSet, Uses, uses_of};
 use std::alloc::Global;
 
 // The most of these that are told.

@@ -1,5 +1,6 @@
 //! What a person is told of a call that ended, and what is found by walking the texts that it read: names, guards, bundles and classes of
-//! which nothing comes, restarts that were skipped, what stands before a refusal, and the refusals behind the first one.
+//! which nothing comes, restarts that were skipped, what stands before a refusal, what is taken in the place of a refused value, and the
+//! refusals behind the first one.
 #![tactic(auto)]
 
 mod before;
@@ -7,15 +8,13 @@ mod calls;
 mod further;
 mod idle;
 mod near;
-mod places;
-mod references;
 mod skipped;
-mod statements;
-mod uses;
-mod walking;
+mod takes;
+mod values;
 
 pub use before::before_text;
 pub use calls::{Heard, wants_journal, wants_sources};
 pub use further::{Refuses, further_text};
 pub use idle::idle_text;
 pub use skipped::skipped_text;
+pub use takes::takes_text;

@@ -1,8 +1,7 @@
 // Restarts that were skipped by their locks.
-use crate::uses::{NameSet, Restart, Uses};
-use crate::walking::uses_of;
 use cfa_advice::{IdText, Sights, Sources, read_id};
 use cfa_base::NoMemory;
+use cfa_uses::{NameSet, Restart, Uses, uses_of};
 use std::alloc::{AllocError, Global};
 
 // The most bytes at the end of a journal in which the keys of locks are looked for.

@@ -5,6 +5,7 @@ use cfa_advice::{Sources, Style};
 use cfa_base::Name;
 use cfa_hints::{Heard, wants_journal, wants_sources};
 use cfa_hostdir::{FailedCall, Fault, Why};
+use cfa_outside::Call;
 use std::alloc::{AllocError, Global};
 use std::io::{IsTerminal, Write};
 use std::{env, io};
@@ -41,23 +42,37 @@ fn word_of(alloc: Global, why: Why) -> Result<String, AllocError> {
     }
 }
 
+// What was asked of the host.
+fn asked_of(call: Call) -> &'static str {
+    match call {
+        Call::Look => "what stands at a path",
+        Call::Read => "what a file holds",
+        Call::Perms => "which permissions it has",
+        Call::Service => "the row of a service",
+        Call::Lock => "when a lock was set",
+        Call::Change => "to make a change, or to write a record",
+    }
+}
+
 // A call on the outside that failed, as a sentence.
 fn sentence_of(alloc: Global, fault: &Fault) -> Result<String, AllocError> {
     let word = word_of(alloc, fault.why)?;
-    let what = match &fault.path {
+    let path = match &fault.path {
         Some(path) => path.as_str(),
-        None if fault.call == FailedCall::Put => "standard output",
-        None => "the host",
+        None => "",
     };
-    if fault.call == FailedCall::Read && fault.why == Why::OfAnotherKind {
-        return format!(in alloc; "{what}: no file, but a folder, a pipe or a device");
+    match fault.call {
+        FailedCall::Put => format!(in alloc; "standard output: {word}"),
+        FailedCall::Read if fault.why == Why::OfAnotherKind => {
+            format!(in alloc; "{path}: no file, but a folder, a pipe or a device")
+        }
+        FailedCall::Read => format!(in alloc;
+            "{path}: {word}; it is read from the folder in which the command runs"
+        ),
+        FailedCall::Site(call) => {
+            format!(in alloc; "{path}: {word}; the host was asked {}", asked_of(call))
+        }
     }
-    if fault.call == FailedCall::Read {
-        return format!(in alloc;
-            "{what}: {word}; it is read from the folder in which the command runs"
-        );
-    }
-    format!(in alloc; "{what}: {word}")
 }
 
 // The call on the outside that failed last: the put that ended all, else the reading, else one on the host.

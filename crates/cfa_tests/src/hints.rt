@@ -12,7 +12,7 @@ const PLAIN: Style = Style {
     has_colour: false,
 };
 
-fn sources_of(alloc: Global, policy: &str) -> Result<Sources, Fail> {
+pub fn sources_of(alloc: Global, policy: &str) -> Result<Sources, Fail> {
     let name = Name::from_text(alloc, "a.cf")?;
     let mut texts = Vec::new(alloc);
     texts.push((

@@ -17,4 +17,6 @@ mod history;
 #[cfg(test)]
 mod output;
 #[cfg(test)]
+mod taken;
+#[cfg(test)]
 mod told;

@@ -334,7 +334,7 @@ impl<'a> Walk<'a> {
     }
 }
 
-// What the files of a policy define, set, raise, call and ask for. None where one of them has no tokens.
+/// What the files of a policy define, set, raise, call and ask for. None where one of them has no tokens.
 pub fn uses_of<'a>(alloc: Global, sources: &'a Sources) -> Result<Option<Uses<'a>>, NoMemory> {
     let mut walk = Walk::new(alloc);
     let has_tokens = walk.take_files(alloc, sources.texts())?;

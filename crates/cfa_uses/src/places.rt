@@ -11,7 +11,7 @@ pub fn further(place: Place, count: u32) -> Place {
     }
 }
 
-// Behind a text that begins at a place.
+/// Behind a text that begins at a place.
 pub fn behind(place: Place, text: &str) -> Place {
     let mut end = place;
     for byte in text.bytes() {

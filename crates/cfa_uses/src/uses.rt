@@ -5,28 +5,28 @@ use std::alloc::Global;
 // The most texts with references that may be names of classes or bundles. With more nothing is told of these.
 const MOST_FRAMES: usize = 100;
 
-// A name in a source, and where it stands.
+/// A name in a source, and where it stands.
 #[derive(Clone, Copy)]
 pub struct Mention<'a> {
     pub source: &'a str,
     pub line: u32,
     pub col: u32,
-    // The bundle of a variable; the type of a bundle; empty for a class.
+    /// The bundle of a variable; the type of a bundle; empty for a class.
     pub of: &'a str,
     pub name: &'a str,
 }
 
-// A promise that restarts a service.
+/// A promise that restarts a service.
 #[derive(Clone, Copy)]
 pub struct Restart<'a> {
     pub bundle: &'a str,
-    // Its number in the bundle, and its line, each from 1.
+    /// Its number in the bundle, and its line, each from 1.
     pub number: u32,
     pub line: u32,
     pub service: &'a str,
 }
 
-// Names, each once.
+/// Names, each once.
 #[derive(Drop)]
 pub struct NameSet<'a> {
     index: NameIndex<'a>,
@@ -41,7 +41,7 @@ impl<'a> NameSet<'a> {
         }
     }
 
-    // The answer is whether the name is new.
+    /// The answer is whether the name is new.
     pub fn add(&mut self, name: &'a str) -> Result<bool, NoMemory> {
         let is_new = self.index.add(name)?;
         if is_new {
@@ -66,27 +66,27 @@ pub struct Frame<'a> {
     pub back: &'a str,
 }
 
-// All of it.
+/// All of it.
 #[derive(Drop)]
 pub struct Uses<'a> {
     pub bundles: Vec<Mention<'a>>,
-    // The names of bundles and bodies.
+    /// The names of bundles and bodies.
     pub blocks: NameSet<'a>,
     pub restarts: Vec<Restart<'a>>,
-    // References to variables, and classes of guards.
+    /// References to variables, and classes of guards.
     pub references: Vec<Mention<'a>>,
     pub guards: Vec<Mention<'a>>,
-    // Bundles and their variables.
+    /// Bundles and their variables.
     pub variables: Vec<(&'a str, &'a str)>,
     set: PairIndex<'a>,
-    // Texts and words of attributes; of these the classes that are raised; and the classes that are asked for.
+    /// Texts and words of attributes; of these the classes that are raised; and the classes that are asked for.
     pub values: NameSet<'a>,
     pub raised: NameSet<'a>,
     pub asked: NameSet<'a>,
     frames: Vec<Frame<'a>>,
-    // A name of a class or a bundle may be made by a function.
+    /// A name of a class or a bundle may be made by a function.
     pub makes_names: bool,
-    // A class text has references.
+    /// A class text has references.
     pub asks_freely: bool,
     pub has_sequence: bool,
 }
@@ -118,6 +118,12 @@ impl<'a> Uses<'a> {
         Ok(())
     }
 
+    /// The names of bundles and bodies.
+    pub fn into_blocks(self) -> NameSet<'a> {
+        let Uses { blocks, .. } = self;
+        blocks
+    }
+
     pub fn is_set(&self, bundle: &str, name: &str) -> bool {
         self.set.find(bundle, name).is_some()
     }
@@ -131,7 +137,7 @@ impl<'a> Uses<'a> {
         Ok(())
     }
 
-    // Whether a name may come from a value: as one, or from a text with references.
+    /// Whether a name may come from a value: as one, or from a text with references.
     pub fn may_be_made(&self, name: &str) -> bool {
         if self.makes_names || self.values.has(name) {
             return true;
