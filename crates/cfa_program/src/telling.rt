@@ -59,7 +59,7 @@ fn sentence_of(alloc: Global, fault: &Fault) -> Result<String, AllocError> {
     let word = word_of(alloc, fault.why)?;
     let path = match &fault.path {
         Some(path) => path.as_str(),
-        None => "",
+        None => "a file",
     };
     match fault.call {
         FailedCall::Put => format!(in alloc; "standard output: {word}"),
