@@ -1,5 +1,6 @@
 // What a policy says of which nothing comes: names that are never set, guards that nothing raises, bundles that nothing calls, and
 // classes of -D that no guard asks for.
+use crate::calendar::is_of_calendar;
 use crate::near::{Nearest, nearest_of};
 use cfa_advice::Sources;
 use cfa_base::{NoMemory, PairIndex};
@@ -8,59 +9,6 @@ use std::alloc::Global;
 
 // The most of these that are told.
 const MOST_TOLD: usize = 20;
-
-// Classes of the calendar, and how those begin that have a number.
-const CALENDAR: [&str; 24] = [
-    "any",
-    "January",
-    "February",
-    "March",
-    "April",
-    "May",
-    "June",
-    "July",
-    "August",
-    "September",
-    "October",
-    "November",
-    "December",
-    "Monday",
-    "Tuesday",
-    "Wednesday",
-    "Thursday",
-    "Friday",
-    "Saturday",
-    "Sunday",
-    "Night",
-    "Morning",
-    "Afternoon",
-    "Evening",
-];
-
-const NUMBERED: [&str; 4] = ["Yr", "Day", "Hr", "Min"];
-
-fn has_number(name: &str, front: &str) -> bool {
-    match name.strip_prefix(front) {
-        Some(rest) => rest
-            .bytes()
-            .all(|byte| byte.is_ascii_digit() || byte == b'_'),
-        None => false,
-    }
-}
-
-fn is_of_calendar(name: &str) -> bool {
-    for class in CALENDAR {
-        if class == name {
-            return true;
-        }
-    }
-    for front in NUMBERED {
-        if has_number(name, front) {
-            return true;
-        }
-    }
-    false
-}
 
 // The lines that are told.
 #[derive(Drop)]

@@ -4,6 +4,7 @@
 #![tactic(auto)]
 
 mod before;
+mod calendar;
 mod calls;
 mod further;
 mod idle;

@@ -57,6 +57,15 @@ fn what_never_comes_about(rt: HostRuntime) -> Result<(), Fail> {
 -D nginx_changed: no guard asks for it (nginx_chnaged?)\n",
         ),
         (
+            "bundle agent main { reports: Hr02.Day1.Min05.Min55_00.Yr2024.May:: \"x\"; Hr2|Day01|Min5|Min55_60|monday:: \"y\"; }",
+            "",
+            "a.cf:1:73: Hr2 is raised by nothing, and isn't given by -D\n\
+a.cf:1:77: Day01 is raised by nothing, and isn't given by -D\n\
+a.cf:1:83: Min5 is raised by nothing, and isn't given by -D\n\
+a.cf:1:88: Min55_60 is raised by nothing, and isn't given by -D\n\
+a.cf:1:97: monday is raised by nothing, and isn't given by -D\n",
+        ),
+        (
             "bundle agent main { methods: \"x\" usebundle => one; }\nbundle agent one { }\nbundle agent two { }",
             "",
             "a.cf:3:14: two is neither in the sequence nor called\n",
