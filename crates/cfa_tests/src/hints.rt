@@ -256,7 +256,7 @@ const RESTART: &str = "bundle agent web
 const KEY: &str = "0123456789abcdef0123456789abcdef0123456789abcdef0123456789abcdef";
 
 // The site of a run that looked at a lock, which was set before or wasn't.
-fn looked_at(alloc: Global, is_set: bool) -> Result<NotingSite<MemorySite>, Fail> {
+pub fn looked_at(alloc: Global, is_set: bool) -> Result<NotingSite<MemorySite>, Fail> {
     let mut world = World::new(alloc);
     if is_set {
         world.locks.insert(Name::from_text(alloc, KEY)?, 5)?;

@@ -1,7 +1,8 @@
 // What a person is told of a whole call.
+use crate::hints::looked_at;
 use cfa_advice::{NotingSink, NotingSite, Sources, Style};
 use cfa_base::{Bytes, Name};
-use cfa_hints::Heard;
+use cfa_hints::{Heard, wants_journal, wants_sources};
 use cfa_outside::{
     Change, MemorySink, MemorySite, Node, NodeErr, Path, Sink, Site, World, root_perms,
 };
@@ -56,6 +57,13 @@ fn sink_of(alloc: Global, line: &str) -> Result<NotingSink<MemorySink>, Fail> {
     }
 }
 
+fn style_of(is_terminal: bool) -> Style {
+    Style {
+        is_terminal,
+        has_colour: false,
+    }
+}
+
 // The first line that is told of a call with these words and this status, which put this line.
 fn check_told(
     rt: &impl Abort,
@@ -75,10 +83,7 @@ fn check_told(
         sources: &sources,
         journal: b"",
         outside: Some("a.cf: no such file"),
-        style: Style {
-            is_terminal,
-            has_colour: false,
-        },
+        style: style_of(is_terminal),
     };
     let text = heard.advice(alloc)?;
     assert_eq!(rt; text.as_str().lines().next().unwrap_or(""), told);
@@ -195,6 +200,52 @@ fn what_a_failed_promise_was_about(rt: HostRuntime) -> Result<(), Fail> {
             ("run a.cf", 2, false, line.as_str()),
             told.as_str(),
         )?;
+    }
+    Ok(())
+}
+
+// The words of a call, its status, whether its sources are read again in a pipe, and whether they are on a terminal.
+#[test]
+fn when_sources_are_read_again(rt: HostRuntime) -> Result<(), Fail> {
+    let alloc = rt.alloc();
+    let rows = [
+        ("run a.cf", 0, false, true),
+        ("check a.cf", 0, true, true),
+        ("show a.cf", 0, false, false),
+        ("show a.cf", 1, true, true),
+        ("run a.cf", 2, true, true),
+        ("check a.cf", 3, true, true),
+        ("run a.cf", 4, false, false),
+        ("check a.cf", 5, false, false),
+    ];
+    for (words, status, piped, there) in rows {
+        let words = words_of(alloc, words)?;
+        let words = words.as_slice();
+        assert!(rt; wants_sources(alloc, words, status, style_of(false))? == piped);
+        assert!(rt; wants_sources(alloc, words, status, style_of(true))? == there);
+    }
+    Ok(())
+}
+
+// The words of a call, its status, whether a lock was found that wasn't set, whether it is told on a terminal, and whether the journal is
+// read.
+#[test]
+fn when_the_journal_is_read(rt: HostRuntime) -> Result<(), Fail> {
+    let alloc = rt.alloc();
+    let rows = [
+        ("run a.cf", 0, true, true, true),
+        ("run a.cf", 2, true, true, true),
+        ("run a.cf", 0, true, false, false),
+        ("run a.cf", 0, false, true, false),
+        ("run a.cf", 4, true, true, false),
+        ("demo 4", 0, true, true, false),
+    ];
+    for (words, status, is_found, is_terminal, is_read) in rows {
+        let words = words_of(alloc, words)?;
+        let site = looked_at(alloc, is_found)?;
+        let style = style_of(is_terminal);
+        let wants = wants_journal(alloc, words.as_slice(), status, site.sights(), style)?;
+        assert!(rt; wants == is_read);
     }
     Ok(())
 }
