@@ -2,8 +2,22 @@
 
 // What each call syncs, by the last names of the paths. A record that a repair was done or is begun
 // waits, and so does the lock behind the former: a repair of a file takes three syncs, and four with
-// a lock. Behind a repair that was cut short all folders of the tree are synced.
-pub const SYNCED: &str = "== waiting
+// a lock. Behind a repair that was cut short all folders of the tree are synced. Where nothing is
+// changed nothing is.
+pub const SYNCED: &str = "== looking
+folder
+write services.tab a running enabled 0|
+write journal run 4 2|open 1 main:1@2 Z|
+folder tree
+write tree/a text
+look /a => Ok(File(4))
+read /a => text
+perms /a => 600 root root
+row a => Ok(Some(ServiceRow { running: true, enabled: true, restarts: 0 }))
+moment => Ok(None)
+tables => true
+synced => nothing
+== waiting
 file /d/a one => Ok(())
 synced => .|waiting|a|d|new|waiting|
 lock 1 => Ok(())
