@@ -1,7 +1,7 @@
 // What a person is told on standard error.
 use crate::reading::further;
 use crate::{Host, Inputs, Out};
-use cfa_advice::{Sources, Style};
+use cfa_advice::{Sights, Sources, Style, ToldLines};
 use cfa_base::Name;
 use cfa_hints::{Heard, wants_journal, wants_sources};
 use cfa_hostdir::{FailedCall, Fault, Why};
@@ -113,8 +113,29 @@ fn journal_of(alloc: Global, is_wanted: bool, inputs: &mut Inputs) -> Sources {
     }
 }
 
-// What a person is told of a call. Where there is no memory for what further is refused, that isn't told.
-fn advice_on(alloc: Global, heard: Heard<'_>) -> Result<String, AllocError> {
+// What a person is told of a call of these words that ended so, by the sources and the journal that were read for it. Where
+// there is no memory for what further is refused, that isn't told.
+fn advice_on<'a>(
+    alloc: Global,
+    words: &'a [Name],
+    status: u8,
+    told: &'a ToldLines,
+    sights: &'a Sights,
+    read: (&'a Sources, &'a Sources),
+    outside: Option<&'a str>,
+    style: Style,
+) -> Result<String, AllocError> {
+    let (sources, journal) = read;
+    let heard = Heard {
+        words,
+        status,
+        told,
+        sights,
+        sources,
+        journal: journal.named(JOURNAL).unwrap_or(&[]),
+        outside,
+        style,
+    };
     let mut text = heard.advice(alloc)?;
     if let Ok(more) = further(alloc, heard) {
         text.push_str(more.as_str())?;
@@ -137,20 +158,13 @@ fn advice(
     let sources = sources_of(alloc, is_wanted, inputs);
     let is_wanted = wants_journal(alloc, words, status, site.sights(), style)?;
     let journal = journal_of(alloc, is_wanted, inputs);
-    let heard = Heard {
-        words,
-        status,
-        told: out.told(),
-        sights: site.sights(),
-        sources: &sources,
-        journal: journal.named(JOURNAL).unwrap_or(&[]),
-        outside: match &outside {
-            Some(told) => Some(told.as_str()),
-            None => None,
-        },
-        style,
+    let sentence = match &outside {
+        Some(told) => Some(told.as_str()),
+        None => None,
     };
-    advice_on(alloc, heard)
+    let (told, sights) = (out.told(), site.sights());
+    let read = (&sources, &journal);
+    advice_on(alloc, words, status, told, sights, read, sentence, style)
 }
 
 /// Tells a person of a call that ended. Whatever becomes of it, nothing else changes.
