@@ -24,15 +24,16 @@ use Rattle.cfa_resolve.specs.declared.instances.Work.{Work}
 use Rattle.cfa_resolve.specs.declared.instances.Work.TheVariants.{Acts, Call as a_call, Report}
 use Rattle.cfa_states.specs.History.{History, Begun, Set, Raised, Reached, Listed, Told}
 use Rattle.cfa_states.specs.Tellers.{Actuated, actuated, acts_of, after_all}
-use Rattle.cfa_agent.specs.Actuations.{Mark, Done, done_by, done_on, mark_of, is_some_change, number_of, appended, changed, begun_record, refused_entry, run_record, closing_record, without_change, entries_by, entries_of}
+use Rattle.cfa_agent.specs.Actuations.{Mark, Done, done_by, done_on, mark_of, outcome_done, is_some_change, number_of, appended, changed, begun_record, refused_entry, run_record, closing_record, without_change, entries_by, entries_of}
 use Rattle.cfa_agent.specs.Journaled.{CanBeTold, CanBeToldBy, AllCanBeTold, LogsAreBracketed, RunsAreBracketed}
 use Rattle.cfa_agent.specs.Locking.{lock_entries}
 use Rattle.cfa_agent.specs.Marks.{is_of_act}
 use Rattle.cfa_agent.specs.Runs.{Start, actuations_in, done_in, has_record, history_of, log_in, log_of, run_of, work_entries}
 use Rattle.cfa_agent.specs.Standing.{at, Leads, resting, Rests}
+use Rattle.cfa_agent.specs.Stepping.{is_recorded}
 use Rattle.cfa_agent.proofs.MarkLemmas.{AreOfActs}
 use Rattle.cfa_agent.proofs.Planned.{actuated_of_acts}
-use Rattle.cfa_agent.proofs.Records.{behind_run, record_in_both, no_record_in_lock}
+use Rattle.cfa_agent.proofs.Records.{behind_run, record_in_both, no_record_in_lock, record_of_acts, record_of_added}
 use Rattle.cfa_agent.specs.Bracketed.{first_point, IsBracketedFrom, AllBracketed}
 use Rattle.cfa_agent.proofs.BracketLemmas.{front_bracketed, leads_bracketed, leads_none, leads_then, leads_record, leads_refused, within, nodes_changed, reason_fits, IsRepaired, leads_begun, leads_changed, leads_closed}
 
@@ -172,64 +173,81 @@ record_of_entries moment n instance world has done false = by_failure done.failu
   by_failure (Some reason) None = behind_run moment has _ []
   by_failure (Some reason) (Some call) = behind_run moment has _ []
 
-rests_more : (w : World) (log entries : List Entry) (b : Bool) → has_record entries ≡ b → Rests w log →
-    ((j : Option Record) → Leads (at (resting (has_record log)) j 0 (after log w)) entries (resting (has_record log || b)) 0) → Rests w (log ++ entries)
-rests_more w log entries b is rests next =
-    let P : Bool → Type 0 = λ has. Leads (first_point w) (log ++ entries) (resting has) 0 in
-    subst P (ap (λ b. has_record log || b) (sym is) ∙ sym (record_in_both log entries))
-    (leads_then (first_point w) log entries (resting (has_record log)) (resting (has_record log || b)) 0 0 rests next)
+rests_more : (had : Bool) (w : World) (log entries : List Entry) (has has' : Bool) → Rests had w log has →
+    ((j : Option Record) → Leads (at (resting has) j 0 (after log w)) entries (resting has') 0) → Rests had w (log ++ entries) has'
+rests_more had w log entries has has' rests next = leads_then (at (resting had) None 0 w) log entries (resting has) (resting has') 0 0 rests next
 
-pub rests_none : (w : World) → Rests w []
-rests_none w = leads_none positions.Start None 0 w
+pub rests_none : (had : Bool) (w : World) → Rests had w [] had
+rests_none had w = leads_none (resting had) None 0 w
 
-pub rests_lock : (w : World) (log : List Entry) (moment : ℕ) (has_locks : Bool) (instance : Instance) → Rests w log → Rests w (log ++ lock_entries moment has_locks instance)
-rests_lock w log moment has_locks instance rests =
-    rests_more w log (lock_entries moment has_locks instance) false (no_record_in_lock moment has_locks instance) rests
-    (λ j. let P : Bool → Type 0 = λ has. Leads (at (resting (has_record log)) j 0 (after log w)) (lock_entries moment has_locks instance) (resting has) 0 in
-    subst P (sym (or_false (has_record log))) (leads_lock moment has_locks instance (has_record log) j (after log w)))
+pub rests_lock : (had : Bool) (w : World) (log : List Entry) (has : Bool) (moment : ℕ) (has_locks : Bool) (instance : Instance) → Rests had w log has →
+    Rests had w (log ++ lock_entries moment has_locks instance) has
+rests_lock had w log has moment has_locks instance rests =
+    rests_more had w log (lock_entries moment has_locks instance) has has rests (λ j. leads_lock moment has_locks instance has j (after log w))
 
-rests_entries : (w : World) (log : List Entry) (moment n : ℕ) (instance : Instance) (planned : Actuated) (m : Option Mark) →
-    IsMoment moment → AreOfActs planned.changes → CanBeTold n instance (done_by planned m) → Rests w log →
-    Rests w (log ++ entries_of moment n instance (after log w) (done_by planned m) (has_record log))
+rests_entries : (had : Bool) (w : World) (log : List Entry) (has : Bool) (moment n : ℕ) (instance : Instance) (planned : Actuated) (m : Option Mark) →
+    IsMoment moment → AreOfActs planned.changes → CanBeTold n instance (done_by planned m) → Rests had w log has →
+    Rests had w (log ++ entries_of moment n instance (after log w) (done_by planned m) has) (has || is_recorded (outcome_done (done_by planned m)))
 unfolding entries_of
-rests_entries w log moment n instance planned m fits of_acts can rests =
+rests_entries had w log has moment n instance planned m fits of_acts can rests =
     let done : Done = done_by planned m in
     let there : World = after log w in
-    rests_more w log (entries_by n instance there done (run_record moment (has_record log)) done.is_begun) (done.is_begun || is_told done.failure)
-    (record_of_entries moment n instance there (has_record log) done done.is_begun) rests
-    (λ j. leads_entries moment n instance there there refl (has_record log) j done fits can (done_of_acts planned m of_acts) (done_some planned m) done.is_begun refl)
+    let told : done.is_begun || is_told done.failure ≡ is_recorded (outcome_done done) =
+    sym (record_of_entries moment n instance there has done done.is_begun) ∙ record_of_acts moment n instance there has planned m in
+    let P : Bool → Type 0 = λ b. Rests had w (log ++ entries_by n instance there done (run_record moment has) done.is_begun) (has || b) in
+    subst P told
+    (rests_more had w log (entries_by n instance there done (run_record moment has) done.is_begun) has (has || (done.is_begun || is_told done.failure)) rests
+    (λ j. leads_entries moment n instance there there refl has j done fits can (done_of_acts planned m of_acts) (done_some planned m) done.is_begun refl))
 
 -- an instance with acts, with its lock
-pub rests_acts : (w : World) (log : List Entry) (moment n : ℕ) (instance : Instance) (planned : Actuated) (m : Option Mark) (has has_locks : Bool) → has ≡ has_record log →
-    IsMoment moment → AreOfActs planned.changes → CanBeTold n instance (done_by planned m) → Rests w log →
-    Rests w (log ++ (entries_of moment n instance (after log w) (done_by planned m) has ++ lock_entries moment has_locks instance))
-rests_acts w log moment n instance planned m has has_locks is fits of_acts can rests =
-    let entries : Bool → List Entry = λ has. entries_of moment n instance (after log w) (done_by planned m) has in
+pub rests_acts : (had : Bool) (w : World) (log : List Entry) (has : Bool) (moment n : ℕ) (instance : Instance) (planned : Actuated) (m : Option Mark) (has_locks : Bool) →
+    IsMoment moment → AreOfActs planned.changes → CanBeTold n instance (done_by planned m) → Rests had w log has →
+    Rests had w (log ++ (entries_of moment n instance (after log w) (done_by planned m) has ++ lock_entries moment has_locks instance)) (has || is_recorded (outcome_done (done_by planned m)))
+rests_acts had w log has moment n instance planned m has_locks fits of_acts can rests =
+    let entries : List Entry = entries_of moment n instance (after log w) (done_by planned m) has in
     let lock : List Entry = lock_entries moment has_locks instance in
-    let P : Bool → Type 0 = λ has. Rests w (log ++ (entries has ++ lock)) in
-    subst P (sym is)
-    (subst (Rests w) (append_assoc log (entries (has_record log)) lock)
-    (rests_lock w (log ++ entries (has_record log)) moment has_locks instance (rests_entries w log moment n instance planned m fits of_acts can rests)))
+    let has' : Bool = has || is_recorded (outcome_done (done_by planned m)) in
+    let P : List Entry → Type 0 = λ log. Rests had w log has' in
+    subst P (append_assoc log entries lock)
+    (rests_lock had w (log ++ entries) has' moment has_locks instance (rests_entries had w log has moment n instance planned m fits of_acts can rests))
 
-pub rests_bracketed : (w : World) (log : List Entry) → Rests w log → AllBracketed w log
-rests_bracketed w log rests front rest is =
-    front_bracketed front rest (first_point w) (subst (IsBracketedFrom (first_point w)) is (leads_bracketed (first_point w) log (resting (has_record log)) 0 rests))
+pub rests_bracketed : (w : World) (log : List Entry) (has : Bool) → Rests false w log has → AllBracketed w log
+rests_bracketed w log has rests front rest is =
+    front_bracketed front rest (first_point w) (subst (IsBracketedFrom (first_point w)) is (leads_bracketed (first_point w) log (resting has) 0 rests))
 
 -- ---- the log of a history
 
 module _ (s : Start) (fits : IsMoment s.moment) where
-  rests_told : (h : History) (instance : Instance) (work : Work) → CanBeToldBy work (suc (actuations_in h)) instance (done_in s h instance) → Rests s.world (log_in s h) →
-      Rests s.world (log_in s h ++ (work_entries s (log_in s h) (suc (actuations_in h)) instance work ++ lock_entries s.moment s.has_locks instance))
+  abbrev Logged : List Entry → Type 0
+  Logged log = Rests false s.world log (has_record log)
+
+  logged_lock : (log : List Entry) (instance : Instance) → Logged log → Logged (log ++ lock_entries s.moment s.has_locks instance)
+  logged_lock log instance rests =
+      let lock : List Entry = lock_entries s.moment s.has_locks instance in
+      let P : Bool → Type 0 = λ has. Rests false s.world (log ++ lock) has in
+      subst P
+      (sym (record_in_both log lock ∙ ap (λ b. has_record log || b) (no_record_in_lock s.moment s.has_locks instance) ∙ or_false (has_record log)))
+      (rests_lock false s.world log (has_record log) s.moment s.has_locks instance rests)
+
+  rests_told : (h : History) (instance : Instance) (work : Work) → CanBeToldBy work (suc (actuations_in h)) instance (done_in s h instance) → Logged (log_in s h) →
+      Logged (log_in s h ++ (work_entries s (log_in s h) (suc (actuations_in h)) instance work ++ lock_entries s.moment s.has_locks instance))
   unfolding done_on
   rests_told h instance (Acts acts) can rests =
-      let planned : Actuated = actuated (acts_of instance.work) (after (log_in s h) s.world) in
-      rests_acts s.world (log_in s h) s.moment (suc (actuations_in h)) instance planned (mark_of s.marks (suc (actuations_in h))) (has_record (log_in s h)) s.has_locks refl
-      fits (actuated_of_acts (acts_of instance.work) (after (log_in s h) s.world)) can rests
-  rests_told h instance (a_call name arguments) can rests = rests_lock s.world (log_in s h) s.moment s.has_locks instance rests
-  rests_told h instance (Report content) can rests = rests_lock s.world (log_in s h) s.moment s.has_locks instance rests
+      let log : List Entry = log_in s h in
+      let n : ℕ = suc (actuations_in h) in
+      let planned : Actuated = actuated (acts_of instance.work) (after log s.world) in
+      let m : Option Mark = mark_of s.marks n in
+      let more : List Entry = entries_of s.moment n instance (after log s.world) (done_by planned m) (has_record log) ++ lock_entries s.moment s.has_locks instance in
+      let P : Bool → Type 0 = λ has. Rests false s.world (log ++ more) has in
+      subst P
+      (sym (record_in_both log more ∙ ap (λ b. has_record log || b) (record_of_added s.moment n instance (after log s.world) (has_record log) s.has_locks planned m)))
+      (rests_acts false s.world log (has_record log) s.moment n instance planned m s.has_locks
+      fits (actuated_of_acts (acts_of instance.work) (after log s.world)) can rests)
+  rests_told h instance (a_call name arguments) can rests = logged_lock (log_in s h) instance rests
+  rests_told h instance (Report content) can rests = logged_lock (log_in s h) instance rests
 
-  rests_log : (h : History) → AllCanBeTold s h → Rests s.world (log_in s h)
-  rests_log [] can = rests_none s.world
+  rests_log : (h : History) → AllCanBeTold s h → Logged (log_in s h)
+  rests_log [] can = rests_none false s.world
   rests_log (Told instance [] ∷ h) can = rests_log h can
   rests_log (Told instance (outcome ∷ others) ∷ h) can = rests_told h instance instance.work can.0 (rests_log h can.1)
   rests_log (Begun p arguments ∷ h) can = rests_log h can
@@ -239,7 +257,7 @@ module _ (s : Start) (fits : IsMoment s.moment) where
   rests_log (Listed instance status ∷ h) can = rests_log h can
 
 pub logs_bracketed : LogsAreBracketed
-logs_bracketed s h fits can = rests_bracketed s.world (log_in s h) (rests_log s fits h can)
+logs_bracketed s h fits can = rests_bracketed s.world (log_in s h) (has_record (log_in s h)) (rests_log s fits h can)
 
 pub runs_bracketed : RunsAreBracketed
 unfolding log_of

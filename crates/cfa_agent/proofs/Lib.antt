@@ -20,4 +20,8 @@ pub mod Behind
 pub mod TellLemmas
 pub mod ActsTold
 pub mod Stopping
+pub mod ShortPuts
+pub mod WholeRuns
+pub mod RunSteps
 pub mod RunTold
+pub mod AgentLemmas

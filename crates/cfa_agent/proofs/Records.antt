@@ -16,7 +16,8 @@ use Rattle.cfa_resolve.specs.declared.instances.Instance.{Instance}
 use Rattle.cfa_outcomes.specs.declared.outcomes.Outcome.TheVariants.{Kept, Repaired}
 use Rattle.cfa_states.specs.Tellers.{Actuated, outcome_by}
 use Rattle.cfa_agent.specs.Actuations.{Mark, Done, done_by, begun_by, outcome_done, is_change, is_some_change, appended, run_record, entries_of}
-use Rattle.cfa_agent.specs.Ending.{line_by, outcome_counted, is_recorded}
+use Rattle.cfa_agent.specs.Ending.{lines_by, outcome_counted}
+use Rattle.cfa_agent.specs.Stepping.{is_recorded}
 use Rattle.cfa_agent.specs.Locking.{lock_entries}
 use Rattle.cfa_agent.specs.Runs.{Start, is_record, has_record, lines_done}
 use Rattle.cfa_agent.proofs.Acting.{some_made}
@@ -63,7 +64,7 @@ module _ (moment n : ℕ) (instance : Instance) (world : World) (has : Bool) whe
   record_of_refused made next call false = behind_run moment has _ []
 
 -- an instance that isn't kept writes one
-record_of_acts : (moment n : ℕ) (instance : Instance) (world : World) (has : Bool) (planned : Actuated) (m : Option Mark) →
+pub record_of_acts : (moment n : ℕ) (instance : Instance) (world : World) (has : Bool) (planned : Actuated) (m : Option Mark) →
     has_record (entries_of moment n instance world (done_by planned m) has) ≡ is_recorded (outcome_done (done_by planned m))
 record_of_acts moment n instance world has planned None = record_of_plain moment n instance world has planned.changes planned.failure
 record_of_acts moment n instance world has planned (Some mark) =
@@ -90,11 +91,10 @@ outcome_is [] (Some reason) = refl
 outcome_is (change ∷ made) None = sym (ap (λ b. if b then Repaired else Kept) (some_made (length made)))
 outcome_is (change ∷ made) (Some reason) = refl
 
-pub line_is : (s : Start) (instance : Instance) (done : Done) (made : List Change) (failure : Option Reason) →
-    flat_map (λ line. line) (lines_done s instance done failure made) ≡ line_by instance.source (length made) failure
-line_is s instance done [] None = refl
-line_is s instance done [] (Some reason) = append-nil (failed_line instance.source (code_of reason) (word_of reason))
-line_is s instance done (change ∷ made) None =
-    append-nil (repaired_line instance.source (length (change ∷ made)))
-    ∙ sym (ap (λ b. if b then repaired_line instance.source (length (change ∷ made)) else []) (some_made (length made)))
-line_is s instance done (change ∷ made) (Some reason) = append-nil (failed_line instance.source (code_of reason) (word_of reason))
+pub lines_are : (s : Start) (instance : Instance) (done : Done) (made : List Change) (failure : Option Reason) →
+    lines_done s instance done failure made ≡ lines_by instance.source (length made) failure
+lines_are s instance done [] None = refl
+lines_are s instance done [] (Some reason) = refl
+lines_are s instance done (change ∷ made) None =
+    sym (ap (λ b. if b then repaired_line instance.source (length (change ∷ made)) ∷ [] else []) (some_made (length made)))
+lines_are s instance done (change ∷ made) (Some reason) = refl

@@ -1,162 +1,297 @@
 -- What a whole run came to.
-use Rattle.std.proofs.Common.{◌≡◌, ℕ, Bool, List, [], length, drop, Some, Ok, Err, sym, ap, subst, ◌∙◌}
+use Rattle.std.proofs.Common.{◌≡◌, ℕ, ◌≤◌, Bool, false, List, [], ◌++◌, length, drop, Some, Result, Ok, Err, refl, sym, ap, subst, ◌∙◌, arith, append-nil}
+use Rattle.std.proofs.Math.Seq.{drop-append_seam}
 use Rattle.cfa_base.specs.lemmas.Options.{each_some, one_some}
 use Rattle.cfa_base.specs.Causes.{Rose}
-use Rattle.cfa_base.specs.Shown.{Shown, Follows}
+use Rattle.cfa_base.specs.lemmas.Causes.{rose_later}
+use Rattle.cfa_base.specs.Patterns.{refuses}
+use Rattle.cfa_base.specs.Shown.{Shown, Follows, HasFailed}
+use Rattle.cfa_outside.specs.declared.sites.Entry.{Entry}
 use Rattle.cfa_outside.specs.Sites.{Told, adds}
 use Rattle.cfa_outside.specs.Sinks.{adds_bytes}
-use Rattle.cfa_output.specs.Puts.{puts_nothing, puts_then}
+use Rattle.cfa_output.specs.Puts.{puts_then}
 use Rattle.cfa_output.specs.declared.ends.Object.TheVariants.{Inputs, Site, Sink}
 use Rattle.cfa_output.specs.declared.ends.Stop.{Stop}
 use Rattle.cfa_output.specs.declared.ends.Stop.TheVariants.{Outside, Memory, Visits, Pattern}
+use Rattle.cfa_frames.specs.Frames.{Stack, beginning, rest}
+use Rattle.cfa_frames.specs.Growing.{AnswerAlike}
+use Rattle.cfa_frames.specs.Moves.{need_of, over}
+use Rattle.cfa_machine.specs.Reaching.{done_of}
+use Rattle.cfa_machine.specs.Stacks.{Stands, seen_stack}
+use Rattle.cfa_machine.specs.declared.machines.Machine.{Machine}
 use Rattle.cfa_states.specs.Builds.{BuiltOn}
-use Rattle.cfa_states.specs.Levels.{GoesTo, IsTooLarge, Stops, PatternsAre}
+use Rattle.cfa_states.specs.History.{History, Event}
+use Rattle.cfa_states.specs.Levels.{FaultsAre, IsTooLarge, Stops, PatternsAre}
 use Rattle.cfa_states.specs.Passes.{Course, goes, too_large, run}
+use Rattle.cfa_states.specs.Tellers.{Teller}
 use Rattle.cfa_states.specs.Views.{Setting}
-use Rattle.cfa_walk.specs.Walked.{HasRun}
+use Rattle.cfa_walk.specs.Turns.{StepDone}
 use Rattle.cfa_agent.specs.declared.progress.Running.{Running}
-use Rattle.std.proofs.Math.Seq.{drop-append_seam}
-use Rattle.cfa_outside.specs.declared.sites.Entry.{Entry}
 use Rattle.cfa_agent.specs.Actuations.{mark_of}
 use Rattle.cfa_agent.specs.Bracketed.{AllBracketed}
 use Rattle.cfa_agent.specs.Ending.{StopsPut}
 use Rattle.cfa_agent.specs.Marks.{marks_of}
-use Rattle.cfa_agent.specs.Ran.{added, started, counts_of, IsWhole, RunsAs, IfBothTold, StopsRun, Refuses, RunBuilds, text_too_big}
-use Rattle.cfa_agent.specs.Runs.{Counts, real, run_of, log_of, lines_of, tally_of, history_of, last_line, log_in, tally_in}
-use Rattle.cfa_agent.specs.Standing.{Given, Standing, IsBehind, Agrees, teller_of, IsFirst, since, text_in, IsWholeLog}
+use Rattle.cfa_agent.specs.Putting.{IsPut, RunsOn, StepPut, all_put, put_failed, with_taken}
+use Rattle.cfa_agent.specs.Ran.{added, started, counts_of, IsWhole, RunsAs, IfBothTold, StopsRun, Refuses, RunBuilds, RunRefuses, RefusesUnput, refuses_none, refuses_one, text_of_lines, text_too_big}
+use Rattle.cfa_agent.specs.declared.running.Tally.{Tally}
+use Rattle.cfa_agent.specs.Runs.{Counts, Start, real, run_of, log_of, lines_of, tally_of, history_of, last_line, lines_in, log_in, tally_in}
+use Rattle.cfa_agent.specs.Standing.{Given, Standing, IsBehind, Agrees, teller_of, IsFirst, Rests, since, IsWholeLog, log_of_events, lines_of_events}
 use Rattle.cfa_agent.specs.lemmas.Hosts.{adds_none}
 use Rattle.cfa_agent.proofs.BracketedLogs.{rests_none, rests_bracketed}
 use Rattle.cfa_agent.proofs.MarkLemmas.{whole_none}
+use Rattle.cfa_agent.proofs.RunSteps.{agrees_taken, agrees_untaken}
+use Rattle.cfa_agent.proofs.WholeRuns.{lines_alone, log_alone, steps_alike}
 
-abbrev given_by : (moment : ℕ) → (locks : Bool) → (before after : Told) → (out : Shown (List ℕ)) → Given
-given_by moment locks before after out = record { start = started moment locks before after; log = before.log; out = out }
+abbrev given_by : (moment : ℕ) → (locks : Bool) → (before after : Told) → Given
+given_by moment locks before after = record { start = started moment locks before after; base = []; had_record = false; log = before.log; lines = []; taken = [] }
 
 -- a run agrees with the marks of all that it added
-agrees_with_all : (moment : ℕ) (locks : Bool) (w : Standing) (before after : Told) (out : Shown (List ℕ)) → w.1.0.told ≡ Some after → Agrees w (given_by moment locks before after out)
-agrees_with_all moment locks w before after out is t told on k le =
-    let g : Given = given_by moment locks before after out in
+agrees_with_all : (moment : ℕ) (locks : Bool) (w : Standing) (before after : Told) → w.1.0.told ≡ Some after → Agrees w (given_by moment locks before after)
+agrees_with_all moment locks w before after is t told on k le =
+    let g : Given = given_by moment locks before after in
     ap (λ (t : Told). mark_of (marks_of (since g t)) k) (one_some is told)
 
 -- a run that begins has done nothing
-begins_behind : (moment : ℕ) (locks : Bool) (r : Running) (site : Shown Told) (before after : Told) (out : Shown (List ℕ)) → IsFirst moment locks r → site.told ≡ Some before →
-    IsBehind (r, (site, out)) (given_by moment locks before after out) []
-begins_behind moment locks r site before after out first is = let P : ℕ → Type 0 = λ n. IsWholeLog n [] in record {
-  moment_is = first.moment_is;
-  locks_are = first.locks_are;
-  number_is = first.number_is;
-  has_record_is = first.has_record_is;
-  counts_are = first.counts_are;
-  whole = subst P (sym first.number_is) whole_none;
-  rests = rests_none before.world;
-  told_is = is ∙ ap Some (sym (adds_none before));
-  out_is = puts_nothing out;
+begins_behind : (moment : ℕ) (locks : Bool) (r : Running) (site : Shown Told) (before after : Told) → IsFirst moment locks r → site.told ≡ Some before →
+    IsBehind (r, (site, [])) (given_by moment locks before after) []
+begins_behind moment locks r site before after first is = let P : ℕ → Type 0 = λ n. IsWholeLog n [] in record {
+  events = [];
+  is = refl;
+  came = record {
+    moment_is = first.moment_is;
+    locks_are = first.locks_are;
+    number_is = first.number_is;
+    has_record_is = first.has_record_is;
+    recorded_is = first.has_record_is;
+    counts_are = first.counts_are;
+    whole = subst P (sym first.number_is) whole_none;
+    rests = subst (Rests false before.world []) (sym first.has_record_is) (rests_none false before.world);
+    told_is = is ∙ ap Some (sym (adds_none before));
+    lines_are = refl;
+  };
 }
 
--- ---- a run that ended
+-- ---- the laws of moves
 
-ended_by : (w : Standing) (g : Given) (course : Course) → GoesTo course (λ k. IsBehind w g k) → IsWhole course × IsBehind w g (history_of course)
-ended_by w g (goes h) behind = (tt, behind)
-ended_by w g (too_large h) behind = absurd behind
+abbrev Begins : Setting → Type 0
+Begins s = (t : Teller) → rest s t (beginning s) [] ≡ run s t
 
-runs_as : (setting : Setting) (moment : ℕ) (locks : Bool) (w : Standing) (before after : Told) (out out' : Shown (List ℕ)) → w.1.0.told ≡ Some after →
-    GoesTo (run setting (real (started moment locks before after))) (λ k. IsBehind w (given_by moment locks before after out) k) →
-    Follows (adds_bytes (last_line (counts_of w.0.tally))) w.1.1 out' →
-    RunsAs setting (started moment locks before after) before after out out' w.0.tally
-unfolding run_of log_of lines_of tally_of
-runs_as setting moment locks w before after out out' is went put =
-    let g : Given = given_by moment locks before after out in
-    let ended : IsWhole (run setting (real g.start)) × IsBehind w g (history_of (run setting (real g.start))) = ended_by w g (run setting (real g.start)) went in
-    let behind : IsBehind w g (history_of (run setting (real g.start))) = ended.1 in
-    let told : w.1.0.told ≡ Some (adds (log_in g.start (history_of (run setting (real g.start)))) before) = behind.told_is in
-    let P : Counts → Type 0 = λ counts. Follows (adds_bytes (last_line counts)) w.1.1 out' in
-    record {
-      is_whole = ended.0;
-      site_is = one_some is told;
-      out_is =
-          puts_then (text_in g.start (history_of (run setting (real g.start)))) (last_line (tally_in (history_of (run setting (real g.start))))) out w.1.1 out'
-          behind.out_is (subst P behind.counts_are put);
-      tally_is = behind.counts_are;
-    }
+abbrev EndsOver : Setting → Type 0
+EndsOver s = (t : Teller) (st : Stack) (h : History) → need_of st ≡ over → rest s t st h ≡ goes h
 
-pub run_ran : (setting : Setting) (moment : ℕ) (locks : Bool) (first r : Running) (site site' : Shown Told) (out out1 out' : Shown (List ℕ)) → IsFirst moment locks first →
-    HasRun teller_of Agrees IsBehind setting (first, (site, out)) (r, (site', out1)) (Ok tt) →
-    Follows (adds_bytes (last_line (counts_of r.tally))) out1 out' →
-    IfBothTold (λ before after. RunsAs setting (started moment locks before after) before after out out' r.tally) site site'
-run_ran setting moment locks first r site site' out out1 out' begins ran put =
-    each_some site.told _ (λ before is. each_some site'.told _ (λ after is'.
-    let g : Given = given_by moment locks before after out in
-    runs_as setting moment locks (r, (site', out1)) before after out out' is'
-    ((ran g (agrees_with_all moment locks (r, (site', out1)) before after out is')).1 (begins_behind moment locks first site before after out begins is)) put))
+abbrev RestAlike : Setting → Type 0
+RestAlike s = (t u : Teller) (st : Stack) (h : History) → AnswerAlike h t u → rest s t st h ≡ rest s u st h
 
--- ---- what its journal tells
+module _ (setting : Setting) (begins : Begins setting) (ends : EndsOver setting) (alike : RestAlike setting)
+    (moment : ℕ) (locks : Bool) (first : Running) (is_first : IsFirst moment locks first)
+    (m : Machine) (stands : Stands setting m []) (is_beginning : seen_stack m ≡ beginning setting) where
+  -- what is left at the beginning is the run
+  run_left : (s : Start) (before after : Told) → s ≡ started moment locks before after →
+      rest setting (teller_of (given_by moment locks before after)) (seen_stack m) [] ≡ run setting (real (started moment locks before after))
+  run_left s before after is =
+      let start : Start = started moment locks before after in
+      let t : Teller = teller_of (given_by moment locks before after) in
+      ap (λ (st : Stack). rest setting t st []) is_beginning ∙ (alike t (real start) (beginning setting) [] (steps_alike start) ∙ begins (real start))
 
-bracketed_as : (setting : Setting) (moment : ℕ) (locks : Bool) (w : Standing) (before after : Told) (out : Shown (List ℕ)) → w.1.0.told ≡ Some after →
-    GoesTo (run setting (real (started moment locks before after))) (λ k. IsBehind w (given_by moment locks before after out) k) →
-    AllBracketed before.world (added before after)
-bracketed_as setting moment locks w before after out is went =
-    let g : Given = given_by moment locks before after out in
-    let behind : IsBehind w g (history_of (run setting (real g.start))) = (ended_by w g (run setting (real g.start)) went).1 in
-    let log : List Entry = log_in g.start (history_of (run setting (real g.start))) in
-    let told : after ≡ adds log before = one_some is behind.told_is in
-    subst (AllBracketed before.world) (sym (ap (λ (t : Told). drop (length before.log) t.log) told ∙ drop-append_seam before.log log))
-    (rests_bracketed before.world log behind.rests)
+  -- ---- a run that ended
 
-pub run_bracketed : (setting : Setting) (moment : ℕ) (locks : Bool) (first r : Running) (site site' : Shown Told) (out out1 : Shown (List ℕ)) → IsFirst moment locks first →
-    HasRun teller_of Agrees IsBehind setting (first, (site, out)) (r, (site', out1)) (Ok tt) →
-    IfBothTold (λ before after. AllBracketed before.world (added before after)) site site'
-run_bracketed setting moment locks first r site site' out out1 begins ran =
-    each_some site.told _ (λ before is. each_some site'.told _ (λ after is'.
-    let g : Given = given_by moment locks before after out in
-    bracketed_as setting moment locks (r, (site', out1)) before after out is'
-    ((ran g (agrees_with_all moment locks (r, (site', out1)) before after out is')).1 (begins_behind moment locks first site before after out begins is))))
+  -- what is known of it: its history, the log and lines of this, and its counts
+  record Ended (before after : Told) (r : Running) (put : List (List ℕ)) : Type 0 where
+    history : History
+    ran : run setting (real (started moment locks before after)) ≡ goes history
+    told_is : after ≡ adds (log_in (started moment locks before after) history) before
+    lines_are : put ≡ lines_in (started moment locks before after) history
+    counts_are : counts_of r.tally ≡ tally_in history
+    rests : Rests false before.world (log_in (started moment locks before after) history) r.has_record
 
--- ---- a run that was stopped
+  ended_by : (r : Running) (m' : Machine) (site site' : Shown Told) (out out' : Shown (List ℕ)) (pats pats' : Shown (List (List ℕ))) (before after : Told) →
+      site.told ≡ Some before → site'.told ≡ Some after → need_of (seen_stack m') ≡ over → (runs : RunsOn first r m m' site site' out out' pats pats') → Ended before after r runs.put
+  ended_by r m' site site' out out' pats pats' before after is is' nothing runs =
+      let start : Start = started moment locks before after in
+      let g : Given = given_by moment locks before after in
+      let gone = (runs.gone setting g [] (agrees_with_all moment locks (r, (site', [])) before after is')).1 stands (begins_behind moment locks first site before after is_first is) in
+      let behind : IsBehind (r, (site', [])) (with_taken runs.put g) gone.0 = gone.1.1.0 in
+      let whole : gone.0 ≡ behind.events = behind.is ∙ append-nil behind.events in
+      let log : log_of_events g behind.events ≡ log_in start gone.0 = log_alone start behind.events ∙ ap (log_in start) (sym whole) in
+      let lines : lines_of_events g behind.events ≡ lines_in start gone.0 = lines_alone start behind.events ∙ ap (lines_in start) (sym whole) in
+      let R : List Entry → Type 0 = λ log. Rests false before.world log r.has_record in
+      record {
+        history = gone.0;
+        ran = sym (run_left start before after refl) ∙ (sym gone.1.1.1 ∙ ends (teller_of g) (seen_stack m') gone.0 nothing);
+        told_is = one_some is' behind.came.told_is ∙ ap (λ (log : List Entry). adds log before) log;
+        lines_are = sym (append-nil runs.put) ∙ (behind.came.lines_are ∙ lines);
+        counts_are = behind.came.counts_are;
+        rests = subst R log behind.came.rests;
+      }
 
-large_of : (setting : Setting) (moment : ℕ) (locks : Bool) (before after : Told) → IsTooLarge (run setting (real (started moment locks before after))) → IsTooLarge (run_of setting (started moment locks before after))
-unfolding run_of
-large_of setting moment locks before after large = large
+  runs_as : (r : Running) (before after : Told) (out out1 out' : Shown (List ℕ)) (put : List (List ℕ)) → Ended before after r put →
+      Follows (adds_bytes (text_of_lines put)) out out1 → Follows (adds_bytes (last_line (counts_of r.tally))) out1 out' →
+      RunsAs setting (started moment locks before after) before after out out' r.tally
+  unfolding run_of log_of lines_of tally_of
+  runs_as r before after out out1 out' put ended lines total =
+      let start : Start = started moment locks before after in
+      let is : run setting (real start) ≡ goes ended.history = ended.ran in
+      let same : history_of (run setting (real start)) ≡ ended.history = ap history_of is in
+      let W : Course → Type 0 = λ course. IsWhole course in
+      let T : List (List ℕ) → Type 0 = λ put. Follows (adds_bytes (text_of_lines put)) out out1 in
+      let L : Counts → Type 0 = λ counts. Follows (adds_bytes (last_line counts)) out1 out' in
+      record {
+        is_whole = subst W (sym is) tt;
+        site_is = ended.told_is ∙ ap (λ (h : History). adds (log_in start h) before) (sym same);
+        out_is =
+            puts_then (text_of_lines (lines_in start (history_of (run setting (real start))))) (last_line (tally_in (history_of (run setting (real start))))) out out1 out'
+            (subst T (ended.lines_are ∙ ap (lines_in start) (sym same)) lines) (subst L (ended.counts_are ∙ ap tally_in (sym same)) total);
+        tally_is = ended.counts_are ∙ ap tally_in (sym same);
+      }
 
--- by too many visits
-pub run_large : (setting : Setting) (moment : ℕ) (locks : Bool) (first r : Running) (site site' : Shown Told) (out out' : Shown (List ℕ)) (stop : Stop) → IsFirst moment locks first → stop ≡ Visits →
-    HasRun teller_of Agrees IsBehind setting (first, (site, out)) (r, (site', out')) (Err stop) →
-    IfBothTold (λ before after. IsTooLarge (run_of setting (started moment locks before after))) site site'
-run_large setting moment locks first r site site' out out' stop begins is_visits ran =
-    let P : Stop → Type 0 = λ stop. HasRun teller_of Agrees IsBehind setting (first, (site, out)) (r, (site', out')) (Err stop) in
-    let ran' : P Visits = subst P is_visits ran in
-    each_some site.told _ (λ before is. each_some site'.told _ (λ after is'.
-    let g : Given = given_by moment locks before after out in
-    large_of setting moment locks before after
-    ((ran' g (agrees_with_all moment locks (r, (site', out')) before after out is')).1 (begins_behind moment locks first site before after out begins is))))
+  pub run_ran : (r : Running) (m' : Machine) (site site' : Shown Told) (out out1 out' : Shown (List ℕ)) (pats pats' : Shown (List (List ℕ))) → need_of (seen_stack m') ≡ over →
+      RunsOn first r m m' site site' out out1 pats pats' → Follows (adds_bytes (last_line (counts_of r.tally))) out1 out' →
+      IfBothTold (λ before after. RunsAs setting (started moment locks before after) before after out out' r.tally) site site'
+  run_ran r m' site site' out out1 out' pats pats' nothing runs total =
+      each_some site.told _ (λ before is. each_some site'.told _ (λ after is'.
+      runs_as r before after out out1 out' runs.put (ended_by r m' site site' out out1 pats pats' before after is is' nothing runs) runs.out_is total))
 
--- by a text that was refused for its size
-built_of : (setting : Setting) (text : List ℕ) (moment : ℕ) (locks : Bool) (before after : Told) → BuiltOn setting (run setting (real (started moment locks before after))) text →
-    BuiltOn setting (run_of setting (started moment locks before after)) text
-unfolding run_of
-built_of setting text moment locks before after built = built
+  -- ---- what its journal tells
 
-pub run_built : (setting : Setting) (moment : ℕ) (locks : Bool) (first r : Running) (site site' : Shown Told) (out out' : Shown (List ℕ)) (stop : Stop) → IsFirst moment locks first →
-    HasRun teller_of Agrees IsBehind setting (first, (site, out)) (r, (site', out')) (Err stop) →
-    RunBuilds setting moment locks site site' (text_too_big (Err stop))
-run_built setting moment locks first r site site' out out' (Outside object) begins ran = tt
-run_built setting moment locks first r site site' out out' Memory begins ran = tt
-run_built setting moment locks first r site site' out out' Visits begins ran = tt
-run_built setting moment locks first r site site' out out' (Pattern text) begins ran =
-    each_some site.told _ (λ before is. each_some site'.told _ (λ after is'.
-    let g : Given = given_by moment locks before after out in
-    built_of setting text moment locks before after
-    ((ran g (agrees_with_all moment locks (r, (site', out')) before after out is')).1 (begins_behind moment locks first site before after out begins is))))
+  bracketed_as : (r : Running) (before after : Told) (put : List (List ℕ)) → Ended before after r put → AllBracketed before.world (added before after)
+  bracketed_as r before after put ended =
+      let log : List Entry = log_in (started moment locks before after) ended.history in
+      subst (AllBracketed before.world) (sym (ap (λ (t : Told). drop (length before.log) t.log) ended.told_is ∙ drop-append_seam before.log log))
+      (rests_bracketed before.world log r.has_record ended.rests)
 
--- in the walk
-pub walk_stops : (site site' : Shown Told) (out out' : Shown (List ℕ)) (stop : Stop) → Stops (site.faults, out.faults) (site'.faults, out'.faults) stop → StopsRun site site' out out' stop
-walk_stops site site' out out' stop h = h
+  pub run_bracketed : (r : Running) (m' : Machine) (site site' : Shown Told) (out out1 : Shown (List ℕ)) (pats pats' : Shown (List (List ℕ))) → need_of (seen_stack m') ≡ over →
+      RunsOn first r m m' site site' out out1 pats pats' → IfBothTold (λ before after. AllBracketed before.world (added before after)) site site'
+  run_bracketed r m' site site' out out1 pats pats' nothing runs =
+      each_some site.told _ (λ before is. each_some site'.told _ (λ after is'.
+      bracketed_as r before after runs.put (ended_by r m' site site' out out1 pats pats' before after is is' nothing runs)))
 
-pub walk_refuses : (stop : Stop) (pats pats' : Shown (List (List ℕ))) → PatternsAre (Err stop) pats pats' → Refuses (text_too_big (Err stop)) pats pats'
-walk_refuses (Outside object) pats pats' h = h
-walk_refuses Memory pats pats' h = h
-walk_refuses Visits pats pats' h = h
-walk_refuses (Pattern text) pats pats' h = h
+  -- ---- a run that was stopped in a step
 
--- at the line of the total
+  module _ (r1 r' : Running) (m1 m' : Machine) (site site1 site' : Shown Told) (out out1 out' : Shown (List ℕ)) (pats pats1 pats' : Shown (List (List ℕ)))
+      (runs : RunsOn first r1 m m1 site site1 out out1 pats pats1) where
+    -- by too many visits
+    large_by : (told : List (List ℕ)) (before after : Told) → site.told ≡ Some before → site'.told ≡ Some after →
+        StepDone teller_of Agrees IsBehind (r1, (site1, [])) (r', (site', told)) m1 m' (Err Visits) → IsTooLarge (run setting (real (started moment locks before after)))
+    large_by told before after is is' done =
+        let g : Given = given_by moment locks before after in
+        let agreed = agrees_taken (r', (site', told)) g runs.put (agrees_with_all moment locks (r', (site', told)) before after is') in
+        let was = runs.gone setting g [] (agrees_untaken (r1, (site1, [])) g runs.put (done setting (with_taken runs.put g) [] agreed).0) in
+        let mid = was.1 stands (begins_behind moment locks first site before after is_first is) in
+        let past = (done setting (with_taken runs.put g) mid.0 agreed).1 mid.1.0 mid.1.1.0 in
+        subst (λ (c : Course). IsTooLarge c) (mid.1.1.1 ∙ run_left (started moment locks before after) before after refl) past.0
+
+    -- by a text that was refused for its size
+    built_by : (text : List ℕ) (told : List (List ℕ)) (before after : Told) → site.told ≡ Some before → site'.told ≡ Some after →
+        StepDone teller_of Agrees IsBehind (r1, (site1, [])) (r', (site', told)) m1 m' (Err (Pattern text)) → BuiltOn setting (run setting (real (started moment locks before after))) text
+    built_by text told before after is is' done =
+        let g : Given = given_by moment locks before after in
+        let agreed = agrees_taken (r', (site', told)) g runs.put (agrees_with_all moment locks (r', (site', told)) before after is') in
+        let was = runs.gone setting g [] (agrees_untaken (r1, (site1, [])) g runs.put (done setting (with_taken runs.put g) [] agreed).0) in
+        let mid = was.1 stands (begins_behind moment locks first site before after is_first is) in
+        let built = (done setting (with_taken runs.put g) mid.0 agreed).1 mid.1.0 mid.1.1.0 in
+        subst (λ (c : Course). BuiltOn setting c text) (mid.1.1.1 ∙ run_left (started moment locks before after) before after refl) built
+
+    abbrev Large : Type 0
+    Large = IfBothTold (λ before after. IsTooLarge (run_of setting (started moment locks before after))) site site'
+
+    abbrev Builds : List ℕ → Type 0
+    Builds text = RunBuilds setting moment locks site site' (Some text)
+
+    large_of : (before after : Told) → IsTooLarge (run setting (real (started moment locks before after))) → IsTooLarge (run_of setting (started moment locks before after))
+    unfolding run_of
+    large_of before after large = large
+
+    built_of : (text : List ℕ) (before after : Told) → BuiltOn setting (run setting (real (started moment locks before after))) text →
+        BuiltOn setting (run_of setting (started moment locks before after)) text
+    unfolding run_of
+    built_of text before after built = built
+
+    step_large : (told : List (List ℕ)) (stepped : Result Bool Stop) → stepped ≡ Err Visits → StepDone teller_of Agrees IsBehind (r1, (site1, [])) (r', (site', told)) m1 m' stepped → Large
+    step_large told stepped is done =
+        let D : Result Bool Stop → Type 0 = λ x. StepDone teller_of Agrees IsBehind (r1, (site1, [])) (r', (site', told)) m1 m' x in
+        each_some site.told _ (λ before was. each_some site'.told _ (λ after now. large_of before after (large_by told before after was now (subst D is done))))
+
+    step_built : (text : List ℕ) (told : List (List ℕ)) (stepped : Result Bool Stop) → stepped ≡ Err (Pattern text) →
+        StepDone teller_of Agrees IsBehind (r1, (site1, [])) (r', (site', told)) m1 m' stepped → Builds text
+    step_built text told stepped is done =
+        let D : Result Bool Stop → Type 0 = λ x. StepDone teller_of Agrees IsBehind (r1, (site1, [])) (r', (site', told)) m1 m' x in
+        each_some site.told _ (λ before was. each_some site'.told _ (λ after now. built_of text before after (built_by text told before after was now (subst D is done))))
+
+    pub run_large : (stop : Stop) → stop ≡ Visits → StepPut r1 r' m1 m' site1 site' out1 out' pats1 pats' (Err stop) → Large
+    run_large stop is step = by step.put where
+      by : IsPut step.told step.stepped out1 out' (Err stop) → Large
+      by (all_put same put) = step_large step.told step.stepped (sym same ∙ ap Err is) step.done
+      by (put_failed same failed) = absurd (cc)
+
+    pub run_built : (stop : Stop) → StepPut r1 r' m1 m' site1 site' out1 out' pats1 pats' (Err stop) → RunBuilds setting moment locks site site' (text_too_big (Err stop))
+    run_built (Outside object) step = tt
+    run_built Memory step = tt
+    run_built Visits step = tt
+    run_built (Pattern text) step = by step.put where
+      by : IsPut step.told step.stepped out1 out' (Err (Pattern text)) → Builds text
+      by (all_put same put) = step_built text step.told step.stepped (sym same) step.done
+      by (put_failed same failed) = absurd (cc)
+
+    -- ---- counts of faults
+
+    not_rose : Rose 0 0 → ⊥
+    not_rose rose = absurd (omega (arith, rose))
+
+    sink_stands : (told : List (List ℕ)) → Follows (adds_bytes (text_of_lines told)) out1 out' → out'.faults ≡ out.faults
+    sink_stands told put = ap (λ (o : Shown (List ℕ)). o.faults) put ∙ ap (λ (o : Shown (List ℕ)). o.faults) runs.out_is
+
+    put_stops : (told : List (List ℕ)) (stop : Stop) → FaultsAre (site1.faults, 0) (site'.faults, 0) (Err stop) → Follows (adds_bytes (text_of_lines told)) out1 out' → StopsRun site site' out out' stop
+    put_stops told (Outside Inputs) faults put = faults
+    put_stops told (Outside Site) faults put = (rose_later site.faults site1.faults site'.faults runs.faults_are faults.0, sink_stands told put)
+    put_stops told (Outside Sink) faults put = absurd (not_rose faults)
+    put_stops told Memory faults put = sink_stands told put
+    put_stops told Visits faults put = sink_stands told put
+    put_stops told (Pattern text) faults put = sink_stands told put
+
+    pub run_stops : (stop : Stop) → StepPut r1 r' m1 m' site1 site' out1 out' pats1 pats' (Err stop) → StopsRun site site' out out' stop
+    run_stops stop step = by step.put where
+      by : IsPut step.told step.stepped out1 out' (Err stop) → StopsRun site site' out out' stop
+      by (all_put same put) =
+          let F : Result Bool Stop → Type 0 = λ x. FaultsAre (site1.faults, 0) (site'.faults, 0) (done_of x) in
+          put_stops step.told stop (subst F (sym same) step.faults) put
+      by (put_failed same failed) =
+          let is : stop ≡ Outside Sink = cc in
+          let P : Stop → Type 0 = λ stop. StopsRun site site' out out' stop in
+          let R : ℕ → Type 0 = λ n. Rose n out'.faults in
+          subst P (sym is) (subst R (ap (λ (o : Shown (List ℕ)). o.faults) runs.out_is) failed.failed.rose)
+
+    -- ---- the builder of patterns
+
+    stop_refuses : (stop : Stop) → PatternsAre (Err stop) pats1 pats' → pats1 ≡ pats → RunRefuses {X = Tally} Builds (Err stop) pats pats'
+    stop_refuses (Outside Inputs) are same = are ∙ same
+    stop_refuses (Outside Site) are same = are ∙ same
+    stop_refuses (Outside Sink) are same = refuses_none (are ∙ same)
+    stop_refuses Memory are same = are ∙ same
+    stop_refuses Visits are same = are ∙ same
+    stop_refuses (Pattern text) are same = subst (λ (p : Shown (List (List ℕ))). HasFailed (refuses text) p pats') same are
+
+    unput : (told : List (List ℕ)) (stepped : Result Bool Stop) → StepDone teller_of Agrees IsBehind (r1, (site1, [])) (r', (site', told)) m1 m' stepped →
+        PatternsAre (done_of stepped) pats1 pats' → RefusesUnput Builds pats pats'
+    unput told (Ok is_more) done are = refuses_none (are ∙ runs.patterns_are)
+    unput told (Err (Outside object)) done are = refuses_none (are ∙ runs.patterns_are)
+    unput told (Err Memory) done are = refuses_none (are ∙ runs.patterns_are)
+    unput told (Err Visits) done are = refuses_none (are ∙ runs.patterns_are)
+    unput told (Err (Pattern text)) done are =
+        refuses_one text (step_built text told (Err (Pattern text)) refl done) (subst (λ (p : Shown (List (List ℕ))). HasFailed (refuses text) p pats') runs.patterns_are are)
+
+    pub run_refuses : (stop : Stop) → StepPut r1 r' m1 m' site1 site' out1 out' pats1 pats' (Err stop) → RunRefuses {X = Tally} Builds (Err stop) pats pats'
+    run_refuses stop step = by step.put where
+      by : IsPut step.told step.stepped out1 out' (Err stop) → RunRefuses {X = Tally} Builds (Err stop) pats pats'
+      by (all_put same put) =
+          let P : Result Bool Stop → Type 0 = λ x. PatternsAre (done_of x) pats1 pats' in
+          stop_refuses stop (subst P (sym same) step.patterns) runs.patterns_are
+      by (put_failed same failed) =
+          let is : stop ≡ Outside Sink = cc in
+          let P : Stop → Type 0 = λ stop. RunRefuses {X = Tally} Builds (Err stop) pats pats' in
+          subst P (sym is) (unput step.told step.stepped step.done step.patterns)
+
+-- ---- the line of the total
+
 pub total_stops : (site site' : Shown Told) (out out1 out' : Shown (List ℕ)) (stop : Stop) → out1.faults ≡ out.faults → StopsPut out1 out' stop → StopsRun site site' out out' stop
 total_stops site site' out out1 out' (Outside Inputs) same h = h
 total_stops site site' out out1 out' (Outside Site) same h = absurd h
@@ -172,8 +307,15 @@ total_builds setting moment locks site site' out1 out' Memory h = tt
 total_builds setting moment locks site site' out1 out' Visits h = tt
 total_builds setting moment locks site site' out1 out' (Pattern text) h = absurd h
 
-pub total_refuses : (out1 out' : Shown (List ℕ)) (stop : Stop) (pats pats' : Shown (List (List ℕ))) → StopsPut out1 out' stop → pats' ≡ pats → Refuses (text_too_big (Err stop)) pats pats'
-total_refuses out1 out' (Outside object) pats pats' h same = same
-total_refuses out1 out' Memory pats pats' h same = same
-total_refuses out1 out' Visits pats pats' h same = same
-total_refuses out1 out' (Pattern text) pats pats' h same = absurd h
+pub total_refuses : (B : List ℕ → Type 0) (out1 out' : Shown (List ℕ)) (stop : Stop) (pats pats' : Shown (List (List ℕ))) → StopsPut out1 out' stop → pats' ≡ pats →
+    RunRefuses {X = Tally} B (Err stop) pats pats'
+total_refuses B out1 out' (Outside Inputs) pats pats' h same = same
+total_refuses B out1 out' (Outside Site) pats pats' h same = same
+total_refuses B out1 out' (Outside Sink) pats pats' h same = refuses_none same
+total_refuses B out1 out' Memory pats pats' h same = same
+total_refuses B out1 out' Visits pats pats' h same = same
+total_refuses B out1 out' (Pattern text) pats pats' h same = absurd h
+
+-- memory is wanting before anything is done
+pub memory_stops_run : (site : Shown Told) (out : Shown (List ℕ)) (stop : Stop) → stop ≡ Memory → StopsRun site site out out stop
+memory_stops_run site out stop is = subst (StopsRun site site out out) (sym is) refl

@@ -5,12 +5,11 @@ use Rattle.cfa_base.specs.lemmas.Causes.{rose_later}
 use Rattle.cfa_base.specs.Shown.{Shown, Follows}
 use Rattle.cfa_outside.specs.declared.sites.Entry.{Entry}
 use Rattle.cfa_outside.specs.Sites.{Told, adds}
-use Rattle.cfa_outside.specs.Sinks.{adds_bytes}
 use Rattle.cfa_output.specs.declared.ends.Object.TheVariants.{Inputs, Site, Sink}
 use Rattle.cfa_output.specs.declared.ends.Stop.{Stop}
 use Rattle.cfa_output.specs.declared.ends.Stop.TheVariants.{Outside, Memory, Visits, Pattern}
 use Rattle.cfa_states.specs.Levels.{Faults, Later, Stops, IsTellersStop}
-use Rattle.cfa_agent.specs.Ending.{StopsPut, StopsTeller}
+use Rattle.cfa_agent.specs.Ending.{StopsTeller}
 use Rattle.cfa_agent.specs.Actuating.{StopsBySite}
 
 -- by the site, behind some of the work
@@ -22,19 +21,14 @@ site_stops first before after n Memory le same h = same
 site_stops first before after n Visits le same h = h
 site_stops first before after n (Pattern text) le same h = h
 
--- by the sink
-pub sink_stops : (first : Faults) (n : ℕ) (out out' : Shown (List ℕ)) (stop : Stop) → out.faults ≡ first.1 → StopsPut out out' stop → StopsTeller first (n, out'.faults) stop
-sink_stops first n out out' (Outside Inputs) same h = h
-sink_stops first n out out' (Outside Site) same h = absurd h
-sink_stops first n out out' (Outside Sink) same h = let P : ℕ → Type 0 = λ count. Rose count out'.faults in subst P same h
-sink_stops first n out out' Memory same h = h ∙ same
-sink_stops first n out out' Visits same h = h
-sink_stops first n out out' (Pattern text) same h = h
+-- by want of memory
+pub memory_stops : (first : Faults) (n m : ℕ) (stop : Stop) → m ≡ first.1 → stop ≡ Memory → StopsTeller first (n, m) stop
+memory_stops first n m stop same is = subst (StopsTeller first (n, m)) (sym is) same
 
 stops_by : (before after : Faults) (stop : Stop) → StopsTeller before after stop → Stops before after stop
 stops_by before after (Outside Inputs) h = h
 stops_by before after (Outside Site) h = h
-stops_by before after (Outside Sink) h = h
+stops_by before after (Outside Sink) h = absurd h
 stops_by before after Memory h = h
 stops_by before after Visits h = absurd h
 stops_by before after (Pattern text) h = absurd h
@@ -42,7 +36,7 @@ stops_by before after (Pattern text) h = absurd h
 own_stop : (before after : Faults) (stop : Stop) → StopsTeller before after stop → IsTellersStop stop
 own_stop before after (Outside Inputs) h = absurd h
 own_stop before after (Outside Site) h = tt
-own_stop before after (Outside Sink) h = tt
+own_stop before after (Outside Sink) h = absurd h
 own_stop before after Memory h = tt
 own_stop before after Visits h = h
 own_stop before after (Pattern text) h = h
@@ -63,8 +57,8 @@ visit_stops before after n (Err stop) h = site_stops (before.faults, n) before a
 
 -- ---- counts behind an answer
 
-pub later_told : (site site1 site' : Shown Told) (out out' : Shown (List ℕ)) (entries : List Entry) (line : List ℕ) →
-    site.faults ≤ site1.faults → Follows (adds entries) site1 site' → Follows (adds_bytes line) out out' → Later (site.faults, out.faults) (site'.faults, out'.faults)
-later_told site site1 site' out out' entries line le locked put =
+pub later_told : (site site1 site' : Shown Told) (entries : List Entry) →
+    site.faults ≤ site1.faults → Follows (adds entries) site1 site' → Later (site.faults, 0) (site'.faults, 0)
+later_told site site1 site' entries le locked =
     let P : ℕ → Type 0 = λ n. site.faults ≤ n in
-    (subst P (sym (ap (λ (s : Shown Told). s.faults) locked)) le, ap (λ (o : Shown (List ℕ)). o.faults) put)
+    (subst P (sym (ap (λ (s : Shown Told). s.faults) locked)) le, refl)

@@ -1,5 +1,5 @@
 -- Of the code alone: how an instance ends on a site, what tells it, and what stops it.
-use Rattle.std.specs.Prelude.{ℕ, ◌≡◌, ◌≤◌, ◌+◌, suc, Bool, true, false, ◌||◌, nat_lt, if◌then◌else◌, List, [], Option, Some, None, IfSome, Result, IfOk, OnOk, IfErr}
+use Rattle.std.specs.Prelude.{ℕ, ◌≡◌, ◌≤◌, ◌+◌, suc, Bool, true, false, ◌||◌, nat_lt, if◌then◌else◌, List, [], ◌∷◌, ◌++◌, Option, Some, None, IfSome, Result, IfOk, OnOk, IfErr}
 use Rattle.cfa_base.specs.Causes.{Rose}
 use Rattle.cfa_base.specs.declared.places.PromiseId.{PromiseId}
 use Rattle.cfa_base.specs.Shown.{Shown, Follows, Untouched}
@@ -23,9 +23,17 @@ use Rattle.cfa_agent.specs.declared.running.Tally.{Tally}
 use Rattle.cfa_agent.specs.Actuating.{DoesActs, done_met, StopsBySite}
 use Rattle.cfa_agent.specs.Actuations.{entries_of}
 use Rattle.cfa_agent.specs.Locking.{is_skipped, lock_entries}
+use Rattle.cfa_agent.specs.Stepping.{is_recorded}
 use Rattle.cfa_agent.specs.Standing.{Standing, teller_of, faults_of, Agrees, IsBehind}
 
 -- ---- lines
+
+-- these lines were told
+pub record LinesTold (more : List (List ℕ)) (lines lines' : List (List ℕ)) (result : Result (Unit {0}) Stop) : Type 0 where
+  pub told : OnOk result (lines' ≡ lines ++ more)
+  pub stopped : IfErr result (λ stop. stop ≡ Memory)
+
+-- ---- what is put
 
 abbrev pub StopsPut : (out out' : Shown (List ℕ)) → Stop → Type 0
 StopsPut out out' (Outside Inputs) = ⊥
@@ -35,18 +43,18 @@ StopsPut out out' Memory = out'.faults ≡ out.faults
 StopsPut out out' Visits = ⊥
 StopsPut out out' (Pattern text) = ⊥
 
--- a line was put, or the putting was stopped
-pub record LinePut (line : List ℕ) (out out' : Shown (List ℕ)) (result : Result (Unit {0}) Stop) : Type 0 where
-  pub put : OnOk result (Follows (adds_bytes line) out out')
+-- these bytes were put, or the putting was stopped
+pub record TextPut (text : List ℕ) (out out' : Shown (List ℕ)) (result : Result (Unit {0}) Stop) : Type 0 where
+  pub put : OnOk result (Follows (adds_bytes text) out out')
   pub stopped : IfErr result (StopsPut out out')
 
 -- a kept instance has none
-abbrev pub line_by : PromiseId → (changes : ℕ) → (failure : Option Reason) → List ℕ
-line_by id changes (Some reason) = failed_line id (code_of reason) (word_of reason)
-line_by id changes None = if nat_lt 0 changes then repaired_line id changes else []
+abbrev pub lines_by : PromiseId → (changes : ℕ) → (failure : Option Reason) → List (List ℕ)
+lines_by id changes (Some reason) = failed_line id (code_of reason) (word_of reason) ∷ []
+lines_by id changes None = if nat_lt 0 changes then repaired_line id changes ∷ [] else []
 
-abbrev pub line_ended : PromiseId → Actuation → List ℕ
-line_ended id a = line_by id a.changes a.failure
+abbrev pub lines_ended : PromiseId → Actuation → List (List ℕ)
+lines_ended id a = lines_by id a.changes a.failure
 
 -- ---- counts
 
@@ -56,12 +64,6 @@ outcome_counted changes None = if nat_lt 0 changes then Repaired else Kept
 
 abbrev pub outcome_ended : Actuation → Outcome
 outcome_ended a = outcome_counted a.changes a.failure
-
--- a record tells it
-abbrev pub is_recorded : Outcome → Bool
-is_recorded Kept = false
-is_recorded Repaired = true
-is_recorded Failed = true
 
 abbrev pub one_ended : Outcome → Tally → Tally
 one_ended Kept tally = record tally { kept = tally.kept + 1 }
@@ -111,12 +113,11 @@ pub record Settles (r r' : Running) (instance : Instance) (outcome : Outcome) (b
 
 -- ---- who tells
 
--- the cause of a stop: an object of the outside, whose count of faults rose, or want of memory; but for a failed put the count of
--- the sink stands
+-- the cause of a stop: the site, whose count of faults rose, or want of memory
 abbrev pub StopsTeller : (before after : Faults) → Stop → Type 0
 StopsTeller before after (Outside Inputs) = ⊥
 StopsTeller before after (Outside Site) = Rose before.0 after.0 × (after.1 ≡ before.1)
-StopsTeller before after (Outside Sink) = Rose before.1 after.1
+StopsTeller before after (Outside Sink) = ⊥
 StopsTeller before after Memory = after.1 ≡ before.1
 StopsTeller before after Visits = ⊥
 StopsTeller before after (Pattern text) = ⊥

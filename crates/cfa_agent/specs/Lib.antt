@@ -8,6 +8,9 @@ pub mod Ran
 pub mod Digesting
 pub mod Actuating
 pub mod Locking
+pub mod Stepping
 pub mod Standing
 pub mod Ending
+pub mod Putting
+pub mod Agents
 pub mod lemmas

@@ -12,6 +12,7 @@ use Rattle.cfa_outside.specs.declared.worlds.World.{World}
 use Rattle.cfa_outside.specs.Sites.{Told, adds}
 use Rattle.cfa_outside.specs.Sinks.{adds_bytes}
 use Rattle.cfa_output.specs.declared.ends.Stop.{Stop}
+use Rattle.cfa_output.specs.declared.ends.Object.TheVariants.{Inputs, Site, Sink}
 use Rattle.cfa_output.specs.declared.ends.Stop.TheVariants.{Outside, Memory, Visits, Pattern}
 use Rattle.cfa_states.specs.Builds.{BuiltOn}
 use Rattle.cfa_states.specs.Levels.{Stops}
@@ -43,9 +44,13 @@ IsWhole (too_large h) = ⊥
 abbrev pub counts_of : Tally → Counts
 counts_of tally = record { kept = tally.kept; repaired = tally.repaired; failed = tally.failed; skipped = tally.skipped }
 
+-- what lines put
+abbrev pub text_of_lines : List (List ℕ) → List ℕ
+text_of_lines lines = flat_map (λ line. line) lines
+
 -- the lines of a run that ended, with the total behind them
 abbrev pub text_of : Setting → Start → List ℕ
-text_of setting s = flat_map (λ line. line) (lines_of setting s) ++ last_line (tally_of setting s)
+text_of setting s = text_of_lines (lines_of setting s) ++ last_line (tally_of setting s)
 
 -- a run of the setting did, put and counted what its definition says
 pub record RunsAs (setting : Setting) (s : Start) (before after : Told) (out out' : Shown (List ℕ)) (tally : Tally) : Type 0 where
@@ -82,3 +87,17 @@ RunBuilds setting moment has_locks site site' (Some text) =
 abbrev pub Refuses : Option (List ℕ) → (pats pats' : Shown (List (List ℕ))) → Type 0
 Refuses None pats pats' = pats' ≡ pats
 Refuses (Some text) pats pats' = HasFailed (refuses text) pats pats'
+
+-- where a line of the step couldn't be put that was so stopped, the run ends by that
+pub data RefusesUnput (Builds : List ℕ → Type 0) (pats pats' : Shown (List (List ℕ))) : Type 0 where
+  refuses_none : pats' ≡ pats → RefusesUnput Builds pats pats'
+  refuses_one : (text : List ℕ) → Builds text → HasFailed (refuses text) pats pats' → RefusesUnput Builds pats pats'
+
+abbrev pub RunRefuses : {X : Type 0} → (Builds : List ℕ → Type 0) → Result X Stop → (pats pats' : Shown (List (List ℕ))) → Type 0
+RunRefuses Builds (Ok answer) pats pats' = pats' ≡ pats
+RunRefuses Builds (Err (Outside Inputs)) pats pats' = pats' ≡ pats
+RunRefuses Builds (Err (Outside Site)) pats pats' = pats' ≡ pats
+RunRefuses Builds (Err (Outside Sink)) pats pats' = RefusesUnput Builds pats pats'
+RunRefuses Builds (Err Memory) pats pats' = pats' ≡ pats
+RunRefuses Builds (Err Visits) pats pats' = pats' ≡ pats
+RunRefuses Builds (Err (Pattern text)) pats pats' = HasFailed (refuses text) pats pats'

@@ -1,5 +1,6 @@
 -- Of the code alone: with what a run on a site agrees as far as it was made.
-use Rattle.std.specs.Prelude.{ℕ, ◌≡◌, ◌≤◌, List, ◌++◌, All, Bool, true, false, length, drop, flat_map, Option, Some, ◌∷◌, IsTrue}
+use Rattle.std.specs.Prelude.{ℕ, ◌≡◌, ◌≤◌, List, [], ◌++◌, All, Bool, true, false, ◌||◌, length, drop, Option, Some, None, ◌∷◌, IsTrue}
+use Rattle.std.proofs.Common.{ap}
 use Rattle.std.proofs.lemmas.Bool.{false≢true}
 use Rattle.cfa_outside.specs.declared.sites.Entry.{Entry}
 use Rattle.cfa_journal.specs.declared.positions.Position.{Position}
@@ -7,18 +8,18 @@ use Rattle.cfa_journal.specs.declared.positions.Position.TheVariants as position
 use Rattle.cfa_journal.specs.declared.positions.Version.TheVariants.{Two}
 use Rattle.cfa_journal.specs.declared.records.Record.{Record}
 use Rattle.cfa_agent.specs.Actuations.{Mark, mark_of}
-use Rattle.cfa_agent.specs.Bracketed.{Point, first_point, IsBracketedFrom}
+use Rattle.cfa_agent.specs.Bracketed.{Point, IsBracketedFrom}
 use Rattle.cfa_outside.specs.declared.worlds.World.{World}
 use Rattle.cfa_agent.specs.Marks.{marks_of}
-use Rattle.cfa_base.specs.Shown.{Shown, Follows}
+use Rattle.cfa_base.specs.Shown.{Shown}
 use Rattle.cfa_outside.specs.Sites.{Told, adds, after}
-use Rattle.cfa_outside.specs.Sinks.{adds_bytes}
 use Rattle.cfa_states.specs.History.{History, Event, Begun, Set, Raised, Reached, Listed, Told as Heard}
 use Rattle.cfa_states.specs.Levels.{Faults, is_quiet}
 use Rattle.cfa_states.specs.Tellers.{Teller}
 use Rattle.cfa_agent.specs.declared.progress.Running.{Running}
 use Rattle.cfa_agent.specs.Ran.{counts_of}
-use Rattle.cfa_agent.specs.Runs.{Start, Counts, no_counts, real, actuations_in, has_record, log_in, lines_in, tally_in}
+use Rattle.cfa_agent.specs.Runs.{Counts, Start, no_counts, actuations_in, has_record, tally_in}
+use Rattle.cfa_agent.specs.Stepping.{stepper, recorded_in, log_since, world_since, lines_since}
 
 -- A log whose marks stay, whatever is added to it.
 
@@ -49,28 +50,34 @@ abbrev pub resting : (has_record : Bool) → Position
 resting false = positions.Start
 resting true = positions.Between Two
 
-abbrev pub Rests : World → List Entry → Type 0
-Rests world log = Leads (first_point world) log (resting (has_record log)) 0
+-- from where a run stands on a world, a log leads to where it stands then
+abbrev pub Rests : (had_record : Bool) → World → List Entry → (has_record : Bool) → Type 0
+Rests had_record world log has = Leads (at (resting had_record) None 0 world) log (resting has) 0
 
--- With what a run on a site agrees as far as it was made, and what it came to. Which calls of the site fail is
--- known of the entries alone that the run has added so far. So it agrees with each run of the definition that
+-- With what steps on a site agree as far as they were made, and what they came to. Which calls of the site fail is
+-- known of the entries alone that they have added so far. So they agree with each run of the definition that
 -- meets their marks, up to the instance that was actuated last.
 
--- a run's start, what happened on its site before it, and what its sink showed
+-- where steps on a site begin: their start, the history behind which they stand, whether this has a record, what happened on the
+-- site before, and the lines that weren't taken; and the lines that were taken since
 pub record Given : Type 0 where
   pub start : Start
+  pub base : History
+  pub had_record : Bool
   pub log : List Entry
-  pub out : Shown (List ℕ)
+  pub lines : List (List ℕ)
+  pub taken : List (List ℕ)
 
--- who tells how instances end, with what its site and its sink show
+-- who tells how instances end, with what its site shows and the lines that weren't taken
 abbrev pub Standing : Type 0
-Standing = Running × (Shown Told × Shown (List ℕ))
+Standing = Running × (Shown Told × List (List ℕ))
 
 abbrev pub teller_of : Given → Teller
-teller_of g = real g.start
+teller_of g = stepper g.start g.base g.had_record
 
+-- no line fails
 abbrev pub faults_of : Standing → Faults
-faults_of w = (w.1.0.faults, w.1.1.faults)
+faults_of w = (w.1.0.faults, 0)
 
 -- ---- with what it agrees
 
@@ -105,32 +112,52 @@ pub record IsFirst (moment : ℕ) (locks : Bool) (r : Running) : Type 0 where
 abbrev pub first_told : Given → Told
 first_told g = record { world = g.start.world; log = g.log }
 
--- this was written, put and counted, of so many instances with acts
-pub record CameTo (w : Standing) (g : Given) (log : List Entry) (number : ℕ) (text : List ℕ) (counts : Counts) : Type 0 where
+-- this was written, told and counted since, of so many instances with acts in all
+pub record CameTo (w : Standing) (g : Given) (log : List Entry) (lines : List (List ℕ)) (number : ℕ) (recorded : Bool) (counts : Counts) : Type 0 where
   pub moment_is : w.0.moment ≡ g.start.moment
   pub locks_are : w.0.locks ≡ g.start.has_locks
   pub number_is : w.0.number ≡ number
-  pub has_record_is : w.0.has_record ≡ has_record log
+  pub has_record_is : w.0.has_record ≡ g.had_record || has_record log
+  pub recorded_is : w.0.has_record ≡ recorded
   pub counts_are : counts_of w.0.tally ≡ counts
   pub whole : IsWholeLog w.0.number log
-  pub rests : Rests g.start.world log
+  pub rests : Rests g.had_record g.start.world log w.0.has_record
   pub told_is : w.1.0.told ≡ Some (adds log (first_told g))
-  pub out_is : Follows (adds_bytes text) g.out w.1.1
+  pub lines_are : g.taken ++ w.1.1 ≡ g.lines ++ lines
 
--- the lines of a history, one after the other
-abbrev pub text_in : Start → History → List ℕ
-text_in s h = flat_map (λ line. line) (lines_in s h)
+abbrev pub log_of_events : Given → List Event → List Entry
+log_of_events g = log_since g.start g.base g.had_record
 
-abbrev pub IsBehind : Standing → Given → History → Type 0
-IsBehind w g h = CameTo w g (log_in g.start h) (actuations_in h) (text_in g.start h) (tally_in h)
+abbrev pub world_of_events : Given → List Event → World
+world_of_events g = world_since g.start g.base g.had_record
+
+abbrev pub lines_of_events : Given → List Event → List (List ℕ)
+lines_of_events g = lines_since g.start g.base g.had_record
+
+-- by these events, to this history
+abbrev pub CameBy : Standing → Given → List Event → History → Type 0
+CameBy w g events h = CameTo w g (log_of_events g events) (lines_of_events g events) (actuations_in h) (recorded_in h) (tally_in h)
+
+pub record IsBehind (w : Standing) (g : Given) (h : History) : Type 0 where
+  pub events : List Event
+  pub is : h ≡ events ++ g.base
+  pub came : CameBy w g events h
 
 -- What a run came to stands over the events that it needn't hear of.
 
+stays : (w : Standing) (g : Given) (events : List Event) (event : Event) (h : History) → IsTrue (is_quiet event) →
+    CameBy w g events h → CameBy w g (event ∷ events) (event ∷ h)
+stays w g events (Begun path arguments) h quiet came = came
+stays w g events (Set path name datum) h quiet came = came
+stays w g events (Raised place class status source) h quiet came = came
+stays w g events (Reached home promise guard sets visits) h quiet came = came
+stays w g events (Listed instance status) h quiet came = came
+stays w g events (Heard instance outcomes) h quiet came = absurd (false≢true quiet)
+
 pub stays_behind : (w : Standing) (g : Given) (event : Event) (h : History) →
     IsTrue (is_quiet event) → IsBehind w g h → IsBehind w g (event ∷ h)
-stays_behind w g (Begun path arguments) h quiet behind = behind
-stays_behind w g (Set path name datum) h quiet behind = behind
-stays_behind w g (Raised place class status source) h quiet behind = behind
-stays_behind w g (Reached home promise guard sets visits) h quiet behind = behind
-stays_behind w g (Listed instance status) h quiet behind = behind
-stays_behind w g (Heard instance outcomes) h quiet behind = absurd (false≢true quiet)
+stays_behind w g event h quiet behind = record {
+  events = event ∷ behind.events;
+  is = ap (λ (l : List Event). event ∷ l) behind.is;
+  came = stays w g behind.events event h quiet behind.came;
+}

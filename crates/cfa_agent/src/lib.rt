@@ -2,6 +2,7 @@
 #![tactic(auto)]
 
 mod actuating;
+mod agents;
 mod digesting;
 mod laws;
 mod locking;
@@ -11,5 +12,6 @@ mod recording;
 mod running;
 mod telling;
 
+pub use agents::{Agent, Progress, Stepped};
 pub use laws::{bracketed_logs_tell, fronts_are_bracketed, logs_are_bracketed};
 pub use running::{Tally, run};

@@ -1,19 +1,27 @@
 // A run of a policy on a host.
-ghost use Rattle.std.specs.Prelude.{◌≡◌, ◌≤◌, IfErr, IfOk, IsErrOf, OnOk};
+ghost use Rattle.std.specs.Prelude.{◌≡◌, ◌<◌, ◌≤◌, IfErr, IfOk, IsErrOf, OnOk, Some, false, true};
+ghost use Rattle.cfa_frames.specs.Moves.{need_of, over};
+ghost use Rattle.cfa_machine.specs.Stacks.{Holds, Stands, seen_stack};
+ghost use Rattle.cfa_states.specs.History.{History};
 ghost use Rattle.cfa_states.specs.Levels.{IsTooLarge};
+ghost use Rattle.cfa_states.specs.Views.{Setting};
 ghost use Rattle.cfa_walk.specs.Settings.{setting_of};
+ghost use Rattle.cfa_walk.specs.Turns.{machine_weight};
 ghost use Rattle.cfa_agent.specs.Runs.{run_of};
 ghost use Rattle.cfa_agent.specs.Bracketed.{AllBracketed};
+ghost use Rattle.cfa_agent.specs.Putting.{RunEnds, StepPut};
 ghost use Rattle.cfa_agent.specs.Standing.{IsFirst};
-ghost use Rattle.cfa_agent.specs.Ran.{added, started, RunsAs, RunBuilds, IfBothTold, text_too_big, StopsRun, Refuses};
+ghost use Rattle.cfa_agent.specs.Ran.{added, started, RunsAs, RunBuilds, IfBothTold, text_too_big, StopsRun, RunRefuses};
 
 use crate::progress::Running;
-use crate::putting::put_total;
+use crate::putting::{put_lines, put_total};
 use cfa_base::{LAST_MOMENT, Patterns};
+use cfa_frames::{histories_only_grow, moves_keep_what_is_left};
+use cfa_machine::Machine;
 use cfa_output::Stop;
 use cfa_outside::{Sink, Site};
 use cfa_schema::Checked;
-use cfa_walk::Context;
+use cfa_walk::{Context, step};
 use std::alloc::Global;
 
 /// How many instances were kept, repaired, failed and skipped.
@@ -25,8 +33,8 @@ pub struct Tally {
     pub skipped: u64,
 }
 
-// A run that begins.
-fn begin(moment: u64, locks: bool) -> Running
+/// A run that begins.
+pub(crate) fn begin(moment: u64, locks: bool) -> Running
     requires { moment ≤ LAST_MOMENT }
     ensures { IsFirst moment locks result }
 {
@@ -44,8 +52,57 @@ fn begin(moment: u64, locks: bool) -> Running
     }
 }
 
-/// Runs a policy: its common bundles, and then each bundle of its sequence in three passes. Each line is put as soon as it
-/// stands, and the line of the total at the end.
+// Makes a step, and puts its lines, also those that stand before what stops it.
+fn step_on<S: Site, O: Sink, P: Patterns>(
+    alloc: Global,
+    machine: &mut Machine<'_>,
+    running: &mut Running,
+    site: &mut S,
+    out: &mut O,
+    pats: &mut P,
+) -> Result<bool, Stop>
+    requires holds { Holds machine.old }
+    requires stands { (s : Setting) × ((h : History) × Stands s machine.old h) }
+    ensures put { StepPut running.old running.new machine.old machine.new
+        (S.shown site.old) (S.shown site.new) (O.shown out.old) (O.shown out.new)
+        (P.shown pats.old) (P.shown pats.new) result }
+    ensures over { IfOk result (λ is_more. is_more ≡ false
+        → need_of (seen_stack machine.new) ≡ over) }
+    ensures holds { OnOk result (Holds machine.new) }
+    ensures stands { OnOk result ((s : Setting) × ((h : History) × Stands s machine.new h)) }
+    ensures lighter { IfOk result (λ is_more. is_more ≡ true
+        → machine_weight machine.new < machine_weight machine.old) }
+{
+    let mut lines = Vec::new(alloc);
+    let stepped = step(alloc, machine, running, site, &mut lines, pats);
+    put_lines(lines.as_slice(), out)?;
+    stepped
+}
+
+// Makes steps until nothing is left.
+fn run_on<S: Site, O: Sink, P: Patterns>(
+    alloc: Global,
+    machine: &mut Machine<'_>,
+    running: &mut Running,
+    site: &mut S,
+    out: &mut O,
+    pats: &mut P,
+) -> Result<(), Stop>
+    requires holds { Holds machine.old }
+    requires stands { (s : Setting) × ((h : History) × Stands s machine.old h) }
+    ensures { RunEnds running.old running.new machine.old machine.new
+        (S.shown site.old) (S.shown site.new) (O.shown out.old) (O.shown out.new)
+        (P.shown pats.old) (P.shown pats.new) result }
+{
+    loop {
+        if !step_on(alloc, machine, running, site, out, pats)? {
+            return Ok(());
+        }
+    }
+}
+
+/// Runs a policy: its common bundles, and then each bundle of its sequence in three passes. Its lines are put
+/// behind each step, which ends with the actuation of an instance, and the line of the total at the end.
 ///
 /// With `locks` an instance whose lock was last set too few minutes ago is skipped, and each other one sets its lock when it
 /// has ended. `moment` is the time in seconds since 1970-01-01T00:00:00Z.
@@ -74,14 +131,20 @@ pub fn run<S: Site, O: Sink, P: Patterns>(
         (S.shown site.old) (S.shown site.new) }
     ensures stopped { IfErr result
         (StopsRun (S.shown site.old) (S.shown site.new) (O.shown out.old) (O.shown out.new)) }
-    // A pattern that stops a run is one that it builds.
-    ensures patterns { Refuses (text_too_big result) (P.shown pats.old) (P.shown pats.new) }
+    // A pattern that stops a run is one that it builds; where a line that stood before it can't be put, that ends the run.
+    ensures patterns { RunRefuses (λ text. RunBuilds (setting_of checked.now context.now) moment locks
+        (S.shown site.old) (S.shown site.new) (Some text)) result
+        (P.shown pats.old) (P.shown pats.new) }
     ensures built { RunBuilds (setting_of checked.now context.now) moment locks
         (S.shown site.old) (S.shown site.new) (text_too_big result) }
 {
+    moves_keep_what_is_left();
+    histories_only_grow();
+    let mut machine = Machine::new(alloc, checked, &context.classes, false)?;
     let mut running = begin(moment, locks);
-    cfa_walk::run(alloc, checked, context, &mut running, site, out, pats)?;
-    let tally = running.tally;
-    put_total(alloc, tally, out)?;
-    Ok(tally)
+    let ended = run_on(alloc, &mut machine, &mut running, site, out, pats);
+    drop(machine);
+    ended?;
+    put_total(alloc, running.tally, out)?;
+    Ok(running.tally)
 }

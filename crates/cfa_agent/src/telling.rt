@@ -4,19 +4,20 @@ ghost use Rattle.cfa_acts.specs.Acts.{IsAct};
 ghost use Rattle.cfa_schema.specs.Laws.{IsCounted};
 ghost use Rattle.cfa_resolve.specs.declared.instances.Work.TheVariants as Work;
 ghost use Rattle.cfa_outcomes.specs.declared.outcomes.Outcome.{Outcome as AnyOutcome};
-ghost use Rattle.cfa_agent.specs.Ending.{outcome_ended, is_recorded, one_ended, tallied, heard, acted_on, Hears, ActsNext, Settles, Tells};
+ghost use Rattle.cfa_agent.specs.Stepping.{is_recorded};
+ghost use Rattle.cfa_agent.specs.Ending.{outcome_ended, one_ended, tallied, heard, acted_on, Hears, ActsNext, Settles, Tells};
 
 use crate::actuating::{Actuation, actuate};
 use crate::laws::have_names;
 use crate::locking::{is_skipped, set_lock};
 use crate::progress::Running;
-use crate::putting::{put_ended, put_report};
+use crate::putting::{tell_ended, tell_text};
 use crate::running::Tally;
 use cfa_acts::Act;
 use cfa_base::{Name, NoMemory};
 use cfa_outcomes::Outcome;
 use cfa_output::Stop;
-use cfa_outside::{Sink, Site};
+use cfa_outside::Site;
 use cfa_resolve::{Instance, Work};
 use cfa_statuses::Status;
 use cfa_walk::{Ending, Teller};
@@ -146,85 +147,85 @@ fn settle<S: Site>(
 
 // ---- by what an instance asks for
 
-fn tell_acts<S: Site, O: Sink>(
+fn tell_acts<S: Site>(
     alloc: Global,
     running: &mut Running,
     instance: &Instance,
     acts: &[Act],
     site: &mut S,
-    out: &mut O,
+    lines: &mut Vec<Name>,
 ) -> Result<Outcome, Stop>
     requires asked { instance.now.work ≡ Work.Acts acts.now }
     requires acts { All IsAct acts.now }
     requires source { IsCounted instance.now.source }
     ensures { (called : AnyOutcome) →
-        Tells (running.old, (S.shown site.old, O.shown out.old))
-        (running.new, (S.shown site.new, O.shown out.new)) instance.now called result }
+        Tells (running.old, (S.shown site.old, lines.old.items))
+        (running.new, (S.shown site.new, lines.new.items)) instance.now called result }
 {
     have_names(acts);
     let ended = act(alloc, running, instance, acts, site)?;
     let outcome = outcome_of(ended);
     settle(alloc, running, instance, outcome, site)?;
-    put_ended(alloc, &instance.source, ended, out)?;
+    tell_ended(alloc, &instance.source, ended, lines)?;
     Ok(outcome)
 }
 
-fn tell_report<S: Site, O: Sink>(
+fn tell_report<S: Site>(
     alloc: Global,
     running: &mut Running,
     instance: &Instance,
     text: &Name,
     site: &mut S,
-    out: &mut O,
+    lines: &mut Vec<Name>,
 ) -> Result<Outcome, Stop>
     requires { instance.now.work ≡ Work.Report text.now }
     ensures { (called : AnyOutcome) →
-        Tells (running.old, (S.shown site.old, O.shown out.old))
-        (running.new, (S.shown site.new, O.shown out.new)) instance.now called result }
+        Tells (running.old, (S.shown site.old, lines.old.items))
+        (running.new, (S.shown site.new, lines.new.items)) instance.now called result }
 {
     settle(alloc, running, instance, Outcome::Kept, site)?;
-    put_report(alloc, text, out)?;
+    tell_text(alloc, text, lines)?;
     Ok(Outcome::Kept)
 }
 
 // Makes an instance end. A call has ended with its bundle, and a report is kept.
-fn tell_instance<S: Site, O: Sink>(
+fn tell_instance<S: Site>(
     alloc: Global,
     running: &mut Running,
     instance: &Instance,
     called: Outcome,
     site: &mut S,
-    out: &mut O,
+    lines: &mut Vec<Name>,
 ) -> Result<Outcome, Stop>
     requires { IsCounted instance.now.source }
-    ensures { Tells (running.old, (S.shown site.old, O.shown out.old))
-        (running.new, (S.shown site.new, O.shown out.new)) instance.now called result }
+    ensures { Tells (running.old, (S.shown site.old, lines.old.items))
+        (running.new, (S.shown site.new, lines.new.items)) instance.now called result }
 {
     match &instance.work {
-        Work::Acts(acts) => tell_acts(alloc, running, instance, acts.as_slice(), site, out),
+        Work::Acts(acts) => tell_acts(alloc, running, instance, acts.as_slice(), site, lines),
         Work::Call(_, _) => {
             settle(alloc, running, instance, called, site)?;
             Ok(called)
         }
-        Work::Report(text) => tell_report(alloc, running, instance, text, site, out),
+        Work::Report(text) => tell_report(alloc, running, instance, text, site, lines),
     }
 }
 
-impl<S: Site, O: Sink> Teller<S, O> for Running {
+impl<S: Site> Teller<S, Vec<Name>> for Running {
     ghost use Rattle.cfa_agent.specs.Standing.{Given, teller_of, faults_of, Agrees, IsBehind, stays_behind};
 
     ghost given = { Given };
 
     ghost teller = { teller_of };
 
-    ghost agrees = { λ w g. Agrees (w.0, (S.shown w.1.0, O.shown w.1.1)) g };
+    ghost agrees = { λ w g. Agrees (w.0, (S.shown w.1.0, w.1.1.items)) g };
 
-    ghost behind = { λ w g h. IsBehind (w.0, (S.shown w.1.0, O.shown w.1.1)) g h };
+    ghost behind = { λ w g h. IsBehind (w.0, (S.shown w.1.0, w.1.1.items)) g h };
 
-    ghost faults = { λ w. faults_of (w.0, (S.shown w.1.0, O.shown w.1.1)) };
+    ghost faults = { λ w. faults_of (w.0, (S.shown w.1.0, w.1.1.items)) };
 
     ghost steady = { λ w g event h quiet b.
-        stays_behind (w.0, (S.shown w.1.0, O.shown w.1.1)) g event h quiet b };
+        stays_behind (w.0, (S.shown w.1.0, w.1.1.items)) g event h quiet b };
 
     fn visit(
         &mut self,
@@ -232,7 +233,7 @@ impl<S: Site, O: Sink> Teller<S, O> for Running {
         instance: &Instance,
         _status: Status,
         site: &mut S,
-        _out: &mut O,
+        _lines: &mut Vec<Name>,
     ) -> Result<bool, Stop> {
         hear(alloc, self, instance, site)
     }
@@ -243,9 +244,9 @@ impl<S: Site, O: Sink> Teller<S, O> for Running {
         instance: &Instance,
         called: Outcome,
         site: &mut S,
-        out: &mut O,
+        lines: &mut Vec<Name>,
     ) -> Result<Ending, Stop> {
-        match tell_instance(alloc, self, instance, called, site, out) {
+        match tell_instance(alloc, self, instance, called, site, lines) {
             Ok(outcome) => Ok(Ending::One(outcome)),
             Err(stop) => Err(stop),
         }

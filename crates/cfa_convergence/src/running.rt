@@ -4,7 +4,7 @@ ghost use Rattle.cfa_states.specs.Levels.{IsTooLarge};
 ghost use Rattle.cfa_walk.specs.Settings.{setting_of};
 ghost use Rattle.cfa_agent.specs.Bracketed.{AllBracketed};
 ghost use Rattle.cfa_agent.specs.Runs.{run_of};
-ghost use Rattle.cfa_agent.specs.Ran.{added, started, RunsAs, RunBuilds, IfBothTold, text_too_big, StopsRun, Refuses};
+ghost use Rattle.cfa_agent.specs.Ran.{added, started, RunsAs, RunBuilds, IfBothTold, text_too_big, StopsRun, RunRefuses};
 ghost use Rattle.cfa_conflict.specs.Analyses.{analysis_of};
 ghost use Rattle.cfa_conflict.specs.declared.verdicts.Verdict as verdicts;
 ghost use Rattle.cfa_convergence.specs.Settled.{Settles};
@@ -46,7 +46,9 @@ pub fn run<S: Site, O: Sink, P: Patterns>(
         (S.shown site.old) (S.shown site.new) }
     ensures stopped { IfErr result
         (StopsRun (S.shown site.old) (S.shown site.new) (O.shown out.old) (O.shown out.new)) }
-    ensures patterns { Refuses (text_too_big result) (P.shown pats.old) (P.shown pats.new) }
+    ensures patterns { RunRefuses (λ text. RunBuilds (setting_of checked.now context.now) moment locks
+        (S.shown site.old) (S.shown site.new) (Some text)) result
+        (P.shown pats.old) (P.shown pats.new) }
     ensures built { RunBuilds (setting_of checked.now context.now) moment locks
         (S.shown site.old) (S.shown site.new) (text_too_big result) }
 {

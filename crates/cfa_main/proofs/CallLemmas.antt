@@ -25,7 +25,7 @@ use Rattle.cfa_states.specs.Tellers.{open_walk}
 use Rattle.cfa_conflict.specs.Analyses.{analysis_of}
 use Rattle.cfa_agent.specs.Actuations.{Mark}
 use Rattle.cfa_agent.specs.Marks.{marks_of}
-use Rattle.cfa_agent.specs.Ran.{added, IfBothTold, started, StopsRun}
+use Rattle.cfa_agent.specs.Ran.{added, IfBothTold, started, StopsRun, RunBuilds, refuses_none, refuses_one}
 use Rattle.cfa_main.specs.declared.ends.End.{End}
 use Rattle.cfa_main.specs.declared.ends.End.TheVariants.{Ended, PromiseFailed, InConflict}
 use Rattle.cfa_main.specs.declared.work.Work.{Work}
@@ -40,7 +40,7 @@ use Rattle.cfa_main.specs.Stages.{RunPerformed, RunsPolicy, Obeys, setting_in, t
 use Rattle.cfa_agent.specs.lemmas.Hosts.{adds_none}
 use Rattle.cfa_main.proofs.SearchLemmas.{search_done, search_put, search_text_done}
 use Rattle.cfa_main.proofs.Told.{untouched_both, both_weaker, both, along, fault_along, fault_before}
-use Rattle.cfa_main.proofs.WorkLemmas.{no_conflict, judged_by, judges_told, judges_line, line_judged, judged_done, judged_put, does_made, does_judged, made_accepted, cut_off_by, obeys_strict, text_done, text_put, IsNoSink, IsOfSite, work_stop, never_shown, untouched_at_stop, runs_by_site, patterns_by_stop, patterns_at_end, untouched_without_run, failed_runs, obeys_conflict}
+use Rattle.cfa_main.proofs.WorkLemmas.{no_conflict, judged_by, judges_told, judges_line, line_judged, judged_done, judged_put, does_made, does_judged, made_accepted, cut_off_by, obeys_strict, text_done, text_put, IsNoSink, IsOfSite, work_stop, never_shown, untouched_at_stop, runs_by_site, RunUnput, patterns_by_stop, patterns_at_end, untouched_without_run, failed_runs, obeys_conflict}
 
 -- ---- statuses
 
@@ -679,9 +679,9 @@ module _ (words : List (List ℕ)) (moment : ℕ) (inputs inputs' : Shown Librar
   limit_of_visits one (Show text) mid p q put = absurd (never_shown moment site site' out mid pats pats' text Visits q tt)
 
   -- the text is one that the run builds
-  built_by_run : (order : PolicyRun) (text : List ℕ) (mid : Shown (List ℕ)) → IsAsked words moment inputs.told (Run order) →
-      RunPerformed (setting_in order.policy) moment order.locks site site' out mid pats pats' (Err (Pattern text)) → RunBuilt words moment inputs.told site site' text
-  built_by_run order text mid a q = (
+  builds_in_run : (order : PolicyRun) (text : List ℕ) → IsAsked words moment inputs.told (Run order) →
+      RunBuilds (setting_in order.policy) moment order.locks site site' (Some text) → RunBuilt words moment inputs.told site site' text
+  builds_in_run order text a built = (
     asks_run words moment inputs.told (Run order) a tt,
     some_weaker inputs.told _ _ (λ lib told taken. (
       taken_run order a lib taken,
@@ -691,9 +691,13 @@ module _ (words : List (List ℕ)) (moment : ℕ) (inputs inputs' : Shown Librar
         is_strict = order.strict;
         asks = asked_task words moment inputs.told (Run order) a lib taken;
         built = built;
-      }) q.built,
+      }) built,
     )) a.is_work.taken,
   )
+
+  built_by_run : (order : PolicyRun) (text : List ℕ) (mid : Shown (List ℕ)) → IsAsked words moment inputs.told (Run order) →
+      RunPerformed (setting_in order.policy) moment order.locks site site' out mid pats pats' (Err (Pattern text)) → RunBuilt words moment inputs.told site site' text
+  built_by_run order text mid a q = builds_in_run order text a q.built
 
   -- before a run, with nothing put, or in it
   abbrev RefusedAtWork : Shown (List ℕ) → Type 0
@@ -745,8 +749,23 @@ module _ (words : List (List ℕ)) (moment : ℕ) (inputs inputs' : Shown Librar
   refuses_text mid (inl (refused, un)) = before_work refused
   refuses_text mid (inr refused) = in_run refused
 
+  -- a line of a run couldn't be put, so nothing is put behind it
+  unput : (work : Work) (mid : Shown (List ℕ)) → Prepared words moment inputs inputs' pats pats (Ok work) → Performed work moment site site' out mid pats pats' (Err (Outside Sink)) →
+      PutsStop (stop_line (Outside Sink)) (status_of_stop (Outside Sink)) mid out' status → RunUnput moment site site' out mid pats pats' work → KeepsPatterns
+  unput (Run order) mid p performed puts (refuses_none kept) = inl kept
+  unput (Run order) mid p performed puts (refuses_one text built refused) = inr (
+    puts.0,
+    subst (λ (o : Shown (List ℕ)). HasFault out o) (sym puts.1) (work_stop moment site site' out mid pats pats' (Run order) (Outside Sink) performed),
+    in_run (record { text = text; builds = builds_in_run order text p.work built; refused = refused }),
+  )
+  unput (Judge policy) mid p performed puts kept = inl kept
+  unput (Search policy) mid p performed puts kept = inl kept
+  unput (Show text) mid p performed puts kept = inl kept
+
   kept_working : (work : Work) (stop : Stop) (mid : Shown (List ℕ)) → Prepared words moment inputs inputs' pats pats (Ok work) → Performed work moment site site' out mid pats pats' (Err stop) → PutsStop (stop_line stop) (status_of_stop stop) mid out' status → status ≢ 6 → KeepsPatterns
-  kept_working work (Outside object) mid p performed puts idle = inl (patterns_by_stop moment site site' out mid pats pats' work (Outside object) performed)
+  kept_working work (Outside Inputs) mid p performed puts idle = inl (patterns_by_stop moment site site' out mid pats pats' work (Outside Inputs) performed)
+  kept_working work (Outside Site) mid p performed puts idle = inl (patterns_by_stop moment site site' out mid pats pats' work (Outside Site) performed)
+  kept_working work (Outside Sink) mid p performed puts idle = unput work mid p performed puts (patterns_by_stop moment site site' out mid pats pats' work (Outside Sink) performed)
   kept_working work Memory mid p performed puts idle = inl (patterns_by_stop moment site site' out mid pats pats' work Memory performed)
   kept_working work Visits mid p performed puts idle = inl (patterns_by_stop moment site site' out mid pats pats' work Visits performed)
   kept_working work (Pattern text) mid p performed (inl (is, put)) idle = absurd (idle is)

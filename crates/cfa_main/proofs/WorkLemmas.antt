@@ -18,7 +18,7 @@ use Rattle.cfa_conflict.specs.declared.verdicts.Verdict.TheVariants.{Accepted, C
 use Rattle.cfa_conflict.specs.Analyses.{analysis_of}
 use Rattle.cfa_agent.specs.Actuations.{Mark}
 use Rattle.cfa_agent.specs.Runs.{Start, run_of}
-use Rattle.cfa_agent.specs.Ran.{start_of, StopsRun, Refuses}
+use Rattle.cfa_agent.specs.Ran.{start_of, StopsRun, Refuses, RunBuilds, RunRefuses, RefusesUnput, refuses_none, refuses_one}
 use Rattle.cfa_agent.specs.lemmas.Hosts.{adds_none}
 use Rattle.cfa_main.specs.declared.ends.End.{End}
 use Rattle.cfa_main.specs.declared.ends.End.TheVariants.{Ended, PromiseFailed, InConflict}
@@ -221,12 +221,47 @@ module _ (moment : ℕ) (site site' : Shown Told) (out out' : Shown (List ℕ)) 
   put_patterns : (text : List ℕ) (stop : Stop) → OnlyPut text site site' out out' pats pats' (Err stop) → Refuses (text_too_big (Some stop)) pats pats'
   put_patterns text stop p = subst (λ (s : Stop). Refuses (text_too_big (Some s)) pats pats') (sym p.puts.sink_failed.0) p.patterns_are
 
-  pub patterns_by_stop : (work : Work) (stop : Stop) → Did work (Err stop) → Refuses (text_too_big (Some stop)) pats pats'
-  patterns_by_stop (Run order) stop (not_made obeyed p) = p.judged.patterns_are
-  patterns_by_stop (Run order) stop (made may p) = p.patterns_are
-  patterns_by_stop (Judge policy) stop p = p.judged.patterns_are
-  patterns_by_stop (Search policy) stop p = p.searched.patterns_are
-  patterns_by_stop (Show text) stop p = put_patterns text stop p
+  -- a run may have refused a text before a line that it couldn't put
+  abbrev pub RunUnput : Work → Type 0
+  RunUnput (Run order) = RefusesUnput (λ text. RunBuilds (setting_in order.policy) moment order.locks site site' (Some text)) pats pats'
+  RunUnput (Judge policy) = Untouched pats pats'
+  RunUnput (Search policy) = Untouched pats pats'
+  RunUnput (Show text) = Untouched pats pats'
+
+  -- where no text is what stopped it
+  abbrev pub PatternsBy : Work → Stop → Type 0
+  PatternsBy work (Outside Inputs) = Untouched pats pats'
+  PatternsBy work (Outside Site) = Untouched pats pats'
+  PatternsBy work (Outside Sink) = RunUnput work
+  PatternsBy work Memory = Untouched pats pats'
+  PatternsBy work Visits = Untouched pats pats'
+  PatternsBy work (Pattern text) = ⊤
+
+  untouched_by : (work : Work) (stop : Stop) → Refuses (text_too_big (Some stop)) pats pats' → PatternsBy work stop
+  untouched_by work (Outside Inputs) kept = kept
+  untouched_by work (Outside Site) kept = kept
+  untouched_by (Run order) (Outside Sink) kept = refuses_none kept
+  untouched_by (Judge policy) (Outside Sink) kept = kept
+  untouched_by (Search policy) (Outside Sink) kept = kept
+  untouched_by (Show text) (Outside Sink) kept = kept
+  untouched_by work Memory kept = kept
+  untouched_by work Visits kept = kept
+  untouched_by work (Pattern text) kept = tt
+
+  run_by : (order : PolicyRun) (stop : Stop) → RunRefuses {X = End} (λ text. RunBuilds (setting_in order.policy) moment order.locks site site' (Some text)) (Err stop) pats pats' → PatternsBy (Run order) stop
+  run_by order (Outside Inputs) kept = kept
+  run_by order (Outside Site) kept = kept
+  run_by order (Outside Sink) kept = kept
+  run_by order Memory kept = kept
+  run_by order Visits kept = kept
+  run_by order (Pattern text) kept = tt
+
+  pub patterns_by_stop : (work : Work) (stop : Stop) → Did work (Err stop) → PatternsBy work stop
+  patterns_by_stop (Run order) stop (not_made obeyed p) = untouched_by (Run order) stop p.judged.patterns_are
+  patterns_by_stop (Run order) stop (made may p) = run_by order stop p.patterns_are
+  patterns_by_stop (Judge policy) stop p = untouched_by (Judge policy) stop p.judged.patterns_are
+  patterns_by_stop (Search policy) stop p = untouched_by (Search policy) stop p.searched.patterns_are
+  patterns_by_stop (Show text) stop p = untouched_by (Show text) stop (put_patterns text stop p)
 
   pub patterns_at_end : (work : Work) (end : End) → Did work (Ok end) → Untouched pats pats'
   patterns_at_end (Run order) end (not_made obeyed p) = p.judged.patterns_are

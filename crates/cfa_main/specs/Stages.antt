@@ -34,7 +34,7 @@ use Rattle.cfa_conflict.specs.declared.verdicts.Verdict.TheVariants.{Accepted, C
 use Rattle.cfa_conflict.specs.Analyses.{AnalysisBuilds, analysis_of}
 use Rattle.cfa_agent.specs.Runs.{run_of, tally_of}
 use Rattle.cfa_agent.specs.Bracketed.{AllBracketed}
-use Rattle.cfa_agent.specs.Ran.{added, RunBuilds, started, IsWhole, IfBothTold, StopsRun, Refuses}
+use Rattle.cfa_agent.specs.Ran.{added, RunBuilds, started, IsWhole, IfBothTold, StopsRun, Refuses, RunRefuses}
 use Rattle.cfa_convergence.specs.Settled.{Settles}
 use Rattle.cfa_main.specs.declared.ends.End.{End}
 use Rattle.cfa_main.specs.declared.ends.End.TheVariants.{Ended, PromiseFailed, InConflict}
@@ -266,7 +266,7 @@ pub record RunPerformed (setting : Setting) (moment : ℕ) (has_locks : Bool) (s
   pub calm : OnOk result (out'.faults ≡ out.faults)
   pub stopped : IfErr result (StopsRun site site' out out')
   pub built : RunBuilds setting moment has_locks site site' (text_too_big (stopped_by result))
-  pub patterns_are : Refuses (text_too_big (stopped_by result)) pats pats'
+  pub patterns_are : RunRefuses (λ text. RunBuilds setting moment has_locks site site' (Some text)) result pats pats'
 
 -- the run is made whatever the verdict, but where it is strict, which wants the policy to be accepted
 abbrev pub MayRun : (is_strict : Bool) → Option Verdict → Type 0

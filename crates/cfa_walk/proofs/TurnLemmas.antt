@@ -18,7 +18,7 @@ use Rattle.cfa_tree.specs.Tree.{PolicyTree}
 use Rattle.cfa_frames.specs.Frames.{Stack, beginning, rest}
 use Rattle.cfa_frames.specs.Growing.{CourseGrows, Grows}
 use Rattle.cfa_frames.specs.Hearing.{NextQuietly}
-use Rattle.cfa_frames.specs.Moves.{Meets, Next, ended, ending, entered, goes_on, is_too_large, moved, need_of, nothing, over, skipped, skipping}
+use Rattle.cfa_frames.specs.Moves.{Meets, Need, Next, answered, asked_next, ended, ending, entered, goes_on, is_too_large, moved, need_of, nothing, over, skipped, skipping}
 use Rattle.cfa_frames.specs.Weights.{IsLighter, commons_weight, free_visits, heaviest, stack_weight, weight}
 use Rattle.cfa_machine.specs.Stacks.{Came, Holds, Stands, next_built, seen_stack}
 use Rattle.cfa_machine.specs.declared.machines.Machine.{Machine}
@@ -32,9 +32,8 @@ use Rattle.cfa_states.specs.Passes.{Course, goes, too_large, most_visits, run}
 use Rattle.cfa_states.specs.Tellers.{Teller, outcomes_in}
 use Rattle.cfa_states.specs.Views.{Setting}
 use Rattle.cfa_walk.specs.Ended.{to_state}
-use Rattle.cfa_walk.specs.Turns.{GoesOn, HasTurned, TurnDone, TurnHasBuilt, TurnsPastLimit, machine_weight, policy_weight, visit_answered}
-use Rattle.cfa_walk.specs.Walked.{HasRun, HasRunTo}
-use Rattle.cfa_states.specs.lemmas.Courses.{goes_weaker}
+use Rattle.cfa_walk.specs.Turns.{GoesOn, Relation, IsLeft, IsAnswered, HasGone, GoesPastLimit, TurnDone, TurnHasBuilt, machine_weight, policy_weight, visit_answered}
+use Rattle.cfa_walk.specs.Walked.{HasRunTo}
 use Rattle.cfa_states.specs.lemmas.Later.{at_most}
 
 -- ---- what was built
@@ -61,18 +60,20 @@ built_on s text h (too_large k) grows built = built_grown s text h k grows built
 -- ---- what came of a move
 
 -- a history after it, of which this holds
-abbrev HasCome : Setting → Teller → Machine → (before : Course) → (P : History → Type 0) → Type 0
-HasCome s t m before P = (k : History) × (Stands s m k × (P k × (rest s t (seen_stack m) k ≡ before)))
+abbrev HasCome : Setting → Teller → Machine → (before : Course) → Next → (P : History → Type 0) → Type 0
+HasCome s t m before next P = (k : History) × (Stands s m k × (P k × ((rest s t (seen_stack m) k ≡ before) × (next ≡ goes_on (seen_stack m) k))))
 
 -- where one goes on
 came_to : (s : Setting) (t : Teller) (m : Machine) (next : Next) (h : History) (before : Course) →
-    Came s m (Ok tt) next → Meets s t next before → NextQuietly h next → HasCome s t m before (λ k. Quietly h k)
-came_to s t m (goes_on st k) h before came meets quiet = (k, (came.1, (quiet, ap (λ (x : Stack). rest s t x k) came.0 ∙ meets)))
+    Came s m (Ok tt) next → Meets s t next before → NextQuietly h next → HasCome s t m before next (λ k. Quietly h k)
+came_to s t m (goes_on st k) h before came meets quiet =
+    (k, (came.1, (quiet, (ap (λ (x : Stack). rest s t x k) came.0 ∙ meets, ap (λ (x : Stack). goes_on x k) (sym came.0)))))
 came_to s t m (is_too_large k) h before came meets quiet = absurd came
 
-past_there : (s : Setting) (t : Teller) (m : Machine) (next : Next) (before : Course) → Came s m (Err Visits) next → Meets s t next before → IsTooLarge before
-past_there s t m (goes_on st k) before came meets = absurd came
-past_there s t m (is_too_large k) before came meets = subst (λ (c : Course). IsTooLarge c) meets tt
+past_there : (s : Setting) (t : Teller) (m : Machine) (next : Next) (h : History) (before : Course) →
+    Came s m (Err Visits) next → Meets s t next before → NextQuietly h next → IsTooLarge before × ((k : History) × (Quietly h k × (next ≡ is_too_large k)))
+past_there s t m (goes_on st k) h before came meets quiet = absurd came
+past_there s t m (is_too_large k) h before came meets quiet = (subst (λ (c : Course). IsTooLarge c) meets tt, (k, (quiet, refl)))
 
 built_there : (s : Setting) (t : Teller) (m : Machine) (text : List ℕ) (next : Next) (before : Course) →
     ((st : Stack) (h : History) → CourseGrows h (rest s t st h)) → Came s m (Err (Pattern text)) next → Meets s t next before → BuiltOn s before text
@@ -192,7 +193,7 @@ later_same f = (same f.0, refl)
     same : (n : ℕ) → n ≤ n
     same n = omega arith
 
-later_then : (f g k : Faults) → Later f g → Later g k → Later f k
+pub later_then : (f g k : Faults) → Later f g → Later g k → Later f k
 later_then f g k fg gk = (at_most f.0 g.0 k.0 fg.0 gk.0, gk.1 ∙ fg.1)
 
 rose_same : (a b c : ℕ) → b ≡ a → Rose b c → Rose a c
@@ -248,6 +249,38 @@ MovedQuietly = (s : Setting) (st : Stack) (h : History) → NextQuietly h (moved
 abbrev RestGrows : Type 0
 RestGrows = (s : Setting) (t : Teller) (st : Stack) (h : History) → CourseGrows h (rest s t st h)
 
+-- ---- what is answered
+
+abbrev answer : Setting → Teller → Stack → History → Next
+answer s t st h = answered s t (need_of st) st h
+
+moves_by : (s : Setting) (t : Teller) (st : Stack) (h : History) → need_of st ≡ nothing → answer s t st h ≡ moved s st h
+moves_by s t st h is = ap (λ (need : Need). answered s t need st h) is
+
+asked_by : (s : Setting) (t : Teller) (st : Stack) (h : History) (is_skipped : Bool) → asked_next s t is_skipped st h ≡ visit_answered s is_skipped st h
+asked_by s t st h true = refl
+asked_by s t st h false = refl
+
+visits_by : (s : Setting) (t : Teller) (st : Stack) (h : History) (i : Instance) (status : Status) (is_skipped : Bool) → need_of st ≡ skipping i status →
+    t.skips h i ≡ is_skipped → answer s t st h ≡ visit_answered s is_skipped st h
+visits_by s t st h i status is_skipped is said =
+    ap (λ (need : Need). answered s t need st h) is ∙ (ap (λ (b : Bool). asked_next s t b st h) said ∙ asked_by s t st h is_skipped)
+
+ends_by : (s : Setting) (t : Teller) (st : Stack) (h : History) (i : Instance) (status : Status) (outcomes : List Outcome) → need_of st ≡ ending i status →
+    outcomes_of t h i i.work ≡ outcomes → answer s t st h ≡ ended outcomes st h
+ends_by s t st h i status outcomes is said =
+    ap (λ (need : Need). answered s t need st h) is ∙ ap (λ (os : List Outcome). ended os st h) said
+
+-- ---- relations
+
+-- two relations that make a third
+abbrev pub Compose : Relation → Stack → Relation → Relation → Type 0
+Compose R mid Q T =
+    (s : Setting) (t : Teller) (st : Stack) (h : History) (k : History) (st' : Stack) (l : History) → R s t st h mid k → Q s t mid k st' l → T s t st h st' l
+
+pub left_then : (mid : Stack) → Compose IsLeft mid IsAnswered IsLeft
+left_then mid s t st h k st' l before turned = turned.0 ∙ before
+
 -- ---- turns
 
 module _ {W X : Type 0} (teller : X → Teller) (agrees : W → X → Type 0) (behind : W → X → History → Type 0) where
@@ -259,22 +292,33 @@ module _ {W X : Type 0} (teller : X → Teller) (agrees : W → X → Type 0) (b
   still_behind w x steady (one_more event quiet more) stays = steady x event _ quiet (still_behind w x steady more stays)
 
   -- a move
-  pub advanced : (w : W) → Steady w → MovedMeets → MovedQuietly → RestGrows → (m m' : Machine) (result : Result (Unit {0}) Stop) →
+  pub advanced : (w : W) → Steady w → MovedMeets → MovedQuietly → RestGrows → (m m' : Machine) → need_of (seen_stack m) ≡ nothing → (result : Result (Unit {0}) Stop) →
       ((s : Setting) (h : History) → Stands s m h → Came s m' result (moved s (seen_stack m) h)) → TurnDone teller agrees behind w w m m' result
-  advanced w steady meets quiet grow m m' (Ok done) came = λ s x h agree. (
+  advanced w steady meets quiet grow m m' is (Ok done) came = λ s x h agree. (
     agree,
     λ stands stays.
         let next = came_to s (teller x) m' (moved s (seen_stack m) h) h (rest s (teller x) (seen_stack m) h)
-        (came s h stands) (meets s (teller x) (seen_stack m) h) (quiet s (seen_stack m) h) in
-        (next.0, (next.1.0, (still_behind w x steady next.1.1.0 stays, next.1.1.1))),
+        (came s h stands) (meets s (teller x) (seen_stack m) h) (quiet s (seen_stack m) h) in (
+          next.0,
+          (
+            next.1.0,
+            (
+              still_behind w x steady next.1.1.0 stays,
+              (next.1.1.1.0, moves_by s (teller x) (seen_stack m) h is ∙ next.1.1.1.1),
+            ),
+          ),
+        ),
   )
-  advanced w steady meets quiet grow m m' (Err (Outside object)) came = tt
-  advanced w steady meets quiet grow m m' (Err Memory) came = tt
-  advanced w steady meets quiet grow m m' (Err Visits) came = λ s x h agree. (
+  advanced w steady meets quiet grow m m' is (Err (Outside object)) came = tt
+  advanced w steady meets quiet grow m m' is (Err Memory) came = tt
+  advanced w steady meets quiet grow m m' is (Err Visits) came = λ s x h agree. (
     agree,
-    λ stands stays. past_there s (teller x) m' (moved s (seen_stack m) h) (rest s (teller x) (seen_stack m) h) (came s h stands) (meets s (teller x) (seen_stack m) h),
+    λ stands stays.
+        let past = past_there s (teller x) m' (moved s (seen_stack m) h) h (rest s (teller x) (seen_stack m) h)
+        (came s h stands) (meets s (teller x) (seen_stack m) h) (quiet s (seen_stack m) h) in
+        (past.0, (past.1.0, (still_behind w x steady past.1.1.0 stays, moves_by s (teller x) (seen_stack m) h is ∙ past.1.1.1))),
   )
-  advanced w steady meets quiet grow m m' (Err (Pattern text)) came = λ s x h agree. (
+  advanced w steady meets quiet grow m m' is (Err (Pattern text)) came = λ s x h agree. (
     agree,
     λ stands stays. built_there s (teller x) m' text (moved s (seen_stack m) h) (rest s (teller x) (seen_stack m) h)
         (grow s (teller x)) (came s h stands) (meets s (teller x) (seen_stack m) h),
@@ -288,29 +332,37 @@ module _ {W X : Type 0} (teller : X → Teller) (agrees : W → X → Type 0) (b
   stopped_by w w' m m' (Pattern text) own = absurd own
 
   -- a visit that was answered
-  pub visited : (w w' : W) → Steady w' → (m m' : Machine) (i : Instance) (status : Status) (is_skipped : Bool) →
+  pub visited : (w w' : W) → Steady w' → (m m' : Machine) (i : Instance) (status : Status) → need_of (seen_stack m) ≡ skipping i status → (is_skipped : Bool) →
       ((s : Setting) (t : Teller) (h : History) → t.skips h i ≡ is_skipped → Meets s t (visit_answered s is_skipped (seen_stack m) h) (rest s t (seen_stack m) h)) →
       ((s : Setting) (h : History) → NextQuietly (visited_by i status is_skipped h) (visit_answered s is_skipped (seen_stack m) h)) →
       HasVisited teller agrees behind w w' i status is_skipped →
-      ((s : Setting) (h : History) → Stands s m h → Came s m' (Ok tt) (visit_answered s is_skipped (seen_stack m) h)) → HasTurned teller agrees behind w w' m m'
-  visited w w' steady m m' i status is_skipped meets quiet told came = λ s x h agree.
+      ((s : Setting) (h : History) → Stands s m h → Came s m' (Ok tt) (visit_answered s is_skipped (seen_stack m) h)) → HasGone teller agrees behind IsAnswered w w' m m'
+  visited w w' steady m m' i status is is_skipped meets quiet told came = λ s x h agree.
       let heard = told x h agree in (
         heard.0,
         λ stands stays.
             let so = heard.1 stays in
             let next = came_to s (teller x) m' (visit_answered s is_skipped (seen_stack m) h) (visited_by i status is_skipped h) (rest s (teller x) (seen_stack m) h)
-            (came s h stands) (meets s (teller x) h so.0) (quiet s h) in
-            (next.0, (next.1.0, (still_behind w' x steady next.1.1.0 so.1, next.1.1.1))),
+            (came s h stands) (meets s (teller x) h so.0) (quiet s h) in (
+              next.0,
+              (
+                next.1.0,
+                (
+                  still_behind w' x steady next.1.1.0 so.1,
+                  (next.1.1.1.0, visits_by s (teller x) (seen_stack m) h i status is_skipped is so.0 ∙ next.1.1.1.1),
+                ),
+              ),
+            ),
       )
 
   -- an instance that was told
-  pub told_so : (w w' : W) → Steady w' → (m m' : Machine) (i : Instance) (status : Status) (called : Outcome) (ending : Ending) →
+  pub told_so : (w w' : W) → Steady w' → (m m' : Machine) (i : Instance) (status : Status) → need_of (seen_stack m) ≡ ending i status → (called : Outcome) (ending : Ending) →
       ((s : Setting) (t : Teller) (h : History) → Meets s t (ended (outcomes_of t h i i.work) (seen_stack m) h) (rest s t (seen_stack m) h)) →
       ((h : History) → NextQuietly (Told i (outcomes_in ending) ∷ h) (ended (outcomes_in ending) (seen_stack m) h)) →
       ((s : Setting) (h : History) → Stands s m h → EndedAs i.work i called h) →
       HasTold teller agrees behind w w' i called ending →
-      ((s : Setting) (h : History) → Stands s m h → Came s m' (Ok tt) (ended (outcomes_in ending) (seen_stack m) h)) → HasTurned teller agrees behind w w' m m'
-  told_so w w' steady m m' i status inner how meets quiet worst told came = λ s x h agree.
+      ((s : Setting) (h : History) → Stands s m h → Came s m' (Ok tt) (ended (outcomes_in ending) (seen_stack m) h)) → HasGone teller agrees behind IsAnswered w w' m m'
+  told_so w w' steady m m' i status is inner how meets quiet worst told came = λ s x h agree.
       let heard = told x h agree in (
         heard.0,
         λ stands stays.
@@ -318,74 +370,101 @@ module _ {W X : Type 0} (teller : X → Teller) (agrees : W → X → Type 0) (b
             let meet : Meets s (teller x) (ended (outcomes_in how) (seen_stack m) h) (rest s (teller x) (seen_stack m) h) =
             subst (λ (os : List Outcome). Meets s (teller x) (ended os (seen_stack m) h) (rest s (teller x) (seen_stack m) h)) so.0 (meets s (teller x) h) in
             let next = came_to s (teller x) m' (ended (outcomes_in how) (seen_stack m) h) (Told i (outcomes_in how) ∷ h) (rest s (teller x) (seen_stack m) h)
-            (came s h stands) meet (quiet h) in
-            (next.0, (next.1.0, (still_behind w' x steady next.1.1.0 so.1, next.1.1.1))),
+            (came s h stands) meet (quiet h) in (
+              next.0,
+              (
+                next.1.0,
+                (
+                  still_behind w' x steady next.1.1.0 so.1,
+                  (next.1.1.1.0, ends_by s (teller x) (seen_stack m) h i status (outcomes_in how) is so.0 ∙ next.1.1.1.1),
+                ),
+              ),
+            ),
       )
 
   -- an answer that was made leaves the run turned, and else memory was wanting
-  pub by_answer : (w w' : W) (m m' : Machine) (result : Result (Unit {0}) Stop) → OnOk result (HasTurned teller agrees behind w w' m m') →
+  pub by_answer : (w w' : W) (m m' : Machine) (result : Result (Unit {0}) Stop) → OnOk result (HasGone teller agrees behind IsAnswered w w' m m') →
       IfErr result (λ stop. stop ≡ Memory) → TurnDone teller agrees behind w w' m m' result
   by_answer w w' m m' (Ok done) turned memory = turned
   by_answer w w' m m' (Err stop) turned memory = subst (λ (e : Stop). TurnDone teller agrees behind w w' m m' (Err e)) (sym memory) tt
 
   -- ---- one after the other
 
-  pub none_yet : (w : W) (m : Machine) → HasTurned teller agrees behind w w m m
-  none_yet w m = λ s x h agree. (agree, λ stands stays. (h, (stands, (stays, refl))))
+  -- who tells and where a machine stands, before and after
+  pub none_gone : (R : Relation) → ((s : Setting) (t : Teller) (st : Stack) (h : History) → R s t st h st h) → (w : W) (m : Machine) → HasGone teller agrees behind R w w m m
+  none_gone R same w m = λ s x h agree. (agree, λ stands stays. (h, (stands, (stays, same s (teller x) (seen_stack m) h))))
 
-  pub and_then : (w w' w'' : W) (m m' m'' : Machine) (result : Result (Unit {0}) Stop) → HasTurned teller agrees behind w w' m m' →
-      TurnDone teller agrees behind w' w'' m' m'' result → TurnDone teller agrees behind w w'' m m'' result
-  and_then w w' w'' m m' m'' (Ok done) first second = λ s x h agree.
+  pub gone_then : (R Q T : Relation) (w w' w'' : W) (m m' m'' : Machine) → Compose R (seen_stack m') Q T →
+      HasGone teller agrees behind R w w' m m' → HasGone teller agrees behind Q w' w'' m' m'' → HasGone teller agrees behind T w w'' m m''
+  gone_then R Q T w w' w'' m m' m'' compose first second = λ s x h agree.
       let last = second s x h agree in
       let before = first s x h last.0 in (
         before.0,
         λ stands stays.
             let mid = before.1 stands stays in
             let end = (second s x mid.0 agree).1 mid.1.0 mid.1.1.0 in
-            (end.0, (end.1.0, (end.1.1.0, end.1.1.1 ∙ mid.1.1.1))),
+            (end.0, (end.1.0, (end.1.1.0, compose s (teller x) (seen_stack m) h mid.0 (seen_stack m'') end.0 mid.1.1.1 end.1.1.1))),
       )
-  and_then w w' w'' m m' m'' (Err (Outside object)) first second = tt
-  and_then w w' w'' m m' m'' (Err Memory) first second = tt
-  and_then w w' w'' m m' m'' (Err Visits) first second = λ s x h agree.
+
+  -- where more visits are needed than may be made
+  pub past_then : (R : Relation) (next next' : Setting → Teller → Stack → History → Next) (w w' w'' : W) (m m' : Machine) →
+      ((s : Setting) (t : Teller) (st : Stack) (h : History) (k : History) → R s t st h (seen_stack m') k → (l : History) →
+      next s t (seen_stack m') k ≡ is_too_large l → next' s t st h ≡ is_too_large l) →
+      ((s : Setting) (t : Teller) (st : Stack) (h : History) (k : History) → R s t st h (seen_stack m') k → rest s t (seen_stack m') k ≡ rest s t st h) →
+      HasGone teller agrees behind R w w' m m' → GoesPastLimit teller agrees behind next w' w'' m' → GoesPastLimit teller agrees behind next' w w'' m
+  past_then R next next' w w' w'' m m' same left first second = λ s x h agree.
       let last = second s x h agree in
       let before = first s x h last.0 in (
         before.0,
         λ stands stays.
             let mid = before.1 stands stays in
-            subst (λ (c : Course). IsTooLarge c) mid.1.1.1 ((second s x mid.0 agree).1 mid.1.0 mid.1.1.0),
+            let past = (second s x mid.0 agree).1 mid.1.0 mid.1.1.0 in
+            let on : R s (teller x) (seen_stack m) h (seen_stack m') mid.0 = mid.1.1.1 in (
+              subst (λ (c : Course). IsTooLarge c) (left s (teller x) (seen_stack m) h mid.0 on) past.0,
+              (past.1.0, (past.1.1.0, same s (teller x) (seen_stack m) h mid.0 on past.1.0 past.1.1.1)),
+            ),
       )
-  and_then w w' w'' m m' m'' (Err (Pattern text)) first second = λ s x h agree.
+
+  pub built_then : (R : Relation) (w w' w'' : W) (m m' : Machine) (text : List ℕ) →
+      ((s : Setting) (t : Teller) (st : Stack) (h : History) (k : History) → R s t st h (seen_stack m') k → rest s t (seen_stack m') k ≡ rest s t st h) →
+      HasGone teller agrees behind R w w' m m' → TurnHasBuilt teller agrees behind w' w'' m' text → TurnHasBuilt teller agrees behind w w'' m text
+  built_then R w w' w'' m m' text left first second = λ s x h agree.
       let last = second s x h agree in
       let before = first s x h last.0 in (
         before.0,
         λ stands stays.
             let mid = before.1 stands stays in
-            subst (λ (c : Course). BuiltOn s c text) mid.1.1.1 ((second s x mid.0 agree).1 mid.1.0 mid.1.1.0),
+            subst (λ (c : Course). BuiltOn s c text) (left s (teller x) (seen_stack m) h mid.0 mid.1.1.1) ((second s x mid.0 agree).1 mid.1.0 mid.1.1.0),
       )
 
   -- what holds between two turns
-  pub record AfterTurns (faults : W → Faults) (w w' : W) (m m' : Machine) (pats pats' : Shown (List (List ℕ))) : Type 0 where
+  pub record AfterTurns (R : Relation) (faults : W → Faults) (w w' : W) (m m' : Machine) (pats pats' : Shown (List (List ℕ))) : Type 0 where
     pub holds : Holds m'
     pub stands : (s : Setting) × ((h : History) × Stands s m' h)
-    pub turned : HasTurned teller agrees behind w w' m m'
+    pub turned : HasGone teller agrees behind R w w' m m'
+    pub lighter : machine_weight m' ≤ machine_weight m
     pub faults_are : Later (faults w) (faults w')
     pub patterns_are : pats' ≡ pats
 
-  pub after_turn : (faults : W → Faults) (w w' w'' : W) (m m' m'' : Machine) (p q r : Shown (List (List ℕ))) → AfterTurns faults w w' m m' p q →
-      HasTurned teller agrees behind w' w'' m' m'' → GoesOn m' m'' → Holds m'' → Later (faults w') (faults w'') → r ≡ q → AfterTurns faults w w'' m m'' p r
-  after_turn faults w w' w'' m m' m'' p q r before turned on holds later same = record {
-    holds = holds;
-    stands = (before.stands.0, (on before.stands.0 before.stands.1.0 before.stands.1.1).1);
-    turned = and_then w w' w'' m m' m'' (Ok tt) before.turned turned;
-    faults_are = later_then (faults w) (faults w') (faults w'') before.faults_are later;
-    patterns_are = same ∙ before.patterns_are;
-  }
+  pub after_turn : (R : Relation) (faults : W → Faults) (w w' w'' : W) (m m' m'' : Machine) (p q r : Shown (List (List ℕ))) → Compose R (seen_stack m') IsAnswered R →
+      AfterTurns R faults w w' m m' p q → HasGone teller agrees behind IsAnswered w' w'' m' m'' → GoesOn m' m'' → Holds m'' → Later (faults w') (faults w'') → r ≡ q →
+      AfterTurns R faults w w'' m m'' p r
+  after_turn R faults w w' w'' m m' m'' p q r compose before turned on holds later same =
+      let there = on before.stands.0 before.stands.1.0 before.stands.1.1 in
+      record {
+        holds = holds;
+        stands = (before.stands.0, there.1);
+        turned = gone_then R IsAnswered R w w' w'' m m' m'' compose before.turned turned;
+        lighter = omega (arith, there.0, before.lighter);
+        faults_are = later_then (faults w) (faults w') (faults w'') before.faults_are later;
+        patterns_are = same ∙ before.patterns_are;
+      }
 
   -- ---- the whole run
 
   pub run_over : (s : Setting) (w w' : W) (m m' : Machine) →
       ((t : Teller) → rest s t (beginning s) [] ≡ run s t) → ((t : Teller) (h : History) → rest s t (seen_stack m') h ≡ goes h) →
-      Stands s m [] → seen_stack m ≡ beginning s → HasTurned teller agrees behind w w' m m' → HasRunTo teller agrees behind s w w' (Ok m'.state)
+      Stands s m [] → seen_stack m ≡ beginning s → HasGone teller agrees behind IsLeft w w' m m' → HasRunTo teller agrees behind s w w' (Ok m'.state)
   run_over s w w' m m' begins ends stands is turned = λ x agree.
       let all = turned s x [] agree in (
         all.0,
@@ -396,22 +475,20 @@ module _ {W X : Type 0} (teller : X → Teller) (agrees : W → X → Type 0) (b
             subst (λ (c : Course). GoesTo c (λ k. Keeps s m'.state k × behind w' x k)) course (end.1.0.state, end.1.1.0),
       )
 
-  pub run_stopped : (s : Setting) (w w' : W) (m m' : Machine) (stop : Stop) → ((t : Teller) → rest s t (beginning s) [] ≡ run s t) →
-      Stands s m [] → seen_stack m ≡ beginning s → TurnDone teller agrees behind w w' m m' (Err stop) → HasRunTo teller agrees behind s w w' (Err stop)
-  run_stopped s w w' m m' (Outside object) begins stands is done = tt
-  run_stopped s w w' m m' Memory begins stands is done = tt
-  run_stopped s w w' m m' Visits begins stands is done = λ x agree.
-      let all = done s x [] agree in
-      (all.0, λ stays. subst (λ (c : Course). IsTooLarge c) (ap (λ (st : Stack). rest s (teller x) st []) is ∙ begins (teller x)) (all.1 stands stays))
-  run_stopped s w w' m m' (Pattern text) begins stands is done = λ x agree.
-      let all = done s x [] agree in
+  pub run_stopped : (s : Setting) (w w' w'' : W) (m m' m'' : Machine) (stop : Stop) → ((t : Teller) → rest s t (beginning s) [] ≡ run s t) →
+      Stands s m [] → seen_stack m ≡ beginning s → HasGone teller agrees behind IsLeft w w' m m' → TurnDone teller agrees behind w' w'' m' m'' (Err stop) →
+      HasRunTo teller agrees behind s w w'' (Err stop)
+  run_stopped s w w' w'' m m' m'' (Outside object) begins stands is first done = tt
+  run_stopped s w w' w'' m m' m'' Memory begins stands is first done = tt
+  run_stopped s w w' w'' m m' m'' Visits begins stands is first done = λ x agree.
+      let last = done s x [] agree in
+      let before = first s x [] last.0 in (
+        before.0,
+        λ stays.
+            let mid = before.1 stands stays in
+            let past = (done s x mid.0 agree).1 mid.1.0 mid.1.1.0 in
+            subst (λ (c : Course). IsTooLarge c) (mid.1.1.1 ∙ (ap (λ (st : Stack). rest s (teller x) st []) is ∙ begins (teller x))) past.0,
+      )
+  run_stopped s w w' w'' m m' m'' (Pattern text) begins stands is first done = λ x agree.
+      let all = built_then IsLeft w w' w'' m m' text (λ s t st h k left. left) first done s x [] agree in
       (all.0, λ stays. subst (λ (c : Course). BuiltOn s c text) (ap (λ (st : Stack). rest s (teller x) st []) is ∙ begins (teller x)) (all.1 stands stays))
-
-  -- what is kept of it aside
-  pub run_alone : (s : Setting) (w w' : W) (st : State) (result : Result (Unit {0}) Stop) →
-      HasRunTo teller agrees behind s w w' (to_state st result) → HasRun teller agrees behind s w w' result
-  run_alone s w w' st (Ok done) ran = λ x agree. ((ran x agree).0, λ stays. goes_weaker (run s (teller x)) _ _ (λ k p. p.1) ((ran x agree).1 stays))
-  run_alone s w w' st (Err (Outside object)) ran = tt
-  run_alone s w w' st (Err Memory) ran = tt
-  run_alone s w w' st (Err Visits) ran = ran
-  run_alone s w w' st (Err (Pattern text)) ran = ran

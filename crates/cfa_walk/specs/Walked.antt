@@ -13,16 +13,6 @@ use Rattle.cfa_states.specs.Tellers.{Teller}
 use Rattle.cfa_states.specs.Views.{Setting}
 
 module _ {W X : Type 0} (teller : X → Teller) (agrees : W → X → Type 0) (behind : W → X → History → Type 0) (s : Setting) where
-  abbrev pub HasRun : (w w' : W) → Result (Unit {0}) Stop → Type 0
-  HasRun w w' (Ok done) =
-      (x : X) → agrees w' x →
-      agrees w x × (behind w x [] → GoesTo (run s (teller x)) (λ k. behind w' x k))
-  HasRun w w' (Err (Outside object)) = ⊤
-  HasRun w w' (Err Memory) = ⊤
-  HasRun w w' (Err Visits) = (x : X) → agrees w' x → agrees w x × (behind w x [] → IsTooLarge (run s (teller x)))
-  HasRun w w' (Err (Pattern text)) =
-      (x : X) → agrees w' x → agrees w x × (behind w x [] → BuiltOn s (run s (teller x)) text)
-
   -- with what is kept of it
   abbrev pub HasRunTo : (w w' : W) → Result State Stop → Type 0
   HasRunTo w w' (Ok st) =

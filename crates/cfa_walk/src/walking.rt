@@ -9,17 +9,15 @@ ghost use Rattle.cfa_states.specs.Tellers.{outcomes_in};
 ghost use Rattle.cfa_states.specs.Views.{Setting};
 ghost use Rattle.cfa_walk.specs.Ended.{to_state};
 ghost use Rattle.cfa_walk.specs.Turns.{GoesOn, IsEnding, IsVisit, TurnDone, visit_answered};
-ghost use Rattle.cfa_walk.specs.Settings.{setting_of};
-ghost use Rattle.cfa_walk.specs.Walked.{HasRun, HasRunTo};
+ghost use Rattle.cfa_walk.specs.Walked.{HasRunTo};
 
-use crate::{Context, Teller};
+use crate::Teller;
 use cfa_base::Patterns;
 use cfa_frames::{
     histories_only_grow, moves_are_quiet, moves_keep_what_is_left, moves_lower_the_weight,
 };
 use cfa_machine::{Machine, Need};
 use cfa_output::Stop;
-use cfa_schema::Checked;
 use cfa_states::Ending;
 use std::alloc::Global;
 
@@ -109,8 +107,8 @@ fn finish<S, O, T: Teller<S, O>>(
     }
 }
 
-// Moves a run once, or has it answered by who tells.
-fn turn<S, O, T: Teller<S, O>, P: Patterns>(
+/// Moves a run once, or has it answered by who tells.
+pub(crate) fn turn<S, O, T: Teller<S, O>, P: Patterns>(
     alloc: Global,
     machine: &mut Machine<'_>,
     teller: &mut T,
@@ -166,30 +164,4 @@ pub(crate) fn make_run<S, O, T: Teller<S, O>, P: Patterns>(
         }
         turn(alloc, machine, teller, site, out, pats)?;
     }
-}
-
-/// Makes the history of a run of a policy in a context, under who tells how its instances end: the common bundles three
-/// times, and then each agent bundle of the sequence in three passes.
-///
-/// `Visits` comes exactly where more visits are needed than `MOST_VISITS`; what stands before the promise with which they
-/// would be passed is done.
-pub fn run<S, O, T: Teller<S, O>, P: Patterns>(
-    alloc: Global,
-    checked: &Checked,
-    context: &Context,
-    teller: &mut T,
-    site: &mut S,
-    out: &mut O,
-    pats: &mut P,
-) -> Result<(), Stop>
-    ensures ran { HasRun T.teller T.agrees T.behind (setting_of checked.now context.now)
-        (teller.old, (site.old, out.old)) (teller.new, (site.new, out.new)) result }
-    ensures faults { FaultsAre (T.faults (teller.old, (site.old, out.old)))
-        (T.faults (teller.new, (site.new, out.new))) result }
-    ensures patterns { PatternsAre result (P.shown pats.old) (P.shown pats.new) }
-{
-    let mut machine = Machine::new(alloc, checked, &context.classes, false)?;
-    let ended = make_run(alloc, &mut machine, teller, site, out, pats);
-    drop(machine);
-    ended
 }

@@ -1,5 +1,4 @@
-use Rattle.std.proofs.Common.{[], arith}
-use Rattle.cfa_output.specs.Puts.{puts_nothing}
+use Rattle.std.proofs.Common.{arith}
 use Rattle.cfa_agent.specs.Locking.{lock_entries}
 use Rattle.cfa_agent.proofs.Stopping.{later_told}
 use Rattle.cfa_agent.proofs.TellLemmas.{call_told}
@@ -11,14 +10,14 @@ returns-in-Acts g c = c.tell_acts.ensures c.args.called
 pub returns-in_ok-settle-in-Call : goal.returns-in_ok-settle-in-Call
 returns-in_ok-settle-in-Call g c =
     let site = g.S.Site.shown in
-    let out = g.O.Sink.shown c.args.out.now in
+    let lines = c.args.lines.now.items in
     let run = c.args.running.now in
     let instance = c.args.instance.now in
     record {
-      told = call_told run c.settle.new.running (site c.args.site.now) (site c.settle.new.site) out instance c.args.called c.in-Call.field-0 c.in-Call.field-1
+      told = call_told run c.settle.new.running (site c.args.site.now) (site c.settle.new.site) lines instance c.args.called c.in-Call.field-0 c.in-Call.field-1
           c.in-Call.is c.in_ok-settle-in-Call.ensures.locked c.in_ok-settle-in-Call.ensures.counted;
-      later = later_told (site c.args.site.now) (site c.args.site.now) (site c.settle.new.site) out out
-          (lock_entries run.moment run.locks instance) [] (omega arith) c.in_ok-settle-in-Call.ensures.locked (puts_nothing out);
+      later = later_told (site c.args.site.now) (site c.args.site.now) (site c.settle.new.site)
+          (lock_entries run.moment run.locks instance) (omega arith) c.in_ok-settle-in-Call.ensures.locked;
       stopped = tt;
     }
 

@@ -12,7 +12,7 @@ returns-in-Ok-clause-turned g c =
     let asks = sym c.in-Ending.ensures in
     by_answer g.T.Teller.teller g.T.Teller.agrees g.T.Teller.behind (c.args.teller.now, (c.args.site.now, c.args.out.now)) (c.tell.new.self, (c.tell.new.site, c.tell.new.out)) m c.answer_ending.new.machine c.answer_ending.result
     (ok_then c.answer_ending.result c.answer_ending.ensures.moved
-    (told_so g.T.Teller.teller g.T.Teller.agrees g.T.Teller.behind (c.args.teller.now, (c.args.site.now, c.args.out.now)) (c.tell.new.self, (c.tell.new.site, c.tell.new.out)) (g.met.T.Teller.steady (c.tell.new.self, (c.tell.new.site, c.tell.new.out))) m c.answer_ending.new.machine i status c.called-called.result c.in-Ok.ending
+    (told_so g.T.Teller.teller g.T.Teller.agrees g.T.Teller.behind (c.args.teller.now, (c.args.site.now, c.args.out.now)) (c.tell.new.self, (c.tell.new.site, c.tell.new.out)) (g.met.T.Teller.steady (c.tell.new.self, (c.tell.new.site, c.tell.new.out))) m c.answer_ending.new.machine i status asks c.called-called.result c.in-Ok.ending
     (λ s t h. c.moves_keep_what_is_left.ensures.ended s t (seen_stack m) h i status asks)
     (λ h. c.moves_are_quiet.ensures.ended (seen_stack m) h i status (outcomes_in c.in-Ok.ending) asks)
     (λ s h stands. c.called-called.ensures s h stands i status asks)

@@ -5,7 +5,8 @@ use Rattle.cfa_output.specs.declared.ends.Stop.{Stop}
 use Rattle.cfa_states.specs.Levels.{FaultsAre, PatternsAre}
 use Rattle.cfa_walk.specs.Ended.{to_state}
 use Rattle.cfa_walk.specs.Walked.{HasRunTo}
-use Rattle.cfa_walk.proofs.TurnLemmas.{after_turn, and_then, faults_then, patterns_then, run_over, run_stopped}
+use Rattle.cfa_walk.specs.Turns.{IsLeft}
+use Rattle.cfa_walk.proofs.TurnLemmas.{after_turn, faults_then, left_then, patterns_then, run_over, run_stopped}
 use Rattle.cfa_walk.proofs.walking.make_run.Goals as goal
 
 pub returns-in-Over-clause-ran : goal.returns-in-Over-clause-ran
@@ -17,11 +18,11 @@ returns-in-Over-clause-ran g c = λ s stands is.
 
 pub loop-machine-preserved : goal.loop-machine-preserved
 loop-machine-preserved g c =
-    after_turn g.T.Teller.teller g.T.Teller.agrees g.T.Teller.behind g.T.Teller.faults (c.args.teller.now, (c.args.site.now, c.args.out.now))
+    after_turn g.T.Teller.teller g.T.Teller.agrees g.T.Teller.behind IsLeft g.T.Teller.faults (c.args.teller.now, (c.args.site.now, c.args.out.now))
     (c.loop-machine.teller, (c.loop-machine.site, c.loop-machine.out)) (c.turn.new.teller, (c.turn.new.site, c.turn.new.out))
     c.args.machine.now c.loop-machine.machine c.turn.new.machine
     (g.P.Patterns.shown c.args.pats.now) (g.P.Patterns.shown c.loop-machine.pats) (g.P.Patterns.shown c.turn.new.pats)
-    c.loop-machine.invariant c.in_ok-turn.ensures.turned c.in_ok-turn.ensures.lighter c.in_ok-turn.ensures.holds c.in_ok-turn.ensures.faults c.in_ok-turn.ensures.patterns
+    (left_then (seen_stack c.loop-machine.machine)) c.loop-machine.invariant c.in_ok-turn.ensures.turned c.in_ok-turn.ensures.lighter c.in_ok-turn.ensures.holds c.in_ok-turn.ensures.faults c.in_ok-turn.ensures.patterns
 
 pub returns-in_err-turn : goal.returns-in_err-turn
 returns-in_err-turn g c =
@@ -33,10 +34,9 @@ returns-in_err-turn g c =
           (c.args.teller.now, (c.args.site.now, c.args.out.now)) (c.turn.new.teller, (c.turn.new.site, c.turn.new.out)) (to_state c.turn.new.machine.state result))
           c.from_residual.result stop last
           (run_stopped g.T.Teller.teller g.T.Teller.agrees g.T.Teller.behind s (c.args.teller.now, (c.args.site.now, c.args.out.now))
-          (c.turn.new.teller, (c.turn.new.site, c.turn.new.out)) c.args.machine.now c.turn.new.machine stop (λ t. c.moves_keep_what_is_left.ensures.begins s t) stands is
-          (and_then g.T.Teller.teller g.T.Teller.agrees g.T.Teller.behind (c.args.teller.now, (c.args.site.now, c.args.out.now))
           (c.loop-machine.teller, (c.loop-machine.site, c.loop-machine.out)) (c.turn.new.teller, (c.turn.new.site, c.turn.new.out))
-          c.args.machine.now c.loop-machine.machine c.turn.new.machine (Err stop) c.loop-machine.invariant.turned c.in_err-turn.ensures.turned));
+          c.args.machine.now c.loop-machine.machine c.turn.new.machine stop (λ t. c.moves_keep_what_is_left.ensures.begins s t) stands is
+          c.loop-machine.invariant.turned c.in_err-turn.ensures.turned);
       faults =
           on_err (FaultsAre (g.T.Teller.faults (c.args.teller.now, (c.args.site.now, c.args.out.now))) (g.T.Teller.faults (c.turn.new.teller, (c.turn.new.site, c.turn.new.out))))
           c.from_residual.result stop last

@@ -1,11 +1,11 @@
-use Rattle.cfa_walk.specs.Turns.{machine_weight}
+use Rattle.cfa_walk.specs.Turns.{IsLeft, machine_weight}
 use Rattle.cfa_walk.proofs.TurnLemmas.{AfterTurns}
 use Rattle.cfa_walk.proofs.walking.make_run.Given as goal
 
 -- the run goes on from where it began
 abbrev pub invariant-loop-machine : goal.invariant-loop-machine
 invariant-loop-machine g l =
-    AfterTurns g.T.Teller.teller g.T.Teller.agrees g.T.Teller.behind g.T.Teller.faults (l.initial.teller, (l.initial.site, l.initial.out)) (l.teller, (l.site, l.out))
+    AfterTurns g.T.Teller.teller g.T.Teller.agrees g.T.Teller.behind IsLeft g.T.Teller.faults (l.initial.teller, (l.initial.site, l.initial.out)) (l.teller, (l.site, l.out))
     l.initial.machine l.machine (g.P.Patterns.shown l.initial.pats) (g.P.Patterns.shown l.pats)
 
 abbrev pub decreases-loop-machine : goal.decreases-loop-machine

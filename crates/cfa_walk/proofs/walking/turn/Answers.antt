@@ -7,7 +7,7 @@ use Rattle.cfa_walk.proofs.walking.turn.Goals as goal
 pub returns-in-Nothing-clause-turned : goal.returns-in-Nothing-clause-turned
 returns-in-Nothing-clause-turned g c =
     advanced g.T.Teller.teller g.T.Teller.agrees g.T.Teller.behind (c.args.teller.now, (c.args.site.now, c.args.out.now)) (g.met.T.Teller.steady (c.args.teller.now, (c.args.site.now, c.args.out.now))) c.moves_keep_what_is_left.ensures.moved c.moves_are_quiet.ensures.moved
-    c.histories_only_grow.ensures.left c.args.machine.now c.advance.new.self c.advance.result c.advance.ensures.moved
+    c.histories_only_grow.ensures.left c.args.machine.now c.advance.new.self (sym c.in-Nothing.ensures) c.advance.result c.advance.ensures.moved
 
 pub returns-in-Nothing-clause-lighter : goal.returns-in-Nothing-clause-lighter
 returns-in-Nothing-clause-lighter g c =

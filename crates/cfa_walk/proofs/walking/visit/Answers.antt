@@ -12,7 +12,7 @@ returns-in-Ok-clause-turned g c =
     let asks = sym c.in-Visit.ensures in
     by_answer g.T.Teller.teller g.T.Teller.agrees g.T.Teller.behind (c.args.teller.now, (c.args.site.now, c.args.out.now)) (c.visit.new.self, (c.visit.new.site, c.visit.new.out)) m c.answer_visit.new.machine c.answer_visit.result
     (ok_then c.answer_visit.result c.answer_visit.ensures.moved
-    (visited g.T.Teller.teller g.T.Teller.agrees g.T.Teller.behind (c.args.teller.now, (c.args.site.now, c.args.out.now)) (c.visit.new.self, (c.visit.new.site, c.visit.new.out)) (g.met.T.Teller.steady (c.visit.new.self, (c.visit.new.site, c.visit.new.out))) m c.answer_visit.new.machine i status skipped
+    (visited g.T.Teller.teller g.T.Teller.agrees g.T.Teller.behind (c.args.teller.now, (c.args.site.now, c.args.out.now)) (c.visit.new.self, (c.visit.new.site, c.visit.new.out)) (g.met.T.Teller.steady (c.visit.new.self, (c.visit.new.site, c.visit.new.out))) m c.answer_visit.new.machine i status asks skipped
     (visit_meets (seen_stack m) i status asks skipped c.moves_keep_what_is_left.ensures.skipped c.moves_keep_what_is_left.ensures.entered)
     (visit_quiet (seen_stack m) i status asks skipped c.moves_are_quiet.ensures.skipped c.moves_are_quiet.ensures.entered)
     c.in-Ok.ensures.visited))
