@@ -37,16 +37,6 @@ struct Write {
     is_repaired: bool,
 }
 
-fn copy_digest(digest: &Digest) -> Digest
-    ensures { result ≡ digest.now }
-{
-    match digest {
-        Digest::Nothing => Digest::Nothing,
-        Digest::Over => Digest::Over,
-        Digest::Sha(key) => Digest::Sha(key.copy()),
-    }
-}
-
 fn is_known(digest: &Digest) -> bool
     ensures { result ≡ is_known digest.now }
 {
@@ -100,8 +90,8 @@ fn gap_between(
     Ok(Some(Gap {
         path: path.copy(alloc)?,
         moment,
-        expected: copy_digest(&last.after),
-        found: copy_digest(&next.before),
+        expected: last.after.share()?,
+        found: next.before.share()?,
     }))
 }
 
@@ -139,13 +129,14 @@ fn take(
     ensures ending { IfOk result (λ next. next.ending ≡ ending_of behind.now) }
     ensures told { IfOk result (λ next.
         gaps.new.items ++ gaps_on latest.new (writes next.moment behind.now)
-        ≡ gaps.old.items ++ gaps_on latest.old (writes at.moment (record_of item.entry ∷ behind.now))) }
+        ≡ gaps.old.items
+        ++ gaps_on latest.old (writes at.moment (record_of item.entry ∷ behind.now))) }
 {
     let moment = match item {
         RecordRef::File(_, path, before, after) => {
             let write = Write {
-                before: copy_digest(before),
-                after: copy_digest(after),
+                before: before.share()?,
+                after: after.share()?,
                 is_repaired: is_repaired(at.ending),
             };
             note(alloc, latest, gaps, path, at.moment, write)?;

@@ -23,4 +23,4 @@ record_in (forms.Open n heading) = Open n heading.value.id heading.value.key
 record_in (forms.File n content) = File n content.value.path content.value.before content.value.after
 record_in (forms.Repaired n changes) = Repaired n changes
 record_in (forms.Failed n reason) = Failed n reason
-record_in (forms.Fail n heading reason) = Fail n heading.value.id heading.value.key reason
+record_in (forms.Fail n reason heading) = Fail n heading.value.id heading.value.key reason

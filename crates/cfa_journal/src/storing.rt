@@ -31,7 +31,7 @@ enum Form {
     File(u32, Box<Content>),
     Repaired(u32, u32),
     Failed(u32, u8),
-    Fail(u32, Box<Heading>, u8),
+    Fail(u32, u8, Box<Heading>),
 }
 
 /// A record with its parts borrowed.
@@ -84,7 +84,7 @@ impl StoredRecord {
             Record::Repaired(number, changes) => Form::Repaired(number, changes),
             Record::Failed(number, reason) => Form::Failed(number, reason),
             Record::Fail(number, id, key, reason) => {
-                Form::Fail(number, Box::new(alloc, Heading { id, key })?, reason)
+                Form::Fail(number, reason, Box::new(alloc, Heading { id, key })?)
             }
         };
         Ok(StoredRecord { form })
@@ -103,7 +103,7 @@ impl StoredRecord {
             }
             Form::Repaired(number, changes) => RecordRef::Repaired(*number, *changes),
             Form::Failed(number, reason) => RecordRef::Failed(*number, *reason),
-            Form::Fail(number, heading, reason) => {
+            Form::Fail(number, reason, heading) => {
                 RecordRef::Fail(*number, &heading.id, &heading.key, *reason)
             }
         }
