@@ -315,7 +315,3 @@ total_refuses B out1 out' (Outside Sink) pats pats' h same = refuses_none same
 total_refuses B out1 out' Memory pats pats' h same = same
 total_refuses B out1 out' Visits pats pats' h same = same
 total_refuses B out1 out' (Pattern text) pats pats' h same = absurd h
-
--- memory is wanting before anything is done
-pub memory_stops_run : (site : Shown Told) (out : Shown (List ℕ)) (stop : Stop) → stop ≡ Memory → StopsRun site site out out stop
-memory_stops_run site out stop is = subst (StopsRun site site out out) (sym is) refl

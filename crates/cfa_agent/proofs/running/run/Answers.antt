@@ -29,7 +29,7 @@ returns-in_err-ended-clause-too_large g c is =
     let ended = c.run_on-ended in
     let stop = c.in_err-ended.field-0.0 in
     let short = short_run first ended.new.running c.in_ok-machine.machine ended.new.machine (site c.args.site.now) (site ended.new.site)
-        (out c.args.out.now) (out ended.new.out) (pats c.args.pats.now) (pats ended.new.pats) stop c.in_err-ended.ensures in
+    (out c.args.out.now) (out ended.new.out) (pats c.args.pats.now) (pats ended.new.pats) stop c.in_err-ended.ensures in
     run_large setting (c.moves_keep_what_is_left.ensures.begins setting) (c.moves_keep_what_is_left.ensures.over setting) (c.histories_only_grow.ensures.alike setting)
     c.args.moment c.args.locks first c.begin-running.ensures c.in_ok-machine.machine begins.stands begins.stack
     short.running ended.new.running short.machine ended.new.machine (site c.args.site.now) short.site_there (site ended.new.site)
@@ -46,7 +46,7 @@ returns-in_err-ended-clause-stopped g c =
     let ended = c.run_on-ended in
     let stop = c.in_err-ended.field-0.0 in
     let short = short_run first ended.new.running c.in_ok-machine.machine ended.new.machine (site c.args.site.now) (site ended.new.site)
-        (out c.args.out.now) (out ended.new.out) (pats c.args.pats.now) (pats ended.new.pats) stop c.in_err-ended.ensures in
+    (out c.args.out.now) (out ended.new.out) (pats c.args.pats.now) (pats ended.new.pats) stop c.in_err-ended.ensures in
     on_err (λ (r : Result Tally Stop). IfErr r (StopsRun (site c.args.site.now) (site ended.new.site) (out c.args.out.now) (out ended.new.out))) c.from_residual-in_err-ended.result stop c.from_residual-in_err-ended.ensures.1
     (run_stops setting (c.moves_keep_what_is_left.ensures.begins setting) (c.moves_keep_what_is_left.ensures.over setting) (c.histories_only_grow.ensures.alike setting)
     c.args.moment c.args.locks first c.begin-running.ensures c.in_ok-machine.machine begins.stands begins.stack
@@ -64,7 +64,7 @@ returns-in_err-ended-clause-patterns g c =
     let ended = c.run_on-ended in
     let stop = c.in_err-ended.field-0.0 in
     let short = short_run first ended.new.running c.in_ok-machine.machine ended.new.machine (site c.args.site.now) (site ended.new.site)
-        (out c.args.out.now) (out ended.new.out) (pats c.args.pats.now) (pats ended.new.pats) stop c.in_err-ended.ensures in
+    (out c.args.out.now) (out ended.new.out) (pats c.args.pats.now) (pats ended.new.pats) stop c.in_err-ended.ensures in
     on_err (λ (r : Result Tally Stop). RunRefuses (λ text. RunBuilds setting c.args.moment c.args.locks (site c.args.site.now) (site ended.new.site) (Some text)) r (pats c.args.pats.now) (pats ended.new.pats)) c.from_residual-in_err-ended.result stop c.from_residual-in_err-ended.ensures.1
     (run_refuses setting (c.moves_keep_what_is_left.ensures.begins setting) (c.moves_keep_what_is_left.ensures.over setting) (c.histories_only_grow.ensures.alike setting)
     c.args.moment c.args.locks first c.begin-running.ensures c.in_ok-machine.machine begins.stands begins.stack
@@ -82,7 +82,7 @@ returns-in_err-ended-clause-built g c =
     let ended = c.run_on-ended in
     let stop = c.in_err-ended.field-0.0 in
     let short = short_run first ended.new.running c.in_ok-machine.machine ended.new.machine (site c.args.site.now) (site ended.new.site)
-        (out c.args.out.now) (out ended.new.out) (pats c.args.pats.now) (pats ended.new.pats) stop c.in_err-ended.ensures in
+    (out c.args.out.now) (out ended.new.out) (pats c.args.pats.now) (pats ended.new.pats) stop c.in_err-ended.ensures in
     on_err (λ (r : Result Tally Stop). RunBuilds setting c.args.moment c.args.locks (site c.args.site.now) (site ended.new.site) (text_too_big r)) c.from_residual-in_err-ended.result stop c.from_residual-in_err-ended.ensures.1
     (run_built setting (c.moves_keep_what_is_left.ensures.begins setting) (c.moves_keep_what_is_left.ensures.over setting) (c.histories_only_grow.ensures.alike setting)
     c.args.moment c.args.locks first c.begin-running.ensures c.in_ok-machine.machine begins.stands begins.stack
@@ -99,7 +99,7 @@ returns-clause-ran g c =
     let begins = c.in_ok-machine.ensures.begins in
     let ended = c.run_on-ended in
     let whole = whole_run first ended.new.running c.in_ok-machine.machine ended.new.machine (site c.args.site.now) (site ended.new.site)
-        (out c.args.out.now) (out ended.new.out) (pats c.args.pats.now) (pats ended.new.pats) c.in_ok-ended.field-0 c.in_ok-ended.ensures in
+    (out c.args.out.now) (out ended.new.out) (pats c.args.pats.now) (pats ended.new.pats) c.in_ok-ended.field-0 c.in_ok-ended.ensures in
     run_ran setting (c.moves_keep_what_is_left.ensures.begins setting) (c.moves_keep_what_is_left.ensures.over setting) (c.histories_only_grow.ensures.alike setting)
     c.args.moment c.args.locks first c.begin-running.ensures c.in_ok-machine.machine begins.stands begins.stack
     ended.new.running ended.new.machine (site c.args.site.now) (site ended.new.site)
@@ -115,7 +115,7 @@ returns-clause-bracketed g c =
     let begins = c.in_ok-machine.ensures.begins in
     let ended = c.run_on-ended in
     let whole = whole_run first ended.new.running c.in_ok-machine.machine ended.new.machine (site c.args.site.now) (site ended.new.site)
-        (out c.args.out.now) (out ended.new.out) (pats c.args.pats.now) (pats ended.new.pats) c.in_ok-ended.field-0 c.in_ok-ended.ensures in
+    (out c.args.out.now) (out ended.new.out) (pats c.args.pats.now) (pats ended.new.pats) c.in_ok-ended.field-0 c.in_ok-ended.ensures in
     run_bracketed setting (c.moves_keep_what_is_left.ensures.begins setting) (c.moves_keep_what_is_left.ensures.over setting) (c.histories_only_grow.ensures.alike setting)
     c.args.moment c.args.locks first c.begin-running.ensures c.in_ok-machine.machine begins.stands begins.stack
     ended.new.running ended.new.machine (site c.args.site.now) (site ended.new.site)
@@ -143,7 +143,7 @@ returns-in_err-put_total-clause-stopped g c =
     let pats = g.P.Patterns.shown in
     let ended = c.run_on-ended in
     let whole = whole_run c.begin-running.result ended.new.running c.in_ok-machine.machine ended.new.machine (site c.args.site.now) (site ended.new.site)
-        (out c.args.out.now) (out ended.new.out) (pats c.args.pats.now) (pats ended.new.pats) c.in_ok-ended.field-0 c.in_ok-ended.ensures in
+    (out c.args.out.now) (out ended.new.out) (pats c.args.pats.now) (pats ended.new.pats) c.in_ok-ended.field-0 c.in_ok-ended.ensures in
     let stop = c.in_err-put_total.field-0.0 in
     on_err (λ (r : Result Tally Stop). IfErr r (StopsRun (site c.args.site.now) (site ended.new.site) (out c.args.out.now) (out c.put_total.new.out)))
     c.from_residual-in_err-put_total.result stop c.from_residual-in_err-put_total.ensures.1
@@ -158,7 +158,7 @@ returns-in_err-put_total-clause-patterns g c =
     let pats = g.P.Patterns.shown in
     let ended = c.run_on-ended in
     let whole = whole_run c.begin-running.result ended.new.running c.in_ok-machine.machine ended.new.machine (site c.args.site.now) (site ended.new.site)
-        (out c.args.out.now) (out ended.new.out) (pats c.args.pats.now) (pats ended.new.pats) c.in_ok-ended.field-0 c.in_ok-ended.ensures in
+    (out c.args.out.now) (out ended.new.out) (pats c.args.pats.now) (pats ended.new.pats) c.in_ok-ended.field-0 c.in_ok-ended.ensures in
     let stop = c.in_err-put_total.field-0.0 in
     let B : List ℕ → Type 0 = λ text. RunBuilds setting c.args.moment c.args.locks (site c.args.site.now) (site ended.new.site) (Some text) in
     on_err (λ (r : Result Tally Stop). RunRefuses B r (pats c.args.pats.now) (pats ended.new.pats))
@@ -183,7 +183,7 @@ returns-clause-calm g c =
     let pats = g.P.Patterns.shown in
     let ended = c.run_on-ended in
     let whole = whole_run c.begin-running.result ended.new.running c.in_ok-machine.machine ended.new.machine (site c.args.site.now) (site ended.new.site)
-        (out c.args.out.now) (out ended.new.out) (pats c.args.pats.now) (pats ended.new.pats) c.in_ok-ended.field-0 c.in_ok-ended.ensures in
+    (out c.args.out.now) (out ended.new.out) (pats c.args.pats.now) (pats ended.new.pats) c.in_ok-ended.field-0 c.in_ok-ended.ensures in
     ap (λ (o : Shown (List ℕ)). o.faults) c.in_ok-put_total.ensures.put ∙ ap (λ (o : Shown (List ℕ)). o.faults) whole.1.out_is
 
 pub returns-clause-patterns : goal.returns-clause-patterns
@@ -193,5 +193,5 @@ returns-clause-patterns g c =
     let pats = g.P.Patterns.shown in
     let ended = c.run_on-ended in
     let whole = whole_run c.begin-running.result ended.new.running c.in_ok-machine.machine ended.new.machine (site c.args.site.now) (site ended.new.site)
-        (out c.args.out.now) (out ended.new.out) (pats c.args.pats.now) (pats ended.new.pats) c.in_ok-ended.field-0 c.in_ok-ended.ensures in
+    (out c.args.out.now) (out ended.new.out) (pats c.args.pats.now) (pats ended.new.pats) c.in_ok-ended.field-0 c.in_ok-ended.ensures in
     whole.1.patterns_are
