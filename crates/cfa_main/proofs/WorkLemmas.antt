@@ -18,7 +18,8 @@ use Rattle.cfa_conflict.specs.declared.verdicts.Verdict.TheVariants.{Accepted, C
 use Rattle.cfa_conflict.specs.Analyses.{analysis_of}
 use Rattle.cfa_agent.specs.Actuations.{Mark}
 use Rattle.cfa_agent.specs.Runs.{Start, run_of}
-use Rattle.cfa_agent.specs.Ran.{start_of, StopsRun, Refuses, RunBuilds, RunRefuses, RefusesUnput, refuses_none, refuses_one}
+use Rattle.cfa_agent.specs.Ran.{start_of, StopsRun, Refuses, RunBuilds, RunRefuses, RefusesUnput, refuses_none}
+use Rattle.cfa_main.specs.declared.work.PolicyRun.{PolicyRun}
 use Rattle.cfa_agent.specs.lemmas.Hosts.{adds_none}
 use Rattle.cfa_main.specs.declared.ends.End.{End}
 use Rattle.cfa_main.specs.declared.ends.End.TheVariants.{Ended, PromiseFailed, InConflict}
@@ -235,7 +236,7 @@ module _ (moment : ℕ) (site site' : Shown Told) (out out' : Shown (List ℕ)) 
   PatternsBy work (Outside Sink) = RunUnput work
   PatternsBy work Memory = Untouched pats pats'
   PatternsBy work Visits = Untouched pats pats'
-  PatternsBy work (Pattern text) = ⊤
+  PatternsBy work (Pattern text) = Unit {0}
 
   untouched_by : (work : Work) (stop : Stop) → Refuses (text_too_big (Some stop)) pats pats' → PatternsBy work stop
   untouched_by work (Outside Inputs) kept = kept
