@@ -1,4 +1,6 @@
 // Steps of an agent on one site, and each on another.
+ghost use Rattle.cfa_agent.specs.Agents.{Sound};
+
 use crate::telling::{Told, tell_entries, tell_step};
 use cfa_agent::Agent;
 use cfa_base::{Bytes, Name, Names};
@@ -61,7 +63,10 @@ fn new_site(alloc: Global) -> Option<MemorySite> {
 }
 
 // Makes a step, and tells it with what it added to the log of its site.
-fn step_on(agent: &mut Agent<'_>, site: &mut MemorySite, told: &mut Told) {
+fn step_on(agent: &mut Agent<'_>, site: &mut MemorySite, told: &mut Told)
+    requires { Sound agent.old }
+    ensures { Sound agent.new }
+{
     let from = site.log().len();
     let mut pats = RegexPatterns::new(told.alloc, Vec::new(told.alloc));
     let stepped = agent.step(told.alloc, site, &mut pats);
@@ -75,7 +80,9 @@ fn four_steps(on_one: bool, told: &mut Told) -> Option<()> {
     let context = Context {
         classes: Names::new(told.alloc),
     };
-    let mut agent = Agent::new(told.alloc, &checked, &context, 5, false).ok()?;
+    let Ok(mut agent) = Agent::new(told.alloc, &checked, &context, 5, false) else {
+        return None;
+    };
     let mut site = new_site(told.alloc)?;
     for _ in 0..4 {
         if !on_one {
