@@ -1,4 +1,5 @@
 // Steps of an agent on one site, and each on another.
+ghost use Rattle.std.specs.Prelude.{IfSome};
 ghost use Rattle.cfa_agent.specs.Agents.{Sound};
 
 use crate::telling::{Told, tell_entries, tell_step};
@@ -74,6 +75,23 @@ fn step_on(agent: &mut Agent<'_>, site: &mut MemorySite, told: &mut Told)
     tell_entries(site, from, told);
 }
 
+// Makes a step on the site that stands, or on a new one.
+fn next_step(
+    agent: &mut Agent<'_>,
+    site: &mut MemorySite,
+    on_one: bool,
+    told: &mut Told,
+) -> Option<()>
+    requires { Sound agent.old }
+    ensures { IfSome result (λ done. Sound agent.new) }
+{
+    if !on_one {
+        *site = new_site(told.alloc)?;
+    }
+    step_on(agent, site, told);
+    Some(())
+}
+
 // Four steps, on one site or each on a new one.
 fn four_steps(on_one: bool, told: &mut Told) -> Option<()> {
     let checked = checked_of(told.alloc)?;
@@ -84,12 +102,10 @@ fn four_steps(on_one: bool, told: &mut Told) -> Option<()> {
         return None;
     };
     let mut site = new_site(told.alloc)?;
-    for _ in 0..4 {
-        if !on_one {
-            site = new_site(told.alloc)?;
-        }
-        step_on(&mut agent, &mut site, told);
-    }
+    next_step(&mut agent, &mut site, on_one, told)?;
+    next_step(&mut agent, &mut site, on_one, told)?;
+    next_step(&mut agent, &mut site, on_one, told)?;
+    next_step(&mut agent, &mut site, on_one, told)?;
     Some(())
 }
 
