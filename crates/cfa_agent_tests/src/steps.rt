@@ -5,7 +5,9 @@ ghost use Rattle.cfa_agent.specs.Agents.{Sound};
 use crate::telling::{Told, tell_entries, tell_step};
 use cfa_agent::Agent;
 use cfa_base::{Bytes, Name, Names};
-use cfa_outside::{MemoryInputs, MemorySite, RegexPatterns, World};
+use cfa_outside::{
+    MemoryInputs, MemorySite, Node, Path, RegexPatterns, ServiceRow, World, root_perms,
+};
 use cfa_schema::Checked;
 use cfa_sources::read_policy;
 use cfa_walk::Context;
@@ -14,36 +16,50 @@ use std::process::ExitCode;
 
 const POLICY: &str = "bundle agent main
 {
+  vars:
+    'settings' slist => { 'Port 22', 'PermitRootLogin no', 'X11Forwarding no' };
   files:
-    '/a' create => 'true';
-    '/b' create => 'true';
-  reports:
-    'both';
+    '/etc/ssh/sshd_config'
+      edit_line => ensure(@(settings)),
+      classes => if_repaired('ssh_changed');
+  services:
+    ssh_changed::
+      'sshd' service_policy => 'restart';
+}
+bundle edit_line ensure(lines)
+{
+  insert_lines:
+    '$(lines)';
+}
+body classes if_repaired(x)
+{
+  promise_repaired => { '$(x)' };
 }
 ";
 
 // What each step answers, its lines, the counts so far, and what it adds to the log of its site. Behind the end nothing more is done.
 const FOUR_STEPS: &str = "more
-repaired main:1@4 1
+repaired main:2@6 1
 kept 0 repaired 1 failed 0
-append run 5
+append run 1704103200
 append open 1
 append file 1
-file /a
+file /etc/ssh/sshd_config
 append done 1
 more
-repaired main:2@5 1
+repaired main:3@11 1
 kept 0 repaired 2 failed 0
 append open 2
-append file 2
-file /b
+service sshd
 append done 2
 ended
-R: both
-kept 1 repaired 2 failed 0
+kept 0 repaired 2 failed 0
 ended
-kept 1 repaired 2 failed 0
+kept 0 repaired 2 failed 0
 ";
+
+// The moment of the run.
+const MOMENT: u64 = 1704103200;
 
 fn inputs_of(alloc: Global, name: &Name) -> Option<MemoryInputs> {
     let mut files = Vec::new(alloc);
@@ -59,8 +75,35 @@ fn checked_of(alloc: Global) -> Option<Checked> {
     read_policy(alloc, &name, &mut inputs, &mut pats).ok()
 }
 
+fn add_node(alloc: Global, text: &str, node: Node, world: &mut World) -> Option<()> {
+    let path = Path::read(alloc, &Name::from_text(alloc, text).ok()?).ok()?;
+    world.nodes.add(alloc, &path, node).ok()
+}
+
+fn new_dir(alloc: Global) -> Option<Node> {
+    Some(Node::Dir(root_perms(alloc, 0o755).ok()?))
+}
+
+// The file has the first of its lines, and the service runs.
+fn new_world(alloc: Global) -> Option<World> {
+    let mut world = World::new(alloc);
+    add_node(alloc, "/etc", new_dir(alloc)?, &mut world)?;
+    add_node(alloc, "/etc/ssh", new_dir(alloc)?, &mut world)?;
+    let bytes = Bytes::from_slice(alloc, b"Port 22\n").ok()?;
+    let file = Node::File(bytes, root_perms(alloc, 0o644).ok()?);
+    add_node(alloc, "/etc/ssh/sshd_config", file, &mut world)?;
+    let sshd = ServiceRow {
+        running: true,
+        enabled: true,
+        restarts: 0,
+    };
+    let name = Name::from_text(alloc, "sshd").ok()?;
+    world.services.insert(name, sshd).ok()?;
+    Some(world)
+}
+
 fn new_site(alloc: Global) -> Option<MemorySite> {
-    MemorySite::new(alloc, World::new(alloc), Vec::new(alloc), None).ok()
+    MemorySite::new(alloc, new_world(alloc)?, Vec::new(alloc), None).ok()
 }
 
 // Makes a step, and tells it with what it added to the log of its site.
@@ -71,7 +114,8 @@ fn step_on(agent: &mut Agent<'_>, site: &mut MemorySite, told: &mut Told)
     let from = site.log().len();
     let mut pats = RegexPatterns::new(told.alloc, Vec::new(told.alloc));
     let stepped = agent.step(told.alloc, site, &mut pats);
-    tell_step(&stepped, agent, told);
+    let lines = agent.take_lines();
+    tell_step(&stepped, lines.as_slice(), agent.tally(), told);
     tell_entries(site, from, told);
 }
 
@@ -98,7 +142,7 @@ fn four_steps(on_one: bool, told: &mut Told) -> Option<()> {
     let context = Context {
         classes: Names::new(told.alloc),
     };
-    let Ok(mut agent) = Agent::new(told.alloc, &checked, &context, 5, false) else {
+    let Ok(mut agent) = Agent::new(told.alloc, &checked, &context, MOMENT, false) else {
         return None;
     };
     let mut site = new_site(told.alloc)?;

@@ -1,5 +1,6 @@
 // What is told of the steps of an agent.
-use cfa_agent::{Agent, Stepped};
+use cfa_agent::{Stepped, Tally};
+use cfa_base::Name;
 use cfa_outside::{Change, Entry, MemorySite};
 use std::alloc::Global;
 
@@ -54,11 +55,9 @@ fn tell_change(change: &Change, told: &mut Told) {
     match change {
         Change::PutFile(path, _) => told.push(&["file ", path.text().as_str(), "\n"]),
         Change::Append(bytes) => tell_record(bytes.as_slice(), told),
-        Change::PutDir(_)
-        | Change::Remove(_)
-        | Change::SetPerms(_, _)
-        | Change::PutService(_, _)
-        | Change::PutLock(_, _) => told.push(&["another change\n"]),
+        Change::PutService(name, _) => told.push(&["service ", name.as_str(), "\n"]),
+        Change::PutDir(_) | Change::Remove(_) | Change::SetPerms(_, _) | Change::PutLock(_, _) =>
+            told.push(&["another change\n"]),
     }
 }
 
@@ -73,18 +72,15 @@ pub fn tell_entries(site: &MemorySite, from: usize, told: &mut Told) {
 }
 
 // Tells what a step answered, its lines and the counts.
-pub fn tell_step(stepped: &Stepped, agent: &mut Agent<'_>, told: &mut Told) {
+pub fn tell_step(stepped: &Stepped, lines: &[Name], tally: Tally, told: &mut Told) {
     told.push(&[match stepped {
         Stepped::More => "more\n",
         Stepped::Ended => "ended\n",
         Stepped::Stopped(_) => "stopped\n",
     }]);
-    let lines = agent.take_lines();
-    for line in lines.iter() {
+    for line in lines {
         told.push(&[line.as_str()]);
     }
-    drop(lines);
-    let tally = agent.tally();
     told.push_number("kept ", tally.kept);
     told.push_number(" repaired ", tally.repaired);
     told.push_number(" failed ", tally.failed);
