@@ -123,7 +123,7 @@ runs_none first m site out pats holds stands = record {
   patterns_are = refl;
 }
 
-text_of_both : (put told : List (List ℕ)) → text_of_lines (put ++ told) ≡ text_of_lines put ++ text_of_lines told
+pub text_of_both : (put told : List (List ℕ)) → text_of_lines (put ++ told) ≡ text_of_lines put ++ text_of_lines told
 text_of_both put told = flat_map-append (λ line. line) put told
 
 module _ (first r r' : Running) (m m1 m' : Machine) (site site1 site' : Shown Told) (out out1 out' : Shown (List ℕ)) (pats pats1 pats' : Shown (List (List ℕ)))

@@ -15,7 +15,8 @@ use Rattle.cfa_output.specs.declared.ends.Stop.{Stop}
 use Rattle.cfa_output.specs.declared.ends.Stop.TheVariants.{Outside, Memory, Visits, Pattern}
 use Rattle.cfa_frames.specs.Frames.{Stack, beginning, rest}
 use Rattle.cfa_frames.specs.Growing.{AnswerAlike}
-use Rattle.cfa_frames.specs.Moves.{need_of, over}
+use Rattle.cfa_frames.specs.Moves.{Meets, Next, need_of, over}
+use Rattle.cfa_frames.specs.Steps.{step}
 use Rattle.cfa_machine.specs.Reaching.{done_of}
 use Rattle.cfa_machine.specs.Stacks.{Stands, seen_stack}
 use Rattle.cfa_machine.specs.declared.machines.Machine.{Machine}
@@ -32,14 +33,14 @@ use Rattle.cfa_agent.specs.Bracketed.{AllBracketed}
 use Rattle.cfa_agent.specs.Ending.{StopsPut}
 use Rattle.cfa_agent.specs.Marks.{marks_of}
 use Rattle.cfa_agent.specs.Putting.{IsPut, RunsOn, StepPut, all_put, put_failed, with_taken}
-use Rattle.cfa_agent.specs.Ran.{added, started, counts_of, IsWhole, RunsAs, IfBothTold, StopsRun, Refuses, RunBuilds, RunRefuses, RefusesUnput, refuses_none, refuses_one, text_of_lines, text_too_big}
+use Rattle.cfa_agent.specs.Ran.{added, started, counts_of, IsWhole, LimitAs, RunsAs, IfBothTold, StopsRun, Refuses, RunBuilds, RunRefuses, RefusesUnput, refuses_none, refuses_one, text_of_lines, text_too_big}
 use Rattle.cfa_agent.specs.declared.running.Tally.{Tally}
 use Rattle.cfa_agent.specs.Runs.{Counts, Start, real, run_of, log_of, lines_of, tally_of, history_of, last_line, lines_in, log_in, tally_in}
 use Rattle.cfa_agent.specs.Standing.{Given, Standing, IsBehind, Agrees, teller_of, IsFirst, Rests, since, IsWholeLog, log_of_events, lines_of_events}
 use Rattle.cfa_agent.specs.lemmas.Hosts.{adds_none}
 use Rattle.cfa_agent.proofs.BracketedLogs.{rests_none, rests_bracketed}
 use Rattle.cfa_agent.proofs.MarkLemmas.{whole_none}
-use Rattle.cfa_agent.proofs.RunSteps.{agrees_taken, agrees_untaken}
+use Rattle.cfa_agent.proofs.RunSteps.{agrees_taken, agrees_untaken, text_of_both}
 use Rattle.cfa_agent.proofs.WholeRuns.{lines_alone, log_alone, steps_alike}
 
 abbrev given_by : (moment : ℕ) → (locks : Bool) → (before after : Told) → Given
@@ -81,6 +82,9 @@ EndsOver s = (t : Teller) (st : Stack) (h : History) → need_of st ≡ over →
 
 abbrev RestAlike : Setting → Type 0
 RestAlike s = (t u : Teller) (st : Stack) (h : History) → AnswerAlike h t u → rest s t st h ≡ rest s u st h
+
+abbrev LeftByStep : Setting → Type 0
+LeftByStep s = (t : Teller) (st : Stack) (h : History) → Meets s t (step s t st h) (rest s t st h)
 
 module _ (setting : Setting) (begins : Begins setting) (ends : EndsOver setting) (alike : RestAlike setting)
     (moment : ℕ) (locks : Bool) (first : Running) (is_first : IsFirst moment locks first)
@@ -180,6 +184,50 @@ module _ (setting : Setting) (begins : Begins setting) (ends : EndsOver setting)
         let past = (done setting (with_taken runs.put g) mid.0 agreed).1 mid.1.0 mid.1.1.0 in
         subst (λ (c : Course). IsTooLarge c) (mid.1.1.1 ∙ run_left (started moment locks before after) before after refl) past.0
 
+    -- all before that was done, and told
+    record Past (told : List (List ℕ)) (before after : Told) : Type 0 where
+      history : History
+      ran : run setting (real (started moment locks before after)) ≡ too_large history
+      told_is : after ≡ adds (log_in (started moment locks before after) history) before
+      lines_are : runs.put ++ told ≡ lines_in (started moment locks before after) history
+
+    past_by : LeftByStep setting → (told : List (List ℕ)) (before after : Told) → site.told ≡ Some before → site'.told ≡ Some after →
+        StepDone teller_of Agrees IsBehind (r1, (site1, [])) (r', (site', told)) m1 m' (Err Visits) → Past told before after
+    past_by left told before after is is' done =
+        let start : Start = started moment locks before after in
+        let g : Given = given_by moment locks before after in
+        let t : Teller = teller_of g in
+        let agreed = agrees_taken (r', (site', told)) g runs.put (agrees_with_all moment locks (r', (site', told)) before after is') in
+        let was = runs.gone setting g [] (agrees_untaken (r1, (site1, [])) g runs.put (done setting (with_taken runs.put g) [] agreed).0) in
+        let mid = was.1 stands (begins_behind moment locks first site before after is_first is) in
+        let past = (done setting (with_taken runs.put g) mid.0 agreed).1 mid.1.0 mid.1.1.0 in
+        let k : History = past.1.0 in
+        let behind : IsBehind (r', (site', told)) (with_taken runs.put g) k = past.1.1.0 in
+        let whole : k ≡ behind.events = behind.is ∙ append-nil behind.events in
+        let log : log_of_events g behind.events ≡ log_in start k = log_alone start behind.events ∙ ap (log_in start) (sym whole) in
+        let lines : lines_of_events g behind.events ≡ lines_in start k = lines_alone start behind.events ∙ ap (lines_in start) (sym whole) in
+        let M : Next → Type 0 = λ x. Meets setting t x (rest setting t (seen_stack m1) mid.0) in
+        record {
+          history = k;
+          ran = sym (run_left start before after refl) ∙ (sym mid.1.1.1 ∙ sym (subst M past.1.1.1 (left t (seen_stack m1) mid.0)));
+          told_is = one_some is' behind.came.told_is ∙ ap (λ (log : List Entry). adds log before) log;
+          lines_are = behind.came.lines_are ∙ lines;
+        }
+
+    limit_as : (told : List (List ℕ)) (before after : Told) → Past told before after → Follows (adds_bytes (text_of_lines told)) out1 out' →
+        LimitAs setting (started moment locks before after) before after out out'
+    unfolding run_of log_of lines_of
+    limit_as told before after past put =
+        let start : Start = started moment locks before after in
+        let same : history_of (run setting (real start)) ≡ past.history = ap history_of past.ran in
+        let F : List ℕ → Type 0 = λ text. Follows (adds_bytes text) out out' in
+        record {
+          site_is = past.told_is ∙ ap (λ (h : History). adds (log_in start h) before) (sym same);
+          out_is =
+              subst F (sym (text_of_both runs.put told) ∙ ap text_of_lines (past.lines_are ∙ ap (lines_in start) (sym same)))
+              (puts_then (text_of_lines runs.put) (text_of_lines told) out out1 out' runs.out_is put);
+        }
+
     -- by a text that was refused for its size
     built_by : (text : List ℕ) (told : List (List ℕ)) (before after : Told) → site.told ≡ Some before → site'.told ≡ Some after →
         StepDone teller_of Agrees IsBehind (r1, (site1, [])) (r', (site', told)) m1 m' (Err (Pattern text)) → BuiltOn setting (run setting (real (started moment locks before after))) text
@@ -211,6 +259,16 @@ module _ (setting : Setting) (begins : Begins setting) (ends : EndsOver setting)
         let D : Result Bool Stop → Type 0 = λ x. StepDone teller_of Agrees IsBehind (r1, (site1, [])) (r', (site', told)) m1 m' x in
         each_some site.told _ (λ before was. each_some site'.told _ (λ after now. large_of before after (large_by told before after was now (subst D is done))))
 
+    abbrev Limit : Type 0
+    Limit = IfBothTold (λ before after. LimitAs setting (started moment locks before after) before after out out') site site'
+
+    step_limit : LeftByStep setting → (told : List (List ℕ)) (stepped : Result Bool Stop) → stepped ≡ Err Visits →
+        StepDone teller_of Agrees IsBehind (r1, (site1, [])) (r', (site', told)) m1 m' stepped → Follows (adds_bytes (text_of_lines told)) out1 out' → Limit
+    step_limit left told stepped is done put =
+        let D : Result Bool Stop → Type 0 = λ x. StepDone teller_of Agrees IsBehind (r1, (site1, [])) (r', (site', told)) m1 m' x in
+        each_some site.told _ (λ before was. each_some site'.told _ (λ after now.
+        limit_as told before after (past_by left told before after was now (subst D is done)) put))
+
     step_built : (text : List ℕ) (told : List (List ℕ)) (stepped : Result Bool Stop) → stepped ≡ Err (Pattern text) →
         StepDone teller_of Agrees IsBehind (r1, (site1, [])) (r', (site', told)) m1 m' stepped → Builds text
     step_built text told stepped is done =
@@ -221,6 +279,12 @@ module _ (setting : Setting) (begins : Begins setting) (ends : EndsOver setting)
     run_large stop is step = by step.put where
       by : IsPut step.told step.stepped out1 out' (Err stop) → Large
       by (all_put same put) = step_large step.told step.stepped (sym same ∙ ap Err is) step.done
+      by (put_failed same failed) = absurd (cc)
+
+    pub run_limit : LeftByStep setting → (stop : Stop) → stop ≡ Visits → StepPut r1 r' m1 m' site1 site' out1 out' pats1 pats' (Err stop) → Limit
+    run_limit left stop is step = by step.put where
+      by : IsPut step.told step.stepped out1 out' (Err stop) → Limit
+      by (all_put same put) = step_limit left step.told step.stepped (sym same ∙ ap Err is) step.done put
       by (put_failed same failed) = absurd (cc)
 
     pub run_built : (stop : Stop) → StepPut r1 r' m1 m' site1 site' out1 out' pats1 pats' (Err stop) → RunBuilds setting moment locks site site' (text_too_big (Err stop))

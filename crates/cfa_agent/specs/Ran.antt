@@ -65,6 +65,11 @@ IfBothTold Holds site site' = IfSome site.told (λ before. IfSome site'.told (λ
 
 -- ---- a run that was stopped
 
+-- a run that was stopped at the limit did and put all that its definition says before the promise with which it would have more visits
+pub record LimitAs (setting : Setting) (s : Start) (before after : Told) (out out' : Shown (List ℕ)) : Type 0 where
+  pub site_is : after ≡ adds (log_of setting s) before
+  pub out_is : Follows (adds_bytes (text_of_lines (lines_of setting s))) out out'
+
 -- the text that was refused for its size, if that stopped the run
 abbrev pub text_too_big : Result Tally Stop → Option (List ℕ)
 text_too_big (Ok tally) = None

@@ -11,12 +11,12 @@ ghost use Rattle.cfa_agent.specs.Runs.{run_of};
 ghost use Rattle.cfa_agent.specs.Bracketed.{AllBracketed};
 ghost use Rattle.cfa_agent.specs.Putting.{RunEnds, StepPut};
 ghost use Rattle.cfa_agent.specs.Standing.{IsFirst};
-ghost use Rattle.cfa_agent.specs.Ran.{added, started, RunsAs, RunBuilds, IfBothTold, text_too_big, StopsRun, RunRefuses};
+ghost use Rattle.cfa_agent.specs.Ran.{added, started, LimitAs, RunsAs, RunBuilds, IfBothTold, text_too_big, StopsRun, RunRefuses};
 
 use crate::progress::Running;
 use crate::putting::{put_lines, put_total};
 use cfa_base::{LAST_MOMENT, Patterns};
-use cfa_frames::{histories_only_grow, moves_keep_what_is_left};
+use cfa_frames::{histories_only_grow, moves_keep_what_is_left, steps_keep_what_is_left};
 use cfa_machine::Machine;
 use cfa_output::Stop;
 use cfa_outside::{Sink, Site};
@@ -129,6 +129,10 @@ pub fn run<S: Site, O: Sink, P: Patterns>(
     ensures too_large { IsErrOf result Stop.Visits → IfBothTold (λ before after. IsTooLarge
         (run_of (setting_of checked.now context.now) (started moment locks before after)))
         (S.shown site.old) (S.shown site.new) }
+    // Then all before the promise with which it would have more was done and put, and nothing else.
+    ensures limit { IsErrOf result Stop.Visits → IfBothTold (λ before after.
+        LimitAs (setting_of checked.now context.now) (started moment locks before after) before after
+        (O.shown out.old) (O.shown out.new)) (S.shown site.old) (S.shown site.new) }
     ensures stopped { IfErr result
         (StopsRun (S.shown site.old) (S.shown site.new) (O.shown out.old) (O.shown out.new)) }
     // A pattern that stops a run is one that it builds; where a line that stood before it can't be put, that ends the run.
@@ -140,6 +144,7 @@ pub fn run<S: Site, O: Sink, P: Patterns>(
 {
     moves_keep_what_is_left();
     histories_only_grow();
+    steps_keep_what_is_left();
     let mut machine = Machine::new(alloc, checked, &context.classes, false)?;
     let mut running = begin(moment, locks);
     let ended = run_on(alloc, &mut machine, &mut running, site, out, pats);

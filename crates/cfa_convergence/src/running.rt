@@ -4,7 +4,7 @@ ghost use Rattle.cfa_states.specs.Levels.{IsTooLarge};
 ghost use Rattle.cfa_walk.specs.Settings.{setting_of};
 ghost use Rattle.cfa_agent.specs.Bracketed.{AllBracketed};
 ghost use Rattle.cfa_agent.specs.Runs.{run_of};
-ghost use Rattle.cfa_agent.specs.Ran.{added, started, RunsAs, RunBuilds, IfBothTold, text_too_big, StopsRun, RunRefuses};
+ghost use Rattle.cfa_agent.specs.Ran.{added, started, LimitAs, RunsAs, RunBuilds, IfBothTold, text_too_big, StopsRun, RunRefuses};
 ghost use Rattle.cfa_conflict.specs.Analyses.{analysis_of};
 ghost use Rattle.cfa_conflict.specs.declared.verdicts.Verdict as verdicts;
 ghost use Rattle.cfa_convergence.specs.Settled.{Settles};
@@ -44,6 +44,10 @@ pub fn run<S: Site, O: Sink, P: Patterns>(
     ensures too_large { IsErrOf result Stop.Visits → IfBothTold (λ before after. IsTooLarge
         (run_of (setting_of checked.now context.now) (started moment locks before after)))
         (S.shown site.old) (S.shown site.new) }
+    // Then all before the promise with which it would have more was done and put, and nothing else.
+    ensures limit { IsErrOf result Stop.Visits → IfBothTold (λ before after.
+        LimitAs (setting_of checked.now context.now) (started moment locks before after) before after
+        (O.shown out.old) (O.shown out.new)) (S.shown site.old) (S.shown site.new) }
     ensures stopped { IfErr result
         (StopsRun (S.shown site.old) (S.shown site.new) (O.shown out.old) (O.shown out.new)) }
     ensures patterns { RunRefuses (λ text. RunBuilds (setting_of checked.now context.now) moment locks

@@ -7,7 +7,7 @@ use Rattle.cfa_agent.specs.declared.running.Tally.{Tally}
 use Rattle.cfa_agent.specs.Ran.{RunBuilds, RunRefuses, StopsRun, text_too_big}
 use Rattle.cfa_walk.specs.Settings.{setting_of}
 use Rattle.cfa_agent.proofs.RunSteps.{short_run, whole_run}
-use Rattle.cfa_agent.proofs.RunTold.{run_bracketed, run_built, run_large, run_ran, run_refuses, run_stops, total_builds, total_refuses, total_stops}
+use Rattle.cfa_agent.proofs.RunTold.{run_bracketed, run_built, run_large, run_limit, run_ran, run_refuses, run_stops, total_builds, total_refuses, total_stops}
 use Rattle.cfa_agent.proofs.running.run.Goals as goal
 
 pub run_on-ended-requires-clause-holds : goal.run_on-ended-requires-clause-holds
@@ -34,6 +34,23 @@ returns-in_err-ended-clause-too_large g c is =
     c.args.moment c.args.locks first c.begin-running.ensures c.in_ok-machine.machine begins.stands begins.stack
     short.running ended.new.running short.machine ended.new.machine (site c.args.site.now) short.site_there (site ended.new.site)
     (out c.args.out.now) short.out_there (out ended.new.out) (pats c.args.pats.now) short.pats_there (pats ended.new.pats) short.runs stop (sym (rw is at c.from_residual-in_err-ended.ensures.1)) short.step
+
+pub returns-in_err-ended-clause-limit : goal.returns-in_err-ended-clause-limit
+returns-in_err-ended-clause-limit g c is =
+    let setting = setting_of c.args.checked.now c.args.context.now in
+    let site = g.S.Site.shown in
+    let out = g.O.Sink.shown in
+    let pats = g.P.Patterns.shown in
+    let first = c.begin-running.result in
+    let begins = c.in_ok-machine.ensures.begins in
+    let ended = c.run_on-ended in
+    let stop = c.in_err-ended.field-0.0 in
+    let short = short_run first ended.new.running c.in_ok-machine.machine ended.new.machine (site c.args.site.now) (site ended.new.site)
+    (out c.args.out.now) (out ended.new.out) (pats c.args.pats.now) (pats ended.new.pats) stop c.in_err-ended.ensures in
+    run_limit setting (c.moves_keep_what_is_left.ensures.begins setting) (c.moves_keep_what_is_left.ensures.over setting) (c.histories_only_grow.ensures.alike setting)
+    c.args.moment c.args.locks first c.begin-running.ensures c.in_ok-machine.machine begins.stands begins.stack
+    short.running ended.new.running short.machine ended.new.machine (site c.args.site.now) short.site_there (site ended.new.site)
+    (out c.args.out.now) short.out_there (out ended.new.out) (pats c.args.pats.now) short.pats_there (pats ended.new.pats) short.runs (c.steps_keep_what_is_left.ensures.left setting) stop (sym (rw is at c.from_residual-in_err-ended.ensures.1)) short.step
 
 pub returns-in_err-ended-clause-stopped : goal.returns-in_err-ended-clause-stopped
 returns-in_err-ended-clause-stopped g c =
