@@ -1,9 +1,9 @@
 // What a person is told on standard error.
 use crate::reading::further;
-use crate::{Host, Inputs, Out};
+use crate::{Host, Inputs, Out, Pats};
 use cfa_advice::{Sights, Sources, Style, ToldLines};
 use cfa_base::Name;
-use cfa_hints::{Heard, wants_journal, wants_sources};
+use cfa_hints::{Heard, patterns_text, wants_journal, wants_sources};
 use cfa_hostdir::{FailedCall, Fault, Why};
 use cfa_outside::Call;
 use std::alloc::{AllocError, Global};
@@ -54,23 +54,35 @@ fn asked_of(call: Call) -> &'static str {
     }
 }
 
+// How far the reading or writing got, where that is known.
+fn offset_of(alloc: Global, offset: Option<u64>) -> Result<String, AllocError> {
+    match offset {
+        Some(count) => format!(in alloc; ", behind {count} bytes"),
+        None => Ok(String::new(alloc)),
+    }
+}
+
 // A call on the outside that failed, as a sentence.
 fn sentence_of(alloc: Global, fault: &Fault) -> Result<String, AllocError> {
     let word = word_of(alloc, fault.why)?;
+    let offset = offset_of(alloc, fault.offset)?;
     let path = match &fault.path {
         Some(path) => path.as_str(),
         None => "a file",
     };
     match fault.call {
-        FailedCall::Put => format!(in alloc; "standard output: {word}"),
+        FailedCall::Put => format!(in alloc; "standard output: {word}{offset}"),
         FailedCall::Read if fault.why == Why::OfAnotherKind => {
             format!(in alloc; "{path}: no file, but a folder, a pipe or a device")
         }
         FailedCall::Read => format!(in alloc;
-            "{path}: {word}; it is read from the folder in which the command runs"
+            "{path}: {word}{offset}; it is read from the folder in which the command runs"
         ),
         FailedCall::Site(call) => {
-            format!(in alloc; "{path}: {word}; the host was asked {}", asked_of(call))
+            format!(in alloc;
+                "{path}: {word}{offset}; the host was asked {}",
+                asked_of(call)
+            )
         }
     }
 }
@@ -150,6 +162,7 @@ fn advice(
     inputs: &mut Inputs,
     site: &mut Host,
     out: &Out,
+    pats: &Pats,
 ) -> Result<String, AllocError> {
     let alloc = rt.alloc();
     let outside = outside_of(alloc, inputs, site, out)?;
@@ -164,7 +177,12 @@ fn advice(
     };
     let (told, sights) = (out.told(), site.sights());
     let read = (&sources, &journal);
-    advice_on(alloc, words, status, told, sights, read, sentence, style)
+    let mut text = advice_on(alloc, words, status, told, sights, read, sentence, style)?;
+    if matches!(status, 1 | 2) {
+        let more = patterns_text(alloc, pats.bad())?;
+        text.push_str(more.as_str())?;
+    }
+    Ok(text)
 }
 
 /// Tells a person of a call that ended. Whatever becomes of it, nothing else changes.
@@ -175,8 +193,9 @@ pub fn tell(
     inputs: &mut Inputs,
     site: &mut Host,
     out: &Out,
+    pats: &Pats,
 ) {
-    if let Ok(text) = advice(rt, words, status, inputs, site, out) {
+    if let Ok(text) = advice(rt, words, status, inputs, site, out, pats) {
         let _ = rt.stderr().write_all(text.as_str().as_bytes());
     }
 }
