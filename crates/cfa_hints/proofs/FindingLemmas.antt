@@ -17,9 +17,9 @@ all_extended P true xs ys all more = All-append P xs ys all more
 all_extended P false xs ys all more = all
 
 pub stands_at : (bytes name : List ℕ) (start : ℕ) (starts : Bool) → starts ≡ starts_with (λ a b. a == b) (drop start bytes) name → starts ≡ true → StandsIn bytes name
-stands_at bytes name start starts is yes =
+stands_at bytes name start starts is true_of =
     let rest = drop start bytes in
-    let split : rest ≡ name ++ drop (length name) rest = (starts_is Decides-eqb rest name starts is).0 yes in
+    let split : rest ≡ name ++ drop (length name) rest = (starts_is Decides-eqb rest name starts is).0 true_of in
     record {
       before = take start bytes;
       behind = drop (length name) rest;

@@ -27,15 +27,10 @@ pub record Stands (sources : List (Text × Text)) (mention : Mention) : Type 0 w
 abbrev pub IsOneOf : List Text → Text → Type 0
 IsOneOf names near = (near ≡ []) ⊎ Contains names near
 
--- a variable of this bundle; empty where none is alike
-abbrev pub IsVariableOf : Uses → (bundle near : Text) → Type 0
-IsVariableOf uses bundle near = (near ≡ []) ⊎ Contains uses.variables (bundle, near)
-
 -- nothing sets the variable
-pub record NeverSet (uses : Uses) (mention : Mention) (near : Text) : Type 0 where
+pub record NeverSet (uses : Uses) (mention : Mention) : Type 0 where
   pub referred : Contains uses.references.items mention
   pub unset : is_pair_listed uses.variables (mention.of.now, mention.name.now) ≡ false
-  pub near_is : IsVariableOf uses mention.of.now near
 
 -- neither the policy raises the class nor the call sets it, and no value may be its name
 pub record NeverRaised (uses : Uses) (defined : List Text) (mention : Mention) (near : Text) : Type 0 where
@@ -50,15 +45,14 @@ pub record NeverCalled (uses : Uses) (mention : Mention) : Type 0 where
   pub defined : Contains uses.bundles.items mention
   pub unmade : may_be_made uses.makes_names uses.values uses.frames.items mention.name.now ≡ false
 
--- the call sets the class, and no guard and no class text asks for it
-pub record NeverAsked (uses : Uses) (defined : List Text) (class near : Text) : Type 0 where
-  pub set : Contains defined class
+-- no guard and no class text asks for the class
+pub record NeverAsked (uses : Uses) (class near : Text) : Type 0 where
   pub unasked : is_listed uses.asked class ≡ false
   pub asks_by_name : uses.asks_freely ≡ false
   pub near_is : IsOneOf uses.asked near
 
 abbrev pub IsTrueOf : (sources : List (Text × Text)) (uses : Uses) (defined : List Text) → Finding → Type 0
-IsTrueOf sources uses defined (Unset mention near) = Stands sources mention × NeverSet uses mention near.now
+IsTrueOf sources uses defined (Unset mention near) = Stands sources mention × NeverSet uses mention
 IsTrueOf sources uses defined (Unraised mention near) = Stands sources mention × NeverRaised uses defined mention near.now
 IsTrueOf sources uses defined (Uncalled mention) = Stands sources mention × NeverCalled uses mention
-IsTrueOf sources uses defined (Unasked class near) = NeverAsked uses defined class.now near.now
+IsTrueOf sources uses defined (Unasked class near) = NeverAsked uses class.now near.now

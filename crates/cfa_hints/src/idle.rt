@@ -3,7 +3,7 @@
 ghost use Rattle.std.specs.Prelude.{◌≤◌, ◌⊎◌, List, length, All, Contains, IfOk, IfSome};
 ghost use Rattle.cfa_base.specs.Index.{Text};
 ghost use Rattle.cfa_uses.specs.declared.uses.Uses.{Uses};
-ghost use Rattle.cfa_hints.specs.Findings.{IsTrueOf, IsOneOf, IsVariableOf};
+ghost use Rattle.cfa_hints.specs.Findings.{IsTrueOf, IsOneOf};
 
 use crate::calendar::is_of_calendar;
 use crate::near::{Nearest, nearest_of};
@@ -81,10 +81,19 @@ fn keep<'a>(found: &mut Vec<Finding<'a>>, finding: Option<Finding<'a>>) -> Resul
     Ok(())
 }
 
-// The variable of its bundle that is nearest to one that is never set; empty where none is alike.
-fn nearest_variable<'a>(uses: &Uses<'a>, wanted: Mention<'_>) -> &'a str
-    ensures { IsVariableOf uses.now wanted.entry.of.now result.now }
+// Adds findings.
+fn add<'a>(found: &mut Vec<Finding<'a>>, more: &[Finding<'a>]) -> Result<(), NoMemory>
+    ensures { (sources : List (Text × Text)) → (uses : Uses) → (defined : List Text) →
+        All (IsTrueOf sources uses defined) found.old.items →
+        All (IsTrueOf sources uses defined) more.now →
+        All (IsTrueOf sources uses defined) found.new.items }
 {
+    found.extend_from_slice(more)?;
+    Ok(())
+}
+
+// The variable of its bundle that is nearest to one that is never set; empty where none is alike.
+fn nearest_variable<'a>(uses: &Uses<'a>, wanted: Mention<'_>) -> &'a str {
     let mut best = Nearest::none();
     for (bundle, name) in uses.variables.pairs() {
         if *bundle == wanted.of {
@@ -236,7 +245,7 @@ fn uncalled_of<'a>(
 }
 
 fn unasked_at<'a>(uses: &Uses<'a>, class: &'a str) -> Option<Finding<'a>>
-    ensures { (sources : List (Text × Text)) → (defined : List Text) → Contains defined class.now →
+    ensures { (sources : List (Text × Text)) → (defined : List Text) →
         IfSome result (IsTrueOf sources uses.now defined) }
 {
     if uses.asks_freely || uses.asked.has(class) {
@@ -278,11 +287,11 @@ pub fn findings_of<'a>(
 {
     let mut found = unset_of(alloc, sources, uses)?;
     let unraised = unraised_of(alloc, sources, uses, defined)?;
-    found.extend_from_slice(unraised.as_slice())?;
+    add(&mut found, unraised.as_slice())?;
     let uncalled = uncalled_of(alloc, sources, uses)?;
-    found.extend_from_slice(uncalled.as_slice())?;
+    add(&mut found, uncalled.as_slice())?;
     let unasked = unasked_of(alloc, uses, defined)?;
-    found.extend_from_slice(unasked.as_slice())?;
+    add(&mut found, unasked.as_slice())?;
     found.truncate(MOST_TOLD);
     Ok(found)
 }
