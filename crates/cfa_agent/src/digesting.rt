@@ -79,7 +79,7 @@ fn find_digest<S: Site>(alloc: Global, path: &Path, site: &mut S) -> Result<Dige
         return Ok(found);
     }
     let bytes = find_bytes(alloc, path, site)?;
-    Ok(Digest::Sha(digest(alloc, &bytes)?))
+    Ok(Digest::of(alloc, digest(alloc, &bytes)?)?)
 }
 
 // The digest of a content.
@@ -87,7 +87,7 @@ fn sha_of(alloc: Global, bytes: &Bytes) -> Result<Digest, base::NoMemory>
     ensures exact { IfOk result (λ sha. sha ≡ Digest.Sha (digest_of bytes.now)) }
     ensures whole { IfOk result IsDigest }
 {
-    Ok(Digest::Sha(digest(alloc, bytes)?))
+    Digest::of(alloc, digest(alloc, bytes)?)
 }
 
 // The text of a path, which isn't empty.

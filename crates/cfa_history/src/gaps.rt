@@ -1,12 +1,13 @@
 // The gaps between recorded writes.
 ghost use Rattle.std.specs.Prelude.{◌≡◌, ◌∷◌, ◌++◌, IfOk, OnOk};
 ghost use Rattle.std.specs.FinMap as map;
+ghost use Rattle.cfa_journal.specs.Stored.{record_of};
 ghost use Rattle.cfa_history.specs.Instances.{ending_of};
 ghost use Rattle.cfa_history.specs.Gaps.{gap_at, gap_between, gaps_on, is_gap, is_known, is_same_digest, may_leave, writes, written};
 
 use crate::endings::{Ending, ending_of, is_repaired};
 use cfa_base::{Name, NoMemory, TextMap};
-use cfa_journal::{Digest, Record};
+use cfa_journal::{Digest, RecordRef, StoredRecord};
 use std::alloc::Global;
 
 /// A file that something else than a recorded write changed between two of them.
@@ -34,16 +35,6 @@ struct Write {
     before: Digest,
     after: Digest,
     is_repaired: bool,
-}
-
-fn copy_digest(digest: &Digest) -> Digest
-    ensures { result ≡ digest.now }
-{
-    match digest {
-        Digest::Nothing => Digest::Nothing,
-        Digest::Over => Digest::Over,
-        Digest::Sha(key) => Digest::Sha(key.copy()),
-    }
 }
 
 fn is_known(digest: &Digest) -> bool
@@ -99,8 +90,8 @@ fn gap_between(
     Ok(Some(Gap {
         path: path.copy(alloc)?,
         moment,
-        expected: copy_digest(&last.after),
-        found: copy_digest(&next.before),
+        expected: last.after.share()?,
+        found: next.before.share()?,
     }))
 }
 
@@ -131,35 +122,36 @@ fn take(
     latest: &mut TextMap<Write>,
     gaps: &mut Vec<Gap>,
     at: Spot,
-    item: &Record,
-    behind: &[Record],
+    item: RecordRef<'_>,
+    behind: &[StoredRecord],
 ) -> Result<Spot, NoMemory>
-    requires { at.ending ≡ ending_of (item.now ∷ behind.now) }
+    requires { at.ending ≡ ending_of (record_of item ∷ behind.now) }
     ensures ending { IfOk result (λ next. next.ending ≡ ending_of behind.now) }
     ensures told { IfOk result (λ next.
         gaps.new.items ++ gaps_on latest.new (writes next.moment behind.now)
-        ≡ gaps.old.items ++ gaps_on latest.old (writes at.moment (item.now ∷ behind.now))) }
+        ≡ gaps.old.items
+        ++ gaps_on latest.old (writes at.moment (record_of item.entry ∷ behind.now))) }
 {
     let moment = match item {
-        Record::File(_, path, before, after) => {
+        RecordRef::File(_, path, before, after) => {
             let write = Write {
-                before: copy_digest(before),
-                after: copy_digest(after),
+                before: before.share()?,
+                after: after.share()?,
                 is_repaired: is_repaired(at.ending),
             };
             note(alloc, latest, gaps, path, at.moment, write)?;
             return Ok(at);
         }
-        Record::Run(next) | Record::Run2(next) => *next,
-        Record::Open(_, _, _) | Record::Repaired(_, _) => at.moment,
-        Record::Failed(_, _) | Record::Fail(_, _, _, _) => at.moment,
+        RecordRef::Run(next) | RecordRef::Run2(next) => next,
+        RecordRef::Open(_, _, _) | RecordRef::Repaired(_, _) => at.moment,
+        RecordRef::Failed(_, _) | RecordRef::Fail(_, _, _, _) => at.moment,
     };
     let ending = ending_of(behind);
     Ok(Spot { moment, ending })
 }
 
 /// The gaps that records tell of.
-pub fn gaps_of(alloc: Global, records: &[Record]) -> Result<Vec<Gap>, NoMemory>
+pub fn gaps_of(alloc: Global, records: &[StoredRecord]) -> Result<Vec<Gap>, NoMemory>
     ensures { IfOk result (λ gaps. gaps.items ≡ gaps_on map.empty (writes 0 records.now)) }
 {
     let mut latest = TextMap::new(alloc);
@@ -170,7 +162,7 @@ pub fn gaps_of(alloc: Global, records: &[Record]) -> Result<Vec<Gap>, NoMemory>
     };
     for i in 0..records.len() {
         let behind = &records[i + 1..];
-        at = take(alloc, &mut latest, &mut gaps, at, &records[i], behind)?;
+        at = take(alloc, &mut latest, &mut gaps, at, records[i].get(), behind)?;
     }
     Ok(gaps)
 }

@@ -9,7 +9,7 @@ ghost use Rattle.cfa_history.specs.Rows.{IsTold};
 use crate::gaps::{Gap, gaps_of};
 use crate::rows::{Row, rows_of};
 use cfa_base::{NoMemory, Parts};
-use cfa_journal::{Journal, Record};
+use cfa_journal::{Journal, RecordRef, StoredRecord};
 use std::alloc::Global;
 
 /// What a journal tells of a host: what was done by promise, in the order of the promises, the files that changed between
@@ -22,12 +22,12 @@ pub struct History {
 }
 
 // How many of the records begin a run.
-fn count_runs(records: &[Record]) -> u64
+fn count_runs(records: &[StoredRecord]) -> u64
     ensures { result ≡ count_by is_run records.now }
 {
     let mut runs = 0;
     for i in 0..records.len() {
-        if let Record::Run(_) | Record::Run2(_) = &records[i] {
+        if let RecordRef::Run(_) | RecordRef::Run2(_) = records[i].get() {
             runs += 1;
         }
     }

@@ -2,13 +2,14 @@
 ghost use Rattle.std.specs.Prelude.{◌≡◌, ℕ, ◌+◌, ◌<◌, ◌^◌, [], ◌∷◌, IfOk, OnOk, length};
 ghost use Rattle.std.specs.Rc.{rc_str_bytes};
 ghost use Rattle.cfa_base.specs.declared.places.PromiseId.{PromiseId};
+ghost use Rattle.cfa_journal.specs.Stored.{record_of};
 ghost use Rattle.cfa_history.specs.Instances.{instances};
 ghost use Rattle.cfa_history.specs.Rows.{with_instance};
 ghost use Rattle.cfa_history.specs.Tables.{AllWithin, IsRoom, by_id, counts_in, id_at, rows_in, tallied, tally};
 
 use crate::endings::{Ending, ending_of};
 use cfa_base::{Name, NoMemory, PromiseId};
-use cfa_journal::Record;
+use cfa_journal::{RecordRef, StoredRecord};
 use std::alloc::Global;
 use std::collections::BTreeMap;
 use std::rc::RcStr;
@@ -102,22 +103,22 @@ fn take(
     alloc: Global,
     table: &mut Table,
     moment: u64,
-    item: &Record,
-    behind: &[Record],
+    item: RecordRef<'_>,
+    behind: &[StoredRecord],
 ) -> Result<u64, NoMemory>
     requires { (id : PromiseId) → IsRoom (counts_in id (by_id rc_str_bytes table.old.entries)) }
     ensures tallied { IfOk result (λ next.
         tallied (by_id rc_str_bytes table.new.entries) (instances next behind.now)
         ≡ tallied (by_id rc_str_bytes table.old.entries)
-        (instances moment (item.now ∷ behind.now))) }
+        (instances moment (record_of item.entry ∷ behind.now))) }
     ensures within { OnOk result ((n : ℕ) → AllWithin n (by_id rc_str_bytes table.old.entries)
         → AllWithin (n + 1) (by_id rc_str_bytes table.new.entries)) }
 {
     match item {
-        Record::Run(next) | Record::Run2(next) => return Ok(*next),
-        Record::Open(_, id, _) => note(alloc, table, id, moment, ending_of(behind))?,
-        Record::Fail(_, id, _, _) => note(alloc, table, id, moment, Ending::Failed)?,
-        Record::File(_, _, _, _) | Record::Repaired(_, _) | Record::Failed(_, _) => {}
+        RecordRef::Run(next) | RecordRef::Run2(next) => return Ok(next),
+        RecordRef::Open(_, id, _) => note(alloc, table, id, moment, ending_of(behind))?,
+        RecordRef::Fail(_, id, _, _) => note(alloc, table, id, moment, Ending::Failed)?,
+        RecordRef::File(_, _, _, _) | RecordRef::Repaired(_, _) | RecordRef::Failed(_, _) => {}
     }
     Ok(moment)
 }
@@ -146,7 +147,7 @@ fn rows_in(alloc: Global, table: Table) -> Result<Vec<Row>, NoMemory>
 }
 
 /// The rows of the promises that records tell of.
-pub fn rows_of(alloc: Global, records: &[Record]) -> Result<Vec<Row>, NoMemory>
+pub fn rows_of(alloc: Global, records: &[StoredRecord]) -> Result<Vec<Row>, NoMemory>
     requires { length records.now < 2 ^ 32 }
     ensures { IfOk result (λ rows. rows.items
         ≡ rows_in (tallied [] (instances 0 records.now))) }
@@ -154,7 +155,13 @@ pub fn rows_of(alloc: Global, records: &[Record]) -> Result<Vec<Row>, NoMemory>
     let mut table = BTreeMap::new(alloc);
     let mut moment = 0;
     for i in 0..records.len() {
-        moment = take(alloc, &mut table, moment, &records[i], &records[i + 1..])?;
+        moment = take(
+            alloc,
+            &mut table,
+            moment,
+            records[i].get(),
+            &records[i + 1..],
+        )?;
     }
     rows_in(alloc, table)
 }

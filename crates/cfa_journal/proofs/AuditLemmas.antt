@@ -5,7 +5,10 @@ use Rattle.std.proofs.lemmas.List.{length-drop, drop_more}
 use Rattle.std.proofs.lemmas.List.Sums.{sum_by-cons}
 use Rattle.cfa_journal.specs.declared.records.Record.{Record}
 use Rattle.cfa_journal.specs.declared.records.Record.TheVariants.{Run, Run2, Open, File, Repaired, Failed, Fail}
+use Rattle.cfa_journal.specs.declared.storing.RecordRef.{RecordRef}
+use Rattle.cfa_journal.specs.declared.storing.RecordRef.TheVariants as refs
 use Rattle.cfa_journal.specs.declared.audits.AuditedRun.{AuditedRun}
+use Rattle.cfa_journal.specs.Stored.{record_of}
 use Rattle.cfa_journal.specs.Audits.{up_to_run, is_repaired, is_failed, is_done, past_files, left_open, counted}
 
 -- what is counted so far, and what is counted of the rest
@@ -99,6 +102,25 @@ module _ (run : AuditedRun) (rest : List Record) where
     opened = omega arith;
     so_far = same_counts run.moment _ _ _ _ _ _ refl (one_yes is_failed (Fail n id key reason) (up_to_run rest) run.failed refl) refl;
   }
+
+-- a record with its parts borrowed is a `run` where the record is one
+pub no_run : (r : RecordRef) → ((moment : ℕ) → r ≡ refs.Run moment → ⊥) → (moment : ℕ) → record_of r ≡ Run moment → ⊥
+no_run (refs.Run moment) other moment' is = other moment refl
+no_run (refs.Run2 moment) other moment' is = cc
+no_run (refs.Open n id key) other moment' is = cc
+no_run (refs.File n path before after) other moment' is = cc
+no_run (refs.Repaired n changes) other moment' is = cc
+no_run (refs.Failed n reason) other moment' is = cc
+no_run (refs.Fail n id key reason) other moment' is = cc
+
+pub no_run2 : (r : RecordRef) → ((moment : ℕ) → r ≡ refs.Run2 moment → ⊥) → (moment : ℕ) → record_of r ≡ Run2 moment → ⊥
+no_run2 (refs.Run moment) other moment' is = cc
+no_run2 (refs.Run2 moment) other moment' is = other moment refl
+no_run2 (refs.Open n id key) other moment' is = cc
+no_run2 (refs.File n path before after) other moment' is = cc
+no_run2 (refs.Repaired n changes) other moment' is = cc
+no_run2 (refs.Failed n reason) other moment' is = cc
+no_run2 (refs.Fail n id key reason) other moment' is = cc
 
 to_the_end : (records : List Record) (i : ℕ) → take (length records - i) (drop i records) ≡ drop i records
 to_the_end records i = ap (λ k. take k (drop i records)) (sym (length-drop i records)) ∙ take-length (drop i records)

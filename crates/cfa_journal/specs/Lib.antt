@@ -1,4 +1,5 @@
 pub mod Records
+pub mod Stored
 pub mod Positions
 pub mod Journals
 pub mod Audits

@@ -105,18 +105,18 @@ pub fn read_path(alloc: Global, field: &[u8]) -> Result<Option<Name>, NoMemory>
     Ok(Some(path))
 }
 
-pub fn read_digest(field: &[u8]) -> Option<Digest>
-    ensures { Reads digest_text IsDigest field.now result }
+pub fn read_digest(alloc: Global, field: &[u8]) -> Result<Option<Digest>, NoMemory>
+    ensures { IfOk result (Reads digest_text IsDigest field.now) }
 {
     if is_text(field, "-") {
-        return Some(Digest::Nothing);
+        return Ok(Some(Digest::Nothing));
     }
     if is_text(field, "*") {
-        return Some(Digest::Over);
+        return Ok(Some(Digest::Over));
     }
     match Key::read(field) {
-        Some(key) => Some(Digest::Sha(key)),
-        None => None,
+        Some(key) => Ok(Some(Digest::of(alloc, key)?)),
+        None => Ok(None),
     }
 }
 

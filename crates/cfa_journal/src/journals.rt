@@ -6,9 +6,9 @@ ghost use Rattle.cfa_journal.specs.Positions.{MayStand};
 ghost use Rattle.cfa_journal.specs.Journals.{IsJournal, HasBadRecord};
 ghost use Rattle.cfa_journal.specs.declared.journals.JournalErr.TheVariants.{NoMemory};
 
-use crate::Record;
 use crate::positions::{Position, behind, is_in_place};
 use crate::reading::{append_record, read_record};
+use crate::{Record, StoredRecord};
 use cfa_base as base;
 use cfa_base::{Bytes, Parts};
 use cfa_rows::cut;
@@ -21,7 +21,7 @@ pub const MOST_JOURNAL_BYTES: usize = 16_777_216;
 /// What a journal holds: its records, and how many bytes stand behind its last newline.
 #[derive(Debug, Drop)]
 pub struct Journal {
-    pub records: Parts<Record>,
+    pub records: Parts<StoredRecord>,
     pub torn: u64,
 }
 
@@ -80,7 +80,7 @@ fn read_at(alloc: Global, position: Position, line: &[u8]) -> Result<Option<Reco
 }
 
 // The records that bytes are, and what stands behind the last newline.
-fn read_lines(alloc: Global, bytes: &[u8]) -> Result<(Vec<Record>, &[u8]), JournalErr>
+fn read_lines(alloc: Global, bytes: &[u8]) -> Result<(Vec<StoredRecord>, &[u8]), JournalErr>
     requires { length bytes.now ≤ MOST_JOURNAL_BYTES }
     ensures ok { IfOk result (λ r. IsJournal bytes.now r.0.items (length r.1.now)) }
     ensures bad { IfErr result (λ e. (line : ℕ) → e ≡ JournalErr.BadRecord line
@@ -96,7 +96,7 @@ fn read_lines(alloc: Global, bytes: &[u8]) -> Result<(Vec<Record>, &[u8]), Journ
             return Err(JournalErr::BadRecord(number));
         };
         position = behind(position, &record);
-        records.push(record)?;
+        records.push(StoredRecord::new(alloc, record)?)?;
         rest = behind_line;
         number += 1;
     }

@@ -8,8 +8,10 @@ mod laws;
 mod positions;
 mod reading;
 mod records;
+mod storing;
 
 pub use audits::{AuditedRun, audit};
 pub use journals::{Journal, JournalErr, MOST_JOURNAL_BYTES, read, write};
 pub use laws::one_journal;
-pub use records::{Digest, Record};
+pub use records::{Digest, Record, SharedKey};
+pub use storing::{RecordRef, StoredRecord};

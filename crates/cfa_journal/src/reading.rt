@@ -62,10 +62,10 @@ fn read_file(alloc: Global, number: u32, rest: &[u8]) -> Result<Option<Record>, 
     let Some((before, after)) = cut(rest, b' ') else {
         return Ok(None);
     };
-    let Some(before) = read_digest(before) else {
+    let Some(before) = read_digest(alloc, before)? else {
         return Ok(None);
     };
-    let Some(after) = read_digest(after) else {
+    let Some(after) = read_digest(alloc, after)? else {
         return Ok(None);
     };
     match read_path(alloc, path)? {

@@ -25,6 +25,7 @@ returns-clause-found g c =
     weaker _ _ _ _ (λ w e.
     let look : c.in_ok-look.look ≡ look_of w c.args.path.now = e.0 in
     let none : digest_seen (look_of w c.args.path.now) ≡ None = cc in
-    ap Sha c.in_ok-digest.ensures
+    c.in_ok-of.ensures
+    ∙ ap Sha c.in_ok-digest.ensures
     ∙ read_digest c.in_ok-bytes.bytes (map.get w.nodes c.args.path.now) e.1 (seen_readable c.args.path.now w none))
     (both _ _ _ _ _ c.in_ok-look.ensures c.in_ok-bytes.ensures)

@@ -14,21 +14,23 @@ returns-in_default-cut c row is same =
     let p = file_only row c.args.number c.args.rest.now is c.requires same in
     no_cut 32 _ _ _ c.in_default-cut.ensures.none (sym (file_cut p _ _ c.in-Some.ensures.some).1)
 
-pub returns-in_default-read_digest : goal.returns-in_default-read_digest
-returns-in_default-read_digest c row is same =
+pub returns-in_default-2 : goal.returns-in_default-2
+returns-in_default-2 c row is same =
     let p = file_only row c.args.number c.args.rest.now is c.requires same in
-    c.in_default-read_digest.ensures p.before p.is_before (digests_cut p _ _ _ _ c.in-Some.ensures.some c.in-Some-cut.ensures.some).0
+    let none = rw c.in_default-2.is at c.in_ok-before.ensures in
+    none p.before p.is_before (digests_cut p _ _ _ _ c.in-Some.ensures.some c.in-Some-cut.ensures.some).0
 
-pub returns-in_default-read_digest-2 : goal.returns-in_default-read_digest-2
-returns-in_default-read_digest-2 c row is same =
+pub returns-in_default-3 : goal.returns-in_default-3
+returns-in_default-3 c row is same =
     let p = file_only row c.args.number c.args.rest.now is c.requires same in
-    c.in_default-read_digest-2.ensures p.after p.is_after (digests_cut p _ _ _ _ c.in-Some.ensures.some c.in-Some-cut.ensures.some).1
+    let none = rw c.in_default-3.is at c.in_ok-after.ensures in
+    none p.after p.is_after (digests_cut p _ _ _ _ c.in-Some.ensures.some c.in-Some-cut.ensures.some).1
 
-pub returns-in-Some-2 : goal.returns-in-Some-2
-returns-in-Some-2 c =
-    let path = rw c.in-Some-2.is at c.in_ok-path.ensures in
-    let before = c.in-Some-read_digest.ensures in
-    let after = c.in-Some-read_digest-2.ensures in
+pub returns-in-Some-4 : goal.returns-in-Some-4
+returns-in-Some-4 c =
+    let path = rw c.in-Some-4.is at c.in_ok-path.ensures in
+    let before = rw c.in-Some-2.is at c.in_ok-before.ensures in
+    let after = rw c.in-Some-3.is at c.in_ok-after.ensures in
     ((c.requires, (path.0, (before.0, after.0))), file_text c.args.number _ _ _ c.args.rest.now _ _ _ _ path.1 before.1 after.1 c.in-Some.ensures.some c.in-Some-cut.ensures.some)
 
 pub returns-in-None : goal.returns-in-None
