@@ -4,7 +4,6 @@ use cfa_rows::RowsErr;
 use cfa_tables::TableErr;
 use std::alloc::{AllocError, AllocFailed};
 use std::io;
-use std::io::Read;
 
 /// What of the folder of a host a step was about.
 #[derive(Clone, Copy, Debug, PartialEq, Eq)]
@@ -52,8 +51,6 @@ pub enum Why {
 pub struct Refusal {
     pub part: Part,
     pub why: Why,
-    /// Where it is known, how many bytes stand before the one that couldn't be read or written.
-    pub offset: Option<u64>,
 }
 
 /// Why a step on the folder of a host gave no answer.
@@ -69,28 +66,7 @@ pub fn refused(why: Why) -> HostErr {
     HostErr::Refused(Refusal {
         part: Part::Node,
         why,
-        offset: None,
     })
-}
-
-/// The error of a reading or writing that got so far.
-pub fn behind(offset: u64, error: HostErr) -> HostErr {
-    match error {
-        HostErr::Refused(refusal) => HostErr::Refused(Refusal {
-            part: refusal.part,
-            why: refusal.why,
-            offset: Some(offset),
-        }),
-        HostErr::NoMemory => HostErr::NoMemory,
-    }
-}
-
-/// Reads into a piece from a file, of which so many bytes stand before.
-pub fn read_behind<F: Read>(file: &mut F, offset: u64, piece: &mut [u8]) -> Result<usize, HostErr> {
-    match file.read(piece) {
-        Ok(count) => Ok(count),
-        Err(error) => Err(behind(offset, HostErr::from(error))),
-    }
 }
 
 /// The answer of a step on a part of the folder.
@@ -100,7 +76,6 @@ pub fn at<T>(part: Part, answer: Result<T, HostErr>) -> Result<T, HostErr> {
         Err(HostErr::Refused(refusal)) => Err(HostErr::Refused(Refusal {
             part,
             why: refusal.why,
-            offset: refusal.offset,
         })),
         Err(HostErr::NoMemory) => Err(HostErr::NoMemory),
     }

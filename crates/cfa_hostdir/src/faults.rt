@@ -28,9 +28,6 @@ pub struct Fault {
     pub path: Option<String>,
     /// Why it refused: the number of the system's error, the line of a table, or another cause.
     pub why: Why,
-    /// Where it is known, how many bytes stand before the one that couldn't be read or written: in
-    /// the file, or of what was put on standard output.
-    pub offset: Option<u64>,
 }
 
 /// The answer of a call, with the fault counted where the host refused.
@@ -79,6 +76,5 @@ pub fn fault_at(alloc: Global, root: &str, call: Call, node: &str, refusal: Refu
         call: FailedCall::Site(call),
         path: path_of(alloc, root, refusal.part, node).ok(),
         why: refusal.why,
-        offset: refusal.offset,
     }
 }

@@ -1,5 +1,5 @@
 // Real files, read and written whole.
-use crate::errors::{HostErr, Why, answer_of, read_behind, refused};
+use crate::errors::{HostErr, Why, answer_of, refused};
 use crate::looking::{Found, Kind, kind_at};
 use cfa_base::Bytes;
 use std::alloc::Global;
@@ -36,7 +36,7 @@ fn read_to_end<F: Read>(
         if all.as_slice().len() as u64 >= len {
             return Ok(all);
         }
-        let count = read_behind(file, all.as_slice().len() as u64, &mut piece)?;
+        let count = file.read(&mut piece)?;
         if count == 0 {
             return Ok(all);
         }

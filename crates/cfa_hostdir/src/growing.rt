@@ -1,6 +1,6 @@
 // Files of a host that grow at their end: the journal, and the rows that changed since the tables
 // were written.
-use crate::errors::{HostErr, Why, answer_of, behind, refused};
+use crate::errors::{HostErr, Why, answer_of, refused};
 use crate::files::sync_folder;
 use crate::looking::{Kind, kind_at};
 use std::fs::{OpenFile, OpenOptions};
@@ -60,7 +60,7 @@ fn bring<R: Files>(
 ) -> Result<(), HostErr> {
     let now = file.metadata()?.len();
     if now < len {
-        return Err(behind(now, refused(Why::OfAnotherLength)));
+        return Err(refused(Why::OfAnotherLength));
     }
     if now > len {
         file.set_len(len)?;
@@ -123,7 +123,7 @@ impl<F: Write + OpenFile> Growing<F> {
             }
             Err(error) => {
                 self.sound = cut_to(file, self.len).is_ok();
-                Err(behind(self.len, HostErr::from(error)))
+                Err(HostErr::from(error))
             }
         }
     }

@@ -1,12 +1,13 @@
 // Files as inputs.
 ghost use Rattle.std.specs.Prelude.{◌≡◌, None};
 
-use crate::errors::{HostErr, Refusal, Why, read_behind, refusal_of, refused};
+use crate::errors::{HostErr, Refusal, Why, refusal_of, refused};
 use crate::faults::{FailedCall, Fault, counted};
 use cfa_base::{Bytes, Name};
 use cfa_outside::{Inputs, OutsideErr};
 use std::alloc::Global;
 use std::fs;
+use std::io::Read;
 use std::rt::Files;
 
 /// Files as inputs, each under its path. They tell nothing of their content.
@@ -41,7 +42,6 @@ impl<R: Drop> HostInputs<R> {
                 call: FailedCall::Read,
                 path: String::from_str(alloc, name).ok(),
                 why: refusal.why,
-                offset: refusal.offset,
             });
         }
     }
@@ -61,7 +61,7 @@ fn read_front<R: Files>(alloc: Global, rt: &R, path: &str, limit: usize) -> Resu
         if most == 0 {
             break;
         }
-        let count = read_behind(&mut file, all.len() as u64, &mut piece[..most])?;
+        let count = file.read(&mut piece[..most])?;
         if count == 0 {
             break;
         }

@@ -12,8 +12,6 @@ use std::io::Write;
 #[derive(Drop)]
 pub struct HostSink<R> {
     rt: R,
-    // How many bytes were put.
-    count: u64,
     faults: u64,
     last: Option<Fault>,
 }
@@ -23,7 +21,6 @@ impl<R: Drop> HostSink<R> {
     pub fn new(rt: R) -> HostSink<R> {
         HostSink {
             rt,
-            count: 0,
             faults: 0,
             last: None,
         }
@@ -57,16 +54,12 @@ impl<R: Print + Drop> Sink for HostSink<R> {
             return Ok(0);
         }
         match write_some(&self.rt, bytes) {
-            Ok(count) => {
-                self.count = self.count.saturating_add(count as u64);
-                Ok(count)
-            }
+            Ok(count) => Ok(count),
             Err(error) => {
                 self.last = Some(Fault {
                     call: FailedCall::Put,
                     path: None,
                     why: Why::System(error),
-                    offset: Some(self.count),
                 });
                 self.faults = self.faults.saturating_add(1);
                 Err(OutsideErr::Failed)

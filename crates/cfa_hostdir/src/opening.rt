@@ -1,6 +1,6 @@
 // What is done at the first call on a host: its folder is taken hold of, the tables are read with
 // the rows that changed since, and a last line of the journal that was cut off is taken away.
-use crate::errors::{HostErr, Part, Why, answer_of, at, behind, refused};
+use crate::errors::{HostErr, Part, Why, answer_of, at, refused};
 use crate::files::read_if_there;
 use crate::growing::{Growing, MOST_WAITING};
 use crate::held::{Changed, Held, Left};
@@ -128,10 +128,7 @@ fn take_changes<R: Files>(
 
 fn read_piece<F: Read + Seek>(file: &mut F, from: u64, piece: &mut [u8]) -> Result<(), HostErr> {
     file.seek(SeekFrom::Start(from))?;
-    match file.read_exact(piece) {
-        Ok(()) => Ok(()),
-        Err(error) => Err(behind(from, HostErr::from(error))),
-    }
+    answer_of(file.read_exact(piece))
 }
 
 // The place behind the last newline before a place of a file, or its beginning.

@@ -54,35 +54,23 @@ fn asked_of(call: Call) -> &'static str {
     }
 }
 
-// How far the reading or writing got, where that is known.
-fn offset_of(alloc: Global, offset: Option<u64>) -> Result<String, AllocError> {
-    match offset {
-        Some(count) => format!(in alloc; ", behind {count} bytes"),
-        None => Ok(String::new(alloc)),
-    }
-}
-
 // A call on the outside that failed, as a sentence.
 fn sentence_of(alloc: Global, fault: &Fault) -> Result<String, AllocError> {
     let word = word_of(alloc, fault.why)?;
-    let offset = offset_of(alloc, fault.offset)?;
     let path = match &fault.path {
         Some(path) => path.as_str(),
         None => "a file",
     };
     match fault.call {
-        FailedCall::Put => format!(in alloc; "standard output: {word}{offset}"),
+        FailedCall::Put => format!(in alloc; "standard output: {word}"),
         FailedCall::Read if fault.why == Why::OfAnotherKind => {
             format!(in alloc; "{path}: no file, but a folder, a pipe or a device")
         }
         FailedCall::Read => format!(in alloc;
-            "{path}: {word}{offset}; it is read from the folder in which the command runs"
+            "{path}: {word}; it is read from the folder in which the command runs"
         ),
         FailedCall::Site(call) => {
-            format!(in alloc;
-                "{path}: {word}{offset}; the host was asked {}",
-                asked_of(call)
-            )
+            format!(in alloc; "{path}: {word}; the host was asked {}", asked_of(call))
         }
     }
 }
