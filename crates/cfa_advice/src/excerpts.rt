@@ -1,7 +1,8 @@
 // A line of a source as it is shown, with a mark under a column.
 ghost use Rattle.std.specs.Prelude.{◌≡◌, ◌≤◌, length, map, option_map, IfOk};
 ghost use Rattle.std.specs.List.{slice_split};
-ghost use Rattle.cfa_advice.specs.Sources.{is_newline, line_at};
+ghost use Rattle.cfa_base.specs.Lexing.{is_newline};
+ghost use Rattle.cfa_advice.specs.Sources.{line_at};
 
 use std::alloc::{AllocError, Global};
 use unicode_width::UnicodeWidthChar;

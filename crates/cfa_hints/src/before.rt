@@ -1,4 +1,8 @@
 // What stands before a refusal, for who forgot a quote, a comma or a semicolon.
+ghost use Rattle.std.specs.Prelude.{◌≡◌, false, [], IfOk};
+ghost use Rattle.std.specs.String.{string_bytes};
+ghost use Rattle.cfa_hints.specs.Codes.{is_unfinished};
+
 use cfa_advice::{FIRST_PLACE, RefusedLine, Sources, behind_byte};
 use cfa_base::{Kind, NoMemory, Place, is_before};
 use cfa_lexer::{Token, lex};
@@ -69,13 +73,25 @@ pub fn before_text(
     alloc: Global,
     sources: &Sources,
     refused: RefusedLine<'_>,
-) -> Result<String, NoMemory> {
+) -> Result<String, NoMemory>
+    ensures { is_unfinished refused.entry.code.now ≡ false →
+        IfOk result (λ text. string_bytes text ≡ []) }
+{
+    if !is_unfinished(refused.code) {
+        return Ok(String::new(alloc));
+    }
     let source = sources.named(refused.name).unwrap_or(&[]);
     match refused.place() {
-        Some(at) if matches!(refused.code, "L1" | "L2" | "P1") => {
+        Some(at) => {
             let tokens = tokens_before(alloc, source, at);
             told_of(alloc, tokens.as_slice(), at.line)
         }
-        _ => Ok(String::new(alloc)),
+        None => Ok(String::new(alloc)),
     }
+}
+
+fn is_unfinished(code: &str) -> bool
+    ensures { result ≡ is_unfinished code.now }
+{
+    code == "L1" || code == "L2" || code == "P1"
 }

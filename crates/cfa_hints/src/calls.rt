@@ -1,4 +1,8 @@
 // What is told of a whole call.
+ghost use Rattle.std.specs.Prelude.{◌≡◌, ◌≤◌, true, false, [], IfOk};
+ghost use Rattle.std.specs.String.{string_bytes};
+ghost use Rattle.cfa_hints.specs.Calls.{IsShown};
+
 use crate::before::before_text;
 use crate::idle::idle_text;
 use crate::skipped::skipped_text;
@@ -107,7 +111,9 @@ pub fn wants_sources(
     words: &[Name],
     status: u8,
     style: Style,
-) -> Result<bool, AllocError> {
+) -> Result<bool, AllocError>
+    ensures { 1 ≤ status → status ≤ 3 → IfOk result (λ is. is ≡ true) }
+{
     if matches!(status, 1..=3) {
         return Ok(true);
     }
@@ -243,7 +249,9 @@ impl<'a> Heard<'a> {
     }
 
     // Whether a line of this call is one that is told of: what is shown is no line of these.
-    fn tells(&self) -> bool {
+    fn tells(&self) -> bool
+        ensures { IsShown self.now → result ≡ false }
+    {
         match self.words.first() {
             Some(word) => self.status != 0 || word.as_str() != "show",
             None => true,
@@ -286,8 +294,10 @@ impl<'a> Heard<'a> {
         Ok(())
     }
 
-    /// What a person is told of the call.
-    pub fn advice(&self, alloc: Global) -> Result<String, AllocError> {
+    /// What a person is told of the call: nothing where a policy was shown.
+    pub fn advice(&self, alloc: Global) -> Result<String, AllocError>
+        ensures { IsShown self.now → IfOk result (λ text. string_bytes text ≡ []) }
+    {
         let mut text = String::new(alloc);
         if !self.tells() {
             return Ok(text);

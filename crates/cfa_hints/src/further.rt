@@ -1,4 +1,8 @@
 // The refusals of a policy behind its first one: those that are first once what was refused before is taken out.
+ghost use Rattle.std.specs.Prelude.{◌≡◌, ◌≤◌, false, [], length, IfOk};
+ghost use Rattle.std.specs.String.{string_bytes};
+ghost use Rattle.cfa_hints.specs.Codes.{is_of_schema};
+
 use cfa_advice::{RefusedLine, Sources, Style, blanked, push_shown, read_refused};
 use cfa_base::{Bytes, Name, NoMemory, Place};
 use cfa_lexer::lex;
@@ -17,6 +21,13 @@ const MOST_BYTES: usize = 4_194_304;
 pub trait Refuses {
     /// The first refusal of a policy with these files, as its line is printed. None where it isn't refused.
     fn first_refusal(&mut self, alloc: Global, texts: Vec<(Name, Bytes)>) -> Option<Name>;
+}
+
+// Whether a refusal is one of the schema that has a statement at its place.
+fn is_of_schema(code: &str) -> bool
+    ensures { result ≡ is_of_schema code.now }
+{
+    code.as_bytes().starts_with(b"S") && code != "S10"
 }
 
 // What becomes of a refusal.
@@ -165,8 +176,11 @@ impl<'a> Rest<'a> {
     }
 
     // Takes out what is refused.
-    fn take_out(&mut self, line: RefusedLine<'_>) -> Result<Taken, NoMemory> {
-        if !line.code.starts_with('S') || line.code == "S10" {
+    fn take_out(&mut self, line: RefusedLine<'_>) -> Result<Taken, NoMemory>
+        ensures { is_of_schema line.entry.code.now ≡ false →
+            IfOk result (λ taken. taken ≡ Taken.Nothing) }
+    {
+        if !is_of_schema(line.code) {
             return Ok(Taken::Nothing);
         }
         match (self.place_of(line.name), line.place()) {
@@ -176,50 +190,10 @@ impl<'a> Rest<'a> {
     }
 }
 
-// The refusals that are told.
-#[derive(Drop)]
-struct Told {
-    text: String,
-    count: usize,
-}
-
-impl Told {
-    fn push(
-        &mut self,
-        alloc: Global,
-        style: Style,
-        sources: &Sources,
-        line: &str,
-        refused: RefusedLine<'_>,
-    ) -> Result<(), NoMemory> {
-        if self.count == 0 {
-            self.text.push_str(
-                "further refusals, once what is refused before them is left out:\n",
-            )?;
-        }
-        self.count = self.count.saturating_add(1);
-        self.text.push_str(line)?;
-        self.text.push_str("\n")?;
-        if let Some(source) = sources.named(refused.name) {
-            push_shown(
-                alloc,
-                &mut self.text,
-                style,
-                source,
-                refused.line,
-                refused.col,
-            )?;
-        }
-        Ok(())
-    }
-}
-
-// Tells the next refusal, and answers whether there may be one behind it.
-fn tell_next<R: Refuses>(
-    told: &mut Told,
+// Adds the next refusal, and answers whether there may be one behind it.
+fn add_next<R: Refuses>(
+    told: &mut Vec<Name>,
     rest: &mut Rest<'_>,
-    style: Style,
-    sources: &Sources,
     reader: &mut R,
 ) -> Result<bool, NoMemory> {
     let alloc = rest.alloc;
@@ -227,39 +201,85 @@ fn tell_next<R: Refuses>(
     let Some(line) = reader.first_refusal(alloc, texts) else {
         return Ok(false);
     };
-    let line = line.as_str();
-    let line = line.strip_suffix('\n').unwrap_or(line);
-    let Some(refused) = read_refused(line) else {
+    let Some(refused) = read_line(line.as_str()) else {
         return Ok(false);
     };
     let taken = rest.take_out(refused)?;
     if taken == Taken::Itself {
-        told.push(alloc, style, sources, line, refused)?;
+        told.push(line)?;
     }
-    Ok(taken != Taken::Nothing && told.count < MOST_TOLD)
+    Ok(taken != Taken::Nothing && told.len() < MOST_TOLD)
 }
 
-/// What is told of up to 20 refusals behind a first one of the schema: each line as it is printed, with its line of the source. What
-/// is refused for want of what was taken out before isn't told.
+// A refusal, by its line as it is printed.
+fn read_line(line: &str) -> Option<RefusedLine<'_>> {
+    read_refused(line.strip_suffix('\n').unwrap_or(line))
+}
+
+/// Up to 20 refusals of a policy behind a first one of the schema: each line as it is printed. What is refused for want of what was
+/// taken out before isn't among them.
+pub fn further_refusals<R: Refuses>(
+    alloc: Global,
+    sources: &Sources,
+    first: RefusedLine<'_>,
+    reader: &mut R,
+) -> Result<Vec<Name>, NoMemory>
+    ensures few { IfOk result (λ lines. length lines.items ≤ 20) }
+    ensures schema { is_of_schema first.entry.code.now ≡ false →
+        IfOk result (λ lines. lines.items ≡ []) }
+{
+    let mut rest = Rest::new(alloc, sources)?;
+    if rest.take_out(first)? == Taken::Nothing {
+        return Ok(Vec::new(alloc));
+    }
+    let mut told = Vec::new(alloc);
+    for _ in 0..rest.most_readings() {
+        if !add_next(&mut told, &mut rest, reader)? {
+            break;
+        }
+    }
+    told.truncate(MOST_TOLD);
+    Ok(told)
+}
+
+// Adds a refusal, as it is printed, with its line of the source.
+fn push_line(
+    alloc: Global,
+    text: &mut String,
+    style: Style,
+    sources: &Sources,
+    line: &str,
+) -> Result<(), NoMemory> {
+    text.push_str(line.strip_suffix('\n').unwrap_or(line))?;
+    text.push_str("\n")?;
+    if let Some(refused) = read_line(line) {
+        if let Some(source) = sources.named(refused.name) {
+            push_shown(alloc, text, style, source, refused.line, refused.col)?;
+        }
+    }
+    Ok(())
+}
+
+const HEAD: &str = "further refusals, once what is refused before them is left out:\n";
+
+/// What is told of the refusals behind a first one: each line as it is printed, with its line of the source.
 pub fn further_text<R: Refuses>(
     alloc: Global,
     style: Style,
     sources: &Sources,
     first: RefusedLine<'_>,
     reader: &mut R,
-) -> Result<String, NoMemory> {
-    let mut told = Told {
-        text: String::new(alloc),
-        count: 0,
-    };
-    let mut rest = Rest::new(alloc, sources)?;
-    if rest.take_out(first)? != Taken::Nothing {
-        for _ in 0..rest.most_readings() {
-            if !tell_next(&mut told, &mut rest, style, sources, reader)? {
-                break;
-            }
-        }
+) -> Result<String, NoMemory>
+    ensures { is_of_schema first.entry.code.now ≡ false →
+        IfOk result (λ text. string_bytes text ≡ []) }
+{
+    let lines = further_refusals(alloc, sources, first, reader)?;
+    if lines.is_empty() {
+        return Ok(String::new(alloc));
     }
-    let Told { text, .. } = told;
+    let mut text = String::from_str(alloc, HEAD)?;
+    for line in &lines {
+        push_line(alloc, &mut text, style, sources, line.as_str())?;
+    }
     Ok(text)
 }

@@ -1,5 +1,9 @@
 // The name that is most like another one, for who wrote one letter wrong.
 
+ghost use Rattle.std.specs.Prelude.{◌≡◌, ◌⊎◌, []};
+ghost use Rattle.cfa_base.specs.IndexTables.{texts_of};
+ghost use Rattle.cfa_hints.specs.Findings.{IsOneOf};
+
 // The most bytes in which two names differ that are alike.
 const MOST_WRONG: usize = 2;
 
@@ -51,7 +55,9 @@ pub struct Nearest<'a> {
 
 impl<'a> Nearest<'a> {
     // None so far.
-    pub fn none() -> Nearest<'a> {
+    pub fn none() -> Nearest<'a>
+        ensures { result.name.now ≡ [] }
+    {
         Nearest {
             name: "",
             wrong: MOST_WRONG.saturating_add(1),
@@ -59,7 +65,9 @@ impl<'a> Nearest<'a> {
     }
 
     // The nearer one of this and another name.
-    pub fn or(self, wanted: &str, name: &'a str) -> Nearest<'a> {
+    pub fn or(self, wanted: &str, name: &'a str) -> Nearest<'a>
+        ensures { (result.name.now ≡ self.entry.name.now) ⊎ (result.name.now ≡ name.now) }
+    {
         match wrong_bytes(wanted, name) {
             Some(wrong) if wrong < self.wrong => Nearest { name, wrong },
             _ => self,
@@ -67,13 +75,17 @@ impl<'a> Nearest<'a> {
     }
 
     // The name; empty where there is none.
-    pub fn name(self) -> &'a str {
+    pub fn name(self) -> &'a str
+        ensures { result.now ≡ self.entry.name.now }
+    {
         self.name
     }
 }
 
 // The name that is nearest to a wanted one; empty where none is alike.
-pub fn nearest_of<'a>(wanted: &str, names: &[&'a str]) -> &'a str {
+pub fn nearest_of<'a>(wanted: &str, names: &[&'a str]) -> &'a str
+    ensures { IsOneOf (texts_of names.now) result.now }
+{
     let mut best = names.len();
     let mut fewest = MOST_WRONG.saturating_add(1);
     for (place, name) in names.iter().enumerate() {

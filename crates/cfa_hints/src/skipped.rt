@@ -1,4 +1,6 @@
 // Restarts that were skipped by their locks.
+ghost use Rattle.std.specs.Prelude.{◌≤◌, length, Contains, IfOk, IfSome};
+
 use cfa_advice::{IdText, Sights, Sources, read_id};
 use cfa_base::NoMemory;
 use cfa_uses::{NameSet, Restart, Uses, uses_of};
@@ -21,7 +23,9 @@ fn opened_by(record: &[u8]) -> Option<(IdText<'_>, &str)> {
 }
 
 // The restart of a promise: by its number, since a key text tells no line, and lines may have changed since the record was written.
-fn restart_by<'a>(uses: &Uses<'a>, id: IdText<'_>) -> Option<Restart<'a>> {
+fn restart_by<'a>(uses: &Uses<'a>, id: IdText<'_>) -> Option<Restart<'a>>
+    ensures { IfSome result (λ restart. Contains uses.now.restarts.items restart) }
+{
     for restart in &uses.restarts {
         if restart.bundle == id.bundle && u64::from(restart.number) == id.number {
             return Some(*restart);
@@ -46,7 +50,56 @@ where its guard holds again. With an action of ifelapsed => \"0\" it is never sk
     text.push_str(told.as_str())
 }
 
-/// What is told of restarts that a run skipped by their locks, each of which an earlier run wrote into its journal.
+// The restart of a record that opened it, where its lock was found, but once of each key.
+fn skipped_by<'a, 'j>(
+    uses: &Uses<'a>,
+    sights: &Sights,
+    told: &mut NameSet<'j>,
+    record: &'j [u8],
+) -> Result<Option<Restart<'a>>, NoMemory>
+    ensures { IfOk result (λ found. IfSome found (λ restart. Contains uses.now.restarts.items restart)) }
+{
+    let Some((id, key)) = opened_by(record) else {
+        return Ok(None);
+    };
+    if !sights.is_skipped(key.as_bytes()) || !told.add(key)? {
+        return Ok(None);
+    }
+    Ok(restart_by(uses, id))
+}
+
+// Adds a restart, where there is one.
+fn keep<'a>(skipped: &mut Vec<Restart<'a>>, restart: Option<Restart<'a>>) -> Result<(), NoMemory> {
+    let Some(restart) = restart else {
+        return Ok(());
+    };
+    skipped.push(restart)?;
+    Ok(())
+}
+
+/// The restarts that a run skipped by their locks, each of which an earlier run wrote into its journal: up to 20, each once.
+pub fn skipped_restarts<'a>(
+    alloc: Global,
+    uses: &Uses<'a>,
+    sights: &Sights,
+    journal: &[u8],
+) -> Result<Vec<Restart<'a>>, NoMemory>
+    ensures { IfOk result (λ skipped. length skipped.items ≤ 20) }
+{
+    let mut skipped = Vec::new(alloc);
+    let mut told = NameSet::new(alloc);
+    for record in end_of(journal).split(|byte| *byte == b'\n') {
+        if skipped.len() >= MOST_TOLD {
+            break;
+        }
+        let restart = skipped_by(uses, sights, &mut told, record)?;
+        keep(&mut skipped, restart)?;
+    }
+    skipped.truncate(MOST_TOLD);
+    Ok(skipped)
+}
+
+/// What is told of restarts that a run skipped by their locks.
 pub fn skipped_text(
     alloc: Global,
     sources: &Sources,
@@ -57,17 +110,8 @@ pub fn skipped_text(
     let Some(uses) = uses_of(alloc, sources)? else {
         return Ok(text);
     };
-    let mut told = NameSet::new(alloc);
-    for record in end_of(journal).split(|byte| *byte == b'\n') {
-        let Some((id, key)) = opened_by(record) else {
-            continue;
-        };
-        let Some(restart) = restart_by(&uses, id) else {
-            continue;
-        };
-        if told.names().len() < MOST_TOLD && sights.is_skipped(key.as_bytes()) && told.add(key)? {
-            push_skipped(alloc, &mut text, restart)?;
-        }
+    for restart in &skipped_restarts(alloc, &uses, sights, journal)? {
+        push_skipped(alloc, &mut text, *restart)?;
     }
     Ok(text)
 }

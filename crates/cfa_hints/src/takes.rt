@@ -1,4 +1,8 @@
 // What is taken where a value is refused, or an attribute is missing.
+ghost use Rattle.std.specs.Prelude.{◌≡◌, false, [], IfOk};
+ghost use Rattle.std.specs.String.{string_bytes};
+ghost use Rattle.cfa_hints.specs.Codes.{is_of_value};
+
 use crate::values::{kind_rest, kind_words};
 use cfa_advice::{RefusedLine, Sources};
 use cfa_base::{Kind, NoMemory, Place};
@@ -157,9 +161,15 @@ pub fn takes_text(
     alloc: Global,
     sources: &Sources,
     refused: RefusedLine<'_>,
-) -> Result<String, NoMemory> {
+) -> Result<String, NoMemory>
+    ensures { is_of_value refused.entry.code.now ≡ false →
+        IfOk result (λ text. string_bytes text ≡ []) }
+{
+    if refused.code != "S4" {
+        return Ok(String::new(alloc));
+    }
     match (refused.place(), sources.named(refused.name)) {
-        (Some(at), Some(source)) if refused.code == "S4" => told_at(alloc, source, at),
+        (Some(at), Some(source)) => told_at(alloc, source, at),
         _ => Ok(String::new(alloc)),
     }
 }

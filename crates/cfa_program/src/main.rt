@@ -8,6 +8,7 @@ mod telling;
 
 use cfa_advice::{NotingInputs, NotingSink, NotingSite};
 use cfa_base::{Name, NoMemory};
+use cfa_hints::NotingPatterns;
 use cfa_hostdir::{HostInputs, HostSink, HostSite};
 use cfa_main::{agent_main, stop_status};
 use cfa_output::{Object, Stop};
@@ -23,6 +24,8 @@ type Inputs = NotingInputs<HostInputs<HostRuntime>>;
 type Host = NotingSite<HostSite<HostRuntime>>;
 
 type Out = NotingSink<HostSink<HostRuntime>>;
+
+type Pats = NotingPatterns<RegexPatterns>;
 
 // The words without the program's name. None where one of them isn't UTF-8, so that they are refused.
 fn read_words(rt: &HostRuntime, alloc: Global) -> Result<Vec<Name>, NoMemory> {
@@ -54,9 +57,9 @@ fn run_agent(
     inputs: &mut Inputs,
     site: &mut Host,
     out: &mut Out,
+    pats: &mut Pats,
 ) -> u8 {
-    let mut pats = RegexPatterns::new(alloc, Vec::new(alloc));
-    let status = agent_main(alloc, words, moment, inputs, site, out, &mut pats);
+    let status = agent_main(alloc, words, moment, inputs, site, out, pats);
     // Where the tables can't be written, the next call on the host reads the rows that changed.
     let _ = site.inner().write_tables(alloc);
     if site.inner().settle() {
@@ -75,10 +78,19 @@ fn start(rt: &HostRuntime) -> Result<u8, NoMemory> {
     let mut inputs = NotingInputs::new(alloc, HostInputs::new(for_inputs));
     let mut site = NotingSite::new(alloc, HostSite::new(for_site, host));
     let mut out = NotingSink::new(alloc, HostSink::new(for_sink));
+    let mut pats = NotingPatterns::new(alloc, RegexPatterns::new(alloc, Vec::new(alloc)));
     let words = words.as_slice();
     let moment = moment_now(rt);
-    let status = run_agent(alloc, words, moment, &mut inputs, &mut site, &mut out);
-    telling::tell(rt, words, status, &mut inputs, &mut site, &out);
+    let status = run_agent(
+        alloc,
+        words,
+        moment,
+        &mut inputs,
+        &mut site,
+        &mut out,
+        &mut pats,
+    );
+    telling::tell(rt, words, status, &mut inputs, &mut site, &out, &pats);
     drop(site);
     Ok(status)
 }

@@ -1,9 +1,9 @@
 // What a person is told on standard error.
 use crate::reading::further;
-use crate::{Host, Inputs, Out};
+use crate::{Host, Inputs, Out, Pats};
 use cfa_advice::{Sights, Sources, Style, ToldLines};
 use cfa_base::Name;
-use cfa_hints::{Heard, wants_journal, wants_sources};
+use cfa_hints::{Heard, patterns_text, wants_journal, wants_sources};
 use cfa_hostdir::{FailedCall, Fault, Why};
 use cfa_outside::Call;
 use std::alloc::{AllocError, Global};
@@ -150,6 +150,7 @@ fn advice(
     inputs: &mut Inputs,
     site: &mut Host,
     out: &Out,
+    pats: &Pats,
 ) -> Result<String, AllocError> {
     let alloc = rt.alloc();
     let outside = outside_of(alloc, inputs, site, out)?;
@@ -164,7 +165,12 @@ fn advice(
     };
     let (told, sights) = (out.told(), site.sights());
     let read = (&sources, &journal);
-    advice_on(alloc, words, status, told, sights, read, sentence, style)
+    let mut text = advice_on(alloc, words, status, told, sights, read, sentence, style)?;
+    if matches!(status, 1 | 2) {
+        let more = patterns_text(alloc, pats.bad())?;
+        text.push_str(more.as_str())?;
+    }
+    Ok(text)
 }
 
 /// Tells a person of a call that ended. Whatever becomes of it, nothing else changes.
@@ -175,8 +181,9 @@ pub fn tell(
     inputs: &mut Inputs,
     site: &mut Host,
     out: &Out,
+    pats: &Pats,
 ) {
-    if let Ok(text) = advice(rt, words, status, inputs, site, out) {
+    if let Ok(text) = advice(rt, words, status, inputs, site, out, pats) {
         let _ = rt.stderr().write_all(text.as_str().as_bytes());
     }
 }

@@ -73,7 +73,21 @@ a.cf:1:97: monday is raised by nothing, and isn't given by -D\n",
         (
             "bundle agent main { classes: \"web\" expression => \"db.!old\"; files: web:: \"/a\" content => \"x\"; }",
             "db,elsewhere",
-            "-D elsewhere: no guard asks for it\n",
+            "a.cf:1:55: old is raised by nothing, and isn't given by -D\n-D elsewhere: no guard asks for it\n",
+        ),
+        (
+            "bundle agent main {\nclasses:\n\"a\" not => databsae;\n\"b\" or => { \"web|x1\", strcmp(\"y\", \"y\") };\nreports:\na.b:: \"z\"; }",
+            "database,y",
+            "a.cf:3:12: databsae is raised by nothing, and isn't given by -D (database?)\n\
+a.cf:4:14: web is raised by nothing, and isn't given by -D\n\
+a.cf:4:18: x1 is raised by nothing, and isn't given by -D\n\
+-D database: no guard asks for it (databsae?)\n\
+-D y: no guard asks for it\n",
+        ),
+        (
+            "bundle agent main { vars: \"c\" string => \"x\"; classes: \"b\" expression => \"$(c)\"; reports: b:: \"z\"; }",
+            "unasked",
+            "",
         ),
     ];
     for (policy, classes, told) in rows {

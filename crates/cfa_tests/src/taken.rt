@@ -1,7 +1,9 @@
-// What is told of what is taken in the place of a refused value.
+// What is told of what is taken in the place of a refused value, and of texts that are no patterns.
 use crate::hints::sources_of;
 use cfa_advice::read_refused;
-use cfa_hints::takes_text;
+use cfa_base::{How, Name, Patterns};
+use cfa_hints::{NotingPatterns, patterns_text, takes_text};
+use cfa_outside::RegexPatterns;
 use std::test::Fail;
 
 const POLICY: &str = "bundle agent main
@@ -76,5 +78,25 @@ fn what_is_taken(rt: HostRuntime) -> Result<(), Fail> {
         };
         assert_eq!(rt; takes_text(alloc, &sources, refused)?.as_str(), told);
     }
+    Ok(())
+}
+
+// Each text that is no pattern is told once, with the part that isn't read.
+#[test]
+fn texts_that_are_no_patterns(rt: HostRuntime) -> Result<(), Fail> {
+    let alloc = rt.alloc();
+    let inner = RegexPatterns::new(alloc, Vec::new(alloc));
+    let mut pats = NotingPatterns::new(alloc, inner);
+    for text in ["a(", "b", "a(", "bc)d"] {
+        let text = Name::from_text(alloc, text)?;
+        let is_pattern = pats.build(alloc, &text, How::Whole).is_ok();
+        assert!(rt; is_pattern == (text.as_str() == "b"));
+    }
+    assert_eq!(rt;
+        patterns_text(alloc, pats.bad())?.as_str(),
+        "        \"a(\" is no regular expression: \"(\" at byte 2: unclosed group
+        \"bc)d\" is no regular expression: \")\" at byte 3: unopened group
+"
+    );
     Ok(())
 }

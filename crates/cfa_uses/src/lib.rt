@@ -2,13 +2,16 @@
 //! a person is told.
 #![tactic(auto)]
 
+mod found;
 mod places;
 mod references;
+mod sets;
 mod statements;
 mod uses;
 mod walking;
 
 pub use places::behind;
+pub use sets::{NameSet, PairSet};
 pub use statements::{Statement, statement_at};
-pub use uses::{Mention, NameSet, Restart, Uses};
+pub use uses::{Frame, Mention, Restart, Uses};
 pub use walking::uses_of;

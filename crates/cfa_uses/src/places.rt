@@ -1,4 +1,6 @@
 // Places in a source.
+ghost use Rattle.cfa_uses.specs.Statements.{IsBehind};
+
 use cfa_advice::behind_byte;
 use cfa_base::Place;
 
@@ -12,10 +14,12 @@ pub fn further(place: Place, count: u32) -> Place {
 }
 
 /// Behind a text that begins at a place.
-pub fn behind(place: Place, text: &str) -> Place {
+pub fn behind(place: Place, text: &str) -> Place
+    ensures { IsBehind place text.now result }
+{
     let mut end = place;
-    for byte in text.bytes() {
-        end = behind_byte(end, byte);
+    for byte in text.as_bytes() {
+        end = behind_byte(end, *byte);
     }
     end
 }

@@ -1,4 +1,9 @@
 // The statement of a source at a place: a promise, an attribute of a body, a guard, a section, or a bundle or body as a whole.
+ghost use Rattle.std.specs.Prelude.{List, All, Contains, IfOk, IfSome};
+ghost use Rattle.cfa_lexer.specs.declared.tokens.Token.{Token};
+ghost use Rattle.cfa_uses.specs.Statements.{IsStatement};
+ghost use Rattle.cfa_uses.specs.Parts.{IsPart, IsTextAt, IsMadeOf};
+
 use crate::places::behind;
 use cfa_base::{Kind, NoMemory, Place, is_before};
 use cfa_lexer::Token;
@@ -45,27 +50,52 @@ fn depth_behind(depth: usize, kind: Kind) -> usize {
     }
 }
 
+// The token that a part begins with, at one of its tokens.
+fn begun_at<'a>(first: Option<Token<'a>>, token: Token<'a>) -> Token<'a>
+    ensures { (tokens : List Token) → IfSome first.entry (Contains tokens) →
+        Contains tokens token.entry → Contains tokens result }
+{
+    match first {
+        Some(begun) => begun,
+        None => token,
+    }
+}
+
+// Adds the part that ends with a token, where one does.
+fn add_part<'a>(
+    parts: &mut Vec<Part<'a>>,
+    begun: Token<'a>,
+    token: Token<'a>,
+    ending: Option<Ending>,
+) -> Result<(), NoMemory>
+    ensures { (tokens : List Token) → Contains tokens begun.entry → Contains tokens token.entry →
+        All (IsPart tokens) parts.old.items → All (IsPart tokens) parts.new.items }
+{
+    let Some(ending) = ending else {
+        return Ok(());
+    };
+    parts.push(Part {
+        word: begun.text,
+        from: begun.place,
+        to: behind(token.place, token.text),
+        ending,
+    })?;
+    Ok(())
+}
+
 // The parts of a source, in their order.
-fn parts_of<'a>(alloc: Global, tokens: &[Token<'a>]) -> Result<Vec<Part<'a>>, NoMemory> {
+fn parts_of<'a>(alloc: Global, tokens: &[Token<'a>]) -> Result<Vec<Part<'a>>, NoMemory>
+    ensures { IfOk result (λ parts. All (IsPart tokens.now) parts.items) }
+{
     let mut parts = Vec::new(alloc);
     let mut depth = 0usize;
     let mut first: Option<Token<'a>> = None;
     for token in tokens {
-        let begun = first.unwrap_or(*token);
+        let begun = begun_at(first, *token);
         let ending = ending_of(depth, token.kind);
+        add_part(&mut parts, begun, *token, ending)?;
         depth = depth_behind(depth, token.kind);
-        first = match ending {
-            Some(ending) => {
-                parts.push(Part {
-                    word: begun.text,
-                    from: begun.place,
-                    to: behind(token.place, token.text),
-                    ending,
-                })?;
-                None
-            }
-            None => Some(begun),
-        };
+        first = if ending.is_none() { Some(begun) } else { None };
     }
     Ok(parts)
 }
@@ -91,7 +121,9 @@ fn place_of<'a>(parts: &[Part<'a>], at: Place) -> Option<usize> {
 }
 
 // The heading of the block that a part stands in.
-fn heading_of<'a>(parts: &[Part<'a>], place: usize) -> Option<Part<'a>> {
+fn heading_of<'a>(parts: &[Part<'a>], place: usize) -> Option<Part<'a>>
+    ensures { IfSome result (λ part. Contains parts.now part) }
+{
     let mut heading = None;
     for (at, part) in parts.iter().enumerate() {
         if at <= place && part.ending == Ending::Heading {
@@ -117,7 +149,9 @@ pub struct Statement<'a> {
 }
 
 // What stands behind the part that goes on with the promises of its section, or with its block.
-fn last_of<'a>(parts: &[Part<'a>], place: usize) -> Option<Part<'a>> {
+fn last_of<'a>(parts: &[Part<'a>], place: usize) -> Option<Part<'a>>
+    ensures { IfSome result (λ part. Contains parts.now part) }
+{
     let part = *parts.get(place)?;
     match part.ending {
         Ending::Statement => Some(part),
@@ -142,12 +176,16 @@ pub fn statement_at<'a>(
     alloc: Global,
     tokens: &[Token<'a>],
     at: Place,
-) -> Result<Option<Statement<'a>>, NoMemory> {
+) -> Result<Option<Statement<'a>>, NoMemory>
+    ensures { IfOk result (λ found. IfSome found (IsStatement tokens.now at)) }
+{
     let parts = parts_of(alloc, tokens)?;
     Ok(statement_in(parts.as_slice(), at, text_at(tokens, at)))
 }
 
-fn text_at<'a>(tokens: &[Token<'a>], at: Place) -> &'a str {
+fn text_at<'a>(tokens: &[Token<'a>], at: Place) -> &'a str
+    ensures { IsTextAt tokens.now at result.now }
+{
     for token in tokens {
         if token.place == at {
             return token.text;
@@ -156,7 +194,9 @@ fn text_at<'a>(tokens: &[Token<'a>], at: Place) -> &'a str {
     ""
 }
 
-fn statement_in<'a>(parts: &[Part<'a>], at: Place, text: &'a str) -> Option<Statement<'a>> {
+fn statement_in<'a>(parts: &[Part<'a>], at: Place, text: &'a str) -> Option<Statement<'a>>
+    ensures { IfSome result (IsMadeOf parts.now text.now) }
+{
     let place = place_of(parts, at)?;
     let heading = heading_of(parts, place)?;
     let last = last_of(parts, place)?;

@@ -1,5 +1,11 @@
 // What a policy defines, sets, raises, calls and asks for.
-use cfa_base::{NameIndex, NoMemory, PairIndex};
+ghost use Rattle.std.specs.Prelude.{◌≡◌};
+ghost use Rattle.std.specs.List.{list_any};
+ghost use Rattle.cfa_uses.specs.Found.{IsUnused};
+ghost use Rattle.cfa_uses.specs.Naming.{is_pair_listed, fits, may_be_made};
+
+use crate::sets::{NameSet, PairSet};
+use cfa_base::NoMemory;
 use std::alloc::Global;
 
 // The most texts with references that may be names of classes or bundles. With more nothing is told of these.
@@ -26,40 +32,7 @@ pub struct Restart<'a> {
     pub service: &'a str,
 }
 
-/// Names, each once.
-#[derive(Drop)]
-pub struct NameSet<'a> {
-    index: NameIndex<'a>,
-    names: Vec<&'a str>,
-}
-
-impl<'a> NameSet<'a> {
-    pub fn new(alloc: Global) -> NameSet<'a> {
-        NameSet {
-            index: NameIndex::new(alloc),
-            names: Vec::new(alloc),
-        }
-    }
-
-    /// The answer is whether the name is new.
-    pub fn add(&mut self, name: &'a str) -> Result<bool, NoMemory> {
-        let is_new = self.index.add(name)?;
-        if is_new {
-            self.names.push(name)?;
-        }
-        Ok(is_new)
-    }
-
-    pub fn has(&self, name: &str) -> bool {
-        self.index.find(name).is_some()
-    }
-
-    pub fn names(&self) -> &[&'a str] {
-        self.names.as_slice()
-    }
-}
-
-// What a text with references begins and ends with.
+/// What a text with references begins and ends with.
 #[derive(Clone, Copy)]
 pub struct Frame<'a> {
     pub front: &'a str,
@@ -73,17 +46,17 @@ pub struct Uses<'a> {
     /// The names of bundles and bodies.
     pub blocks: NameSet<'a>,
     pub restarts: Vec<Restart<'a>>,
-    /// References to variables, and classes of guards.
+    /// References to variables, and the classes that guards and class texts ask for.
     pub references: Vec<Mention<'a>>,
-    pub guards: Vec<Mention<'a>>,
+    pub classes: Vec<Mention<'a>>,
     /// Bundles and their variables.
-    pub variables: Vec<(&'a str, &'a str)>,
-    set: PairIndex<'a>,
+    pub variables: PairSet<'a>,
     /// Texts and words of attributes; of these the classes that are raised; and the classes that are asked for.
     pub values: NameSet<'a>,
     pub raised: NameSet<'a>,
     pub asked: NameSet<'a>,
-    frames: Vec<Frame<'a>>,
+    /// Texts with references that may be names of classes or bundles.
+    pub frames: Vec<Frame<'a>>,
     /// A name of a class or a bundle may be made by a function.
     pub makes_names: bool,
     /// A class text has references.
@@ -92,15 +65,16 @@ pub struct Uses<'a> {
 }
 
 impl<'a> Uses<'a> {
-    pub fn new(alloc: Global) -> Uses<'a> {
+    pub fn new(alloc: Global) -> Uses<'a>
+        ensures { IsUnused result }
+    {
         Uses {
             bundles: Vec::new(alloc),
             blocks: NameSet::new(alloc),
             restarts: Vec::new(alloc),
             references: Vec::new(alloc),
-            guards: Vec::new(alloc),
-            variables: Vec::new(alloc),
-            set: PairIndex::new(alloc),
+            classes: Vec::new(alloc),
+            variables: PairSet::new(alloc),
             values: NameSet::new(alloc),
             raised: NameSet::new(alloc),
             asked: NameSet::new(alloc),
@@ -111,21 +85,18 @@ impl<'a> Uses<'a> {
         }
     }
 
-    pub fn set_variable(&mut self, bundle: &'a str, name: &'a str) -> Result<(), NoMemory> {
-        if self.set.add(bundle, name)? {
-            self.variables.push((bundle, name))?;
-        }
-        Ok(())
-    }
-
     /// The names of bundles and bodies.
-    pub fn into_blocks(self) -> NameSet<'a> {
+    pub fn into_blocks(self) -> NameSet<'a>
+        ensures { result ≡ self.entry.blocks }
+    {
         let Uses { blocks, .. } = self;
         blocks
     }
 
-    pub fn is_set(&self, bundle: &str, name: &str) -> bool {
-        self.set.find(bundle, name).is_some()
+    pub fn is_set(&self, bundle: &str, name: &str) -> bool
+        ensures { result ≡ is_pair_listed self.now.variables (bundle.now, name.now) }
+    {
+        self.variables.has(bundle, name)
     }
 
     pub fn add_frame(&mut self, frame: Frame<'a>) -> Result<(), NoMemory> {
@@ -138,15 +109,23 @@ impl<'a> Uses<'a> {
     }
 
     /// Whether a name may come from a value: as one, or from a text with references.
-    pub fn may_be_made(&self, name: &str) -> bool {
-        if self.makes_names || self.values.has(name) {
-            return true;
-        }
-        for frame in &self.frames {
-            if name.starts_with(frame.front) && name.ends_with(frame.back) {
-                return true;
-            }
-        }
-        false
+    pub fn may_be_made(&self, name: &str) -> bool
+        ensures { let uses = self.now in
+            result ≡ may_be_made uses.makes_names uses.values uses.frames.items name.now }
+    {
+        self.makes_names || self.values.has(name) || has_fit(self.frames.as_slice(), name)
     }
+}
+
+fn has_fit(frames: &[Frame<'_>], name: &str) -> bool
+    ensures { result ≡ list_any (fits name.now) frames.now }
+{
+    frames.iter().any(|frame| is_fit(*frame, name))
+}
+
+fn is_fit(frame: Frame<'_>, name: &str) -> bool
+    ensures { result ≡ fits name.now frame.entry }
+{
+    name.as_bytes().starts_with(frame.front.as_bytes())
+        && name.as_bytes().ends_with(frame.back.as_bytes())
 }

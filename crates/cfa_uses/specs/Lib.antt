@@ -1,0 +1,4 @@
+pub mod Naming
+pub mod Found
+pub mod Parts
+pub mod Statements
