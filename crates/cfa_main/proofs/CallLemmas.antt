@@ -17,7 +17,7 @@ use Rattle.cfa_output.specs.declared.ends.Stop.TheVariants.{Outside, Memory, Vis
 use Rattle.cfa_output.specs.declared.ends.Failure.{Failure}
 use Rattle.cfa_output.specs.declared.ends.Failure.TheVariants.{Refused, Stopped}
 use Rattle.cfa_output.specs.Lines.{words_line, moment_line, outside_line, memory_line, visits_line, pattern_line, stop_line}
-use Rattle.cfa_output.specs.Puts.{PutsShort}
+use Rattle.cfa_output.specs.Puts.{PutsShort, puts_then}
 use Rattle.cfa_sources.specs.Sources.{Texts}
 use Rattle.cfa_states.specs.Views.{Setting}
 use Rattle.cfa_states.specs.Passes.{run}
@@ -25,7 +25,8 @@ use Rattle.cfa_states.specs.Tellers.{open_walk}
 use Rattle.cfa_conflict.specs.Analyses.{analysis_of}
 use Rattle.cfa_agent.specs.Actuations.{Mark}
 use Rattle.cfa_agent.specs.Marks.{marks_of}
-use Rattle.cfa_agent.specs.Ran.{added, IfBothTold, started, StopsRun, RunBuilds, refuses_none, refuses_one}
+use Rattle.cfa_agent.specs.Runs.{lines_of}
+use Rattle.cfa_agent.specs.Ran.{added, IfBothTold, started, StopsRun, RunBuilds, refuses_none, refuses_one, text_of_lines}
 use Rattle.cfa_main.specs.declared.ends.End.{End}
 use Rattle.cfa_main.specs.declared.ends.End.TheVariants.{Ended, PromiseFailed, InConflict}
 use Rattle.cfa_main.specs.declared.work.Work.{Work}
@@ -664,14 +665,20 @@ module _ (words : List (List ℕ)) (moment : ℕ) (inputs inputs' : Shown Librar
   limit_of_visits : OneSetting → (work : Work) (mid : Shown (List ℕ)) → Prepared words moment inputs inputs' pats pats (Ok work) → StopsHere work Visits mid → Follows (adds_bytes visits_line) mid out' →
       StopsAtVisits words moment inputs.told site site' out out' pats pats'
   limit_of_visits one (Run order) mid p (made may q) put = by_run (makes_run one order p.work may)
-      (some_weaker inputs.told _ _ (λ lib told taken. both_weaker _ _ site site' (λ before after cut. record {
-        setting = setting_in order.policy;
-        has_locks = order.locks;
-        is_strict = order.strict;
-        asks = asked_task words moment inputs.told (Run order) p.work lib taken;
-        in_time = p.work.in_time;
-        cut_off = cut_off_by order.strict (setting_in order.policy) (started moment order.locks before after) (analysis_of (setting_in order.policy)) may cut;
-      }) (q.too_large refl)) p.work.is_work.taken)
+      (some_weaker inputs.told _ _ (λ lib told taken. both _ _ _ site site' (λ before after cut limit.
+      let start = started moment order.locks before after in
+      record {
+        needs = record {
+          setting = setting_in order.policy;
+          has_locks = order.locks;
+          is_strict = order.strict;
+          asks = asked_task words moment inputs.told (Run order) p.work lib taken;
+          in_time = p.work.in_time;
+          cut_off = cut_off_by order.strict (setting_in order.policy) start (analysis_of (setting_in order.policy)) may cut;
+        };
+        site_is = limit.site_is;
+        out_is = puts_then (text_of_lines (lines_of (setting_in order.policy) start)) visits_line out mid out' limit.out_is put;
+      }) (q.too_large refl) (q.limit refl)) p.work.is_work.taken)
       q.patterns_are (mid, put)
   limit_of_visits one (Run order) mid p (not_made obeyed q) put = by_told mid (not_made_short order Visits mid p.work obeyed q) q.site_is q.judged.patterns_are put
   limit_of_visits one (Judge policy) mid p q put = by_told mid (judged_short policy Visits mid p.work q) q.site_is q.judged.patterns_are put

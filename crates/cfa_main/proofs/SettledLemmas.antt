@@ -140,7 +140,7 @@ module _ (words : List (List ℕ)) (moment : ℕ) (inputs inputs' : Shown Librar
 
     not_too_many : StopsAtVisits words moment inputs.told site site' out out' pats pats' → ⊥
     not_too_many (by_analysis obeys many un kept put) = free.analysis_ends (some_at inputs.told lib _ lib_told many)
-    not_too_many (by_run makes many kept put) = free.run_ends (some_at inputs.told lib _ lib_told makes.1) (some_at inputs.told lib _ lib_told many)
+    not_too_many (by_run makes many kept put) = free.run_ends (some_at inputs.told lib _ lib_told makes.1) (both_weaker _ _ site site' (λ before after cut. cut.needs) (some_at inputs.told lib _ lib_told many))
 
     done_or_memory : CalledHere → IsEnd status ⊎ IsStop status → IsDoneOrMemory status
     done_or_memory called (inl (inl none)) = inl none

@@ -10,14 +10,15 @@ use Rattle.cfa_words.specs.Words.{asked}
 use Rattle.cfa_outside.specs.Inputs.{Library}
 use Rattle.cfa_outside.specs.Sinks.{adds_bytes}
 use Rattle.cfa_outside.specs.declared.worlds.World.{World}
-use Rattle.cfa_outside.specs.Sites.{Told}
+use Rattle.cfa_outside.specs.Sites.{Told, adds}
 use Rattle.cfa_output.specs.Lines.{words_line, moment_line, outside_line, memory_line, visits_line, pattern_line}
 use Rattle.cfa_sources.specs.Sources.{Texts, IsNamed, IsNextFile}
 use Rattle.cfa_sources.specs.Checks.{RefusesSize}
 use Rattle.cfa_sources.specs.Readings.{FailsNext}
 use Rattle.cfa_agent.specs.Actuations.{Mark}
 use Rattle.cfa_agent.specs.Marks.{marks_of}
-use Rattle.cfa_agent.specs.Ran.{added, IfBothTold}
+use Rattle.cfa_agent.specs.Ran.{added, started, text_of_lines, IfBothTold}
+use Rattle.cfa_agent.specs.Runs.{lines_of, log_of}
 use Rattle.cfa_states.specs.Views.{Setting}
 use Rattle.cfa_convergence.specs.Settled.{Settles}
 use Rattle.cfa_main.specs.Calls.{Task, Does, RefusesRequest, AsksTask, AsksUnaccepted, NeedsTooMany, AnalysesTooMany, AnalysisBuildsText, RunBuildsText, RunsIn}
@@ -242,6 +243,12 @@ pub data StopsAtPattern (words : List (List ℕ)) (moment : ℕ) (told : Option 
   stops_in_run : RefusesInRun words moment told site site' pats pats' → PutsLast pattern_line out' →
       StopsAtPattern words moment told site site' out out' pats pats'
 
+-- a run needs more visits than it may make: all before the promise with which it would have more was done, and of it and the stop the lines were put
+pub record IsCutOff (words : List (List ℕ)) (moment : ℕ) (texts : Texts) (out out' : Shown (List ℕ)) (before after : Told) : Type 0 where
+  pub needs : NeedsTooMany words moment texts before.world (marks_of (added before after))
+  pub site_is : after ≡ adds (log_of needs.setting (started moment needs.has_locks before after)) before
+  pub out_is : Follows (adds_bytes (text_of_lines (lines_of needs.setting (started moment needs.has_locks before after)) ++ visits_line)) out out'
+
 -- a call was stopped by too many visits, of the analysis or the walk that it obeys, so that the stop's line is all that was done; or of its run, of a
 -- policy that was taken, which was made, by the run's definition under the marks of the entries so far
 pub data StopsAtVisits (words : List (List ℕ)) (moment : ℕ) (told : Option Library)
@@ -251,8 +258,7 @@ pub data StopsAtVisits (words : List (List ℕ)) (moment : ℕ) (told : Option L
       Untouched site site' → Untouched pats pats' → Follows (adds_bytes visits_line) out out' →
       StopsAtVisits words moment told site site' out out' pats pats'
   by_run : MakesRun words moment told →
-      IfSome told (λ library. IfBothTold (λ before after.
-      NeedsTooMany words moment library.texts before.world (marks_of (added before after))) site site') →
+      IfSome told (λ library. IfBothTold (IsCutOff words moment library.texts out out') site site') →
       Untouched pats pats' → PutsLast visits_line out' →
       StopsAtVisits words moment told site site' out out' pats pats'
 

@@ -34,7 +34,7 @@ use Rattle.cfa_conflict.specs.declared.verdicts.Verdict.TheVariants.{Accepted, C
 use Rattle.cfa_conflict.specs.Analyses.{AnalysisBuilds, analysis_of}
 use Rattle.cfa_agent.specs.Runs.{run_of, tally_of}
 use Rattle.cfa_agent.specs.Bracketed.{AllBracketed}
-use Rattle.cfa_agent.specs.Ran.{added, RunBuilds, started, IsWhole, IfBothTold, StopsRun, Refuses, RunRefuses}
+use Rattle.cfa_agent.specs.Ran.{added, LimitAs, RunBuilds, started, IsWhole, IfBothTold, StopsRun, Refuses, RunRefuses}
 use Rattle.cfa_convergence.specs.Settled.{Settles}
 use Rattle.cfa_main.specs.declared.ends.End.{End}
 use Rattle.cfa_main.specs.declared.ends.End.TheVariants.{Ended, PromiseFailed, InConflict}
@@ -262,6 +262,8 @@ pub record RunPerformed (setting : Setting) (moment : ℕ) (has_locks : Bool) (s
       settled_by has_locks (tally_of setting (started moment has_locks before after)).failed (analysis_of setting) ≡ Yes → Settles setting after.world) site site')
   pub too_large : IsErrOf result Visits → IfBothTold (λ before after.
       IsTooLarge (run_of setting (started moment has_locks before after))) site site'
+  pub limit : IsErrOf result Visits → IfBothTold (λ before after.
+      LimitAs setting (started moment has_locks before after) before after out out') site site'
   pub bracketed : OnOk result (IfBothTold (λ before after. AllBracketed before.world (added before after)) site site')
   pub calm : OnOk result (out'.faults ≡ out.faults)
   pub stopped : IfErr result (StopsRun site site' out out')

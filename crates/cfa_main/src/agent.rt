@@ -245,7 +245,8 @@ pub fn agent_main<I: Inputs, S: Site, O: Sink, P: Patterns>(
     // its size, after all its files were read and nothing else was refused, or one that its analysis or the walk of `edits`
     // builds, before anything else was done; or one that a run builds. Or the analysis that a check or a strict run obeys,
     // or the walk of `edits`, needs more visits than it may make, before anything was done; or a run does, by its definition
-    // under the marks of the entries so far. A run of a policy that is refused is none of these, whatever the site tells.
+    // under the marks of the entries so far: all before the promise with which it would have more was done then, and put, and
+    // nothing else. A run of a policy that is refused is none of these, whatever the site tells.
     ensures pattern_or_visits { AsksNoDemo words.now
         → result ≡ 6 →
         StopsAtPattern words.now moment (I.shown inputs.old).told
