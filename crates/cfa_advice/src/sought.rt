@@ -179,6 +179,10 @@ impl<S: Site + Drop> Site for NotingSite<S> {
         self.inner.perms(alloc, path)
     }
 
+    fn children(&mut self, alloc: Global, path: &Path) -> Result<u64, OutsideErr> {
+        self.inner.children(alloc, path)
+    }
+
     fn service(&mut self, alloc: Global, name: &Name) -> Result<Option<ServiceRow>, OutsideErr> {
         let answer = self.inner.service(alloc, name);
         if let Ok(row) = answer {

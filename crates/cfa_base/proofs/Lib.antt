@@ -3,4 +3,5 @@ pub mod PatternLemmas
 pub mod IndexLemmas
 pub mod EscapeLemmas
 pub mod Ranges
+pub mod Leaves
 pub mod KeyLemmas

@@ -1,7 +1,7 @@
 // Maps from texts.
 ghost use Rattle.std.specs.Prelude.{◌≡◌, OnOk, OnErr, option_copied};
 ghost use Rattle.std.specs.FinMap as map;
-ghost use Rattle.cfa_base.specs.TextMaps.{has_front};
+ghost use Rattle.cfa_base.specs.TextMaps.{has_front, is_leaf, count_leaves};
 
 use crate::{Name, NoMemory};
 use std::alloc::Global;
@@ -85,5 +85,36 @@ impl<V> TextMap<V> {
                 .starts_with(front.as_str().as_bytes()),
             None => false,
         }
+    }
+
+    /// How many texts of the map begin with this one and have no slash behind it, without taking memory. Only texts
+    /// that begin so are visited.
+    pub fn count_leaves(&self, front: &Name) -> u64
+        ensures { result ≡ count_leaves self.now front.now }
+    {
+        let mut count = 0;
+        for (key, _) in self.rows.range(front.as_key()..) {
+            if !key
+                .as_str()
+                .as_bytes()
+                .starts_with(front.as_str().as_bytes())
+            {
+                break;
+            }
+            if is_leaf(front.as_str(), key.as_str()) {
+                count += 1;
+            }
+        }
+        count
+    }
+}
+
+// Whether a text begins with this one and has no slash behind it.
+fn is_leaf(front: &str, text: &str) -> bool
+    ensures { result ≡ is_leaf front.now text.now }
+{
+    match text.as_bytes().strip_prefix(front.as_bytes()) {
+        Some(rest) => !rest.contains(&b'/'),
+        None => false,
     }
 }

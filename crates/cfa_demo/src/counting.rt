@@ -86,6 +86,15 @@ impl<S: Site> Site for CountingSite<S> {
         answer
     }
 
+    fn children(&mut self, alloc: Global, path: &Path) -> Result<u64, OutsideErr> {
+        if !may_rise(self.entries) {
+            return Err(OutsideErr::NoMemory);
+        }
+        let answer = self.site.children(alloc, path);
+        self.entries += refusals(&answer);
+        answer
+    }
+
     fn service(&mut self, alloc: Global, name: &Name) -> Result<Option<ServiceRow>, OutsideErr> {
         if !may_rise(self.entries) {
             return Err(OutsideErr::NoMemory);

@@ -144,6 +144,14 @@ where
         }
     }
 
+    fn children(&mut self, alloc: Global, path: &Path) -> Result<u64, HostErr> {
+        self.open(alloc)?;
+        match &mut self.held {
+            Some(held) => held.children(&self.rt, alloc, path),
+            None => Err(refused(Why::Unsure)),
+        }
+    }
+
     fn service(&mut self, alloc: Global, name: &Name) -> Result<Option<ServiceRow>, HostErr> {
         self.open(alloc)?;
         match &self.held {
@@ -204,6 +212,17 @@ where
         self.note(
             alloc,
             Call::Perms,
+            path.text().as_str(),
+            refusal_of(&answer),
+        );
+        counted(&mut self.faults, answer)
+    }
+
+    fn children(&mut self, alloc: Global, path: &Path) -> Result<u64, OutsideErr> {
+        let answer = self.host.children(alloc, path);
+        self.note(
+            alloc,
+            Call::Children,
             path.text().as_str(),
             refusal_of(&answer),
         );

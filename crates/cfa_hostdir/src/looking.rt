@@ -128,6 +128,32 @@ fn has_name(names: &[u8]) -> bool {
     false
 }
 
+// How many names of a buffer, each ended by a zero byte, aren't `.` or `..`.
+fn count_names(names: &[u8]) -> u64 {
+    let mut count = 0u64;
+    for name in names.split(|byte| *byte == 0) {
+        if !name.is_empty() && name != b".".as_slice() && name != b"..".as_slice() {
+            count = count.saturating_add(1);
+        }
+    }
+    count
+}
+
+/// How many nodes stand directly in a directory.
+pub fn count_nodes<R: Files>(rt: &R, path: &str) -> Result<u64, HostErr> {
+    let mut dir = rt.open_dir(path)?;
+    let mut names = [0u8; 4096];
+    let mut nodes = 0u64;
+    for _ in 0..u64::MAX {
+        let count = dir.read(&mut names)?;
+        if count == 0 {
+            return Ok(nodes);
+        }
+        nodes = nodes.saturating_add(count_names(&names[..count]));
+    }
+    Err(refused(Why::OfAnotherLength))
+}
+
 /// Whether something stands in a directory.
 pub fn has_nodes<R: Files>(rt: &R, path: &str) -> Result<bool, HostErr> {
     let mut dir = rt.open_dir(path)?;

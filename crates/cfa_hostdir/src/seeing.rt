@@ -2,7 +2,7 @@
 use crate::errors::{HostErr, Why, refused};
 use crate::files::read_found;
 use crate::held::Held;
-use crate::looking::{Spot, has_nodes};
+use crate::looking::{Spot, count_nodes, has_nodes};
 use cfa_base::{Bytes, MOST_FILE_BYTES};
 use cfa_outside::{Look, Path, Perms, root_perms};
 use std::alloc::Global;
@@ -53,6 +53,19 @@ impl<F: Write + OpenFile> Held<F> {
         match self.tables.perms.get(text) {
             Some(row) => Ok(row.1.copy(alloc)?),
             None => Ok(root_perms(alloc, mode)?),
+        }
+    }
+
+    pub fn children<R: Files<File = F>>(
+        &mut self,
+        rt: &R,
+        alloc: Global,
+        path: &Path,
+    ) -> Result<u64, HostErr> {
+        let real = self.layout.real(alloc, path.text().as_str())?;
+        match self.spot(rt, real.as_str())? {
+            Spot::Dir => count_nodes(rt, real.as_str()),
+            Spot::File(_) | Spot::Missing(_) | Spot::Blocked => Err(refused(Why::Misfit)),
         }
     }
 }

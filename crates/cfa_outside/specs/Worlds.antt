@@ -3,7 +3,7 @@
 use Rattle.std.specs.Prelude.{ℕ, ◌+◌, List, [], ◌∷◌, ◌++◌, Bool, true, false, ◌&&◌, not, ◌==◌, nat_eq, nat_le, if◌then◌else◌, length, take, drop, codes, Option, Some, None, IsTrue}
 use Rattle.std.specs.List.{list_all, list_any, starts_with}
 use Rattle.std.specs.FinMap as map
-use Rattle.cfa_base.specs.TextMaps.{TextMap}
+use Rattle.cfa_base.specs.TextMaps.{TextMap, count_leaves}
 use Rattle.cfa_base.specs.declared.limits.TheConstants.{MOST_FILE_BYTES}
 use Rattle.cfa_outside.specs.declared.worlds.Perms.{Perms}
 use Rattle.cfa_outside.specs.declared.worlds.Node.{Node}
@@ -46,13 +46,21 @@ is_directory None = false
 unfoldable pub is_blocked : NodeMap → List ℕ → Bool
 is_blocked nodes path = list_any (λ p. is_file (map.get nodes p)) (above path)
 
+-- the path and a slash
+abbrev pub below_front : List ℕ → List ℕ
+below_front path = path ++ 47 ∷ []
+
 -- the other path begins with this one and a slash
 unfoldable pub is_below : List ℕ → List ℕ → Bool
-is_below path other = starts_with nat_eq other (path ++ 47 ∷ [])
+is_below path other = starts_with nat_eq other (below_front path)
 
 -- a node stands below the path
 unfoldable pub has_below : NodeMap → List ℕ → Bool
 has_below nodes path = list_any (is_below path) (map.keys nodes)
+
+-- how many nodes stand directly in the directory at the path
+unfoldable pub children_of : NodeMap → List ℕ → ℕ
+children_of nodes path = count_leaves nodes (below_front path)
 
 -- what a look shows, by the node there, whether a file stands above, and whether a node stands below
 abbrev pub shows : Option Node → Bool → Bool → Look

@@ -143,7 +143,7 @@ impl Site for MemorySite {
     ghost use Rattle.cfa_base.specs.Shown.{Follows};
     ghost use Rattle.cfa_outside.specs.Answered.{Answered};
     ghost use Rattle.cfa_outside.specs.MemorySite.{world_of, turns_of, stops_after, changes_so_far, changes_after, shown_of, fails_next, Sees};
-    ghost use Rattle.cfa_outside.specs.Worlds.{is_readable, bytes_in, perms_in};
+    ghost use Rattle.cfa_outside.specs.Worlds.{is_readable, bytes_in, perms_in, children_of};
     ghost use Rattle.cfa_outside.specs.Sites.{look_of, adds};
     ghost use Rattle.cfa_outside.specs.Turns.{TakesTurn};
     ghost use Rattle.cfa_outside.specs.declared.sites.Entry.TheVariants.{Did, Refused};
@@ -184,6 +184,15 @@ impl Site for MemorySite {
             Some(perms) => Ok(perms.copy(alloc)?),
             None => unreachable!(),
         }
+    }
+
+    fn children(&mut self, alloc: Global, path: &Path) -> Result<u64, OutsideErr>
+        ensures answer { IfOk result
+            (λ count. count ≡ children_of (world_of self.old).nodes path.now) }
+        ensures seen { Sees Call.Children self.old self.new result }
+    {
+        self.begin(Call::Children)?;
+        Ok(self.world.nodes.children(alloc, path)?)
     }
 
     fn service(&mut self, alloc: Global, name: &Name) -> Result<Option<ServiceRow>, OutsideErr>

@@ -1,7 +1,7 @@
 // What stands at each path.
 ghost use Rattle.std.specs.Prelude.{◌≡◌, ◌≤◌, if◌then◌else◌, not, [], IsTrue, IfOk, OnOk, OnErr, IsErrOf, IfSome, IfNone, option_copied, length, drop};
 ghost use Rattle.std.specs.FinMap as map;
-ghost use Rattle.cfa_outside.specs.Worlds.{put_file, put_directory, set_perms, with_perms, file_with, root_perms, with_dir, with_dirs, above, above_from, is_file, is_directory, is_blocked, is_in_directories, has_below, look_at, takes_file, takes_directory, is_removable, bytes_in, perms_in, is_free, HasParents};
+ghost use Rattle.cfa_outside.specs.Worlds.{put_file, put_directory, set_perms, with_perms, file_with, root_perms, with_dir, with_dirs, above, above_from, is_file, is_directory, is_blocked, is_in_directories, has_below, below_front, children_of, look_at, takes_file, takes_directory, is_removable, bytes_in, perms_in, is_free, HasParents};
 ghost use Rattle.cfa_outside.specs.OfTheCode.{IsNextSlash};
 
 use crate::{Look, Node, NodeErr, Path, Perms};
@@ -99,10 +99,14 @@ impl Nodes {
     pub fn has_below(&self, alloc: Global, path: &Path) -> Result<bool, NoMemory>
         ensures { IfOk result (λ below. below ≡ has_below self.now path.now) }
     {
-        let mut front = String::from_str(alloc, path.text().as_str())?;
-        front.push_str("/")?;
-        let front = Name::from_string(front)?;
-        Ok(self.rows.has_front(&front))
+        Ok(self.rows.has_front(&front_of(alloc, path)?))
+    }
+
+    /// How many nodes stand directly in the directory at the path. Each that stands below it is visited.
+    pub fn children(&self, alloc: Global, path: &Path) -> Result<u64, NoMemory>
+        ensures { IfOk result (λ count. count ≡ children_of self.now path.now) }
+    {
+        Ok(self.rows.count_leaves(&front_of(alloc, path)?))
     }
 
     /// Each node stands in directories up to the root.
@@ -165,6 +169,15 @@ impl Nodes {
     {
         set_perms(alloc, &mut self.rows, path.text().as_str(), perms)
     }
+}
+
+// The path and a slash, with which each path below it begins.
+fn front_of(alloc: Global, path: &Path) -> Result<Name, NoMemory>
+    ensures { IfOk result (λ front. front ≡ below_front path.now) }
+{
+    let mut front = String::from_str(alloc, path.text().as_str())?;
+    front.push_str("/")?;
+    Ok(Name::from_string(front)?)
 }
 
 fn tests_as_file(node: Option<&Node>) -> bool

@@ -3,7 +3,7 @@ ghost use Rattle.std.specs.Prelude.{◌≡◌, [], ◌∷◌, IfOk, IfSome, IsTr
 ghost use Rattle.std.specs.FinMap as map;
 ghost use Rattle.cfa_base.specs.Shown.{Shown, Follows};
 ghost use Rattle.cfa_outside.specs.Answered.{Answered};
-ghost use Rattle.cfa_outside.specs.Worlds.{takes_file, takes_directory, is_removable, is_readable, bytes_in, perms_in, HasParents};
+ghost use Rattle.cfa_outside.specs.Worlds.{takes_file, takes_directory, is_removable, is_readable, is_directory, bytes_in, perms_in, children_of, HasParents};
 ghost use Rattle.cfa_outside.specs.Sites.{Told, look_of, fits, adds, Seen, ChangesKeepParents, LogsKeepParents};
 ghost use Rattle.cfa_outside.specs.declared.sites.Entry.TheVariants.{Did, Refused};
 
@@ -96,6 +96,7 @@ pub enum Call {
     Service,
     Lock,
     Change,
+    Children,
 }
 
 /// What a site's log keeps of a call: a change that was made, or a call that was refused. Any other
@@ -135,6 +136,15 @@ pub trait Site {
         ensures answer { IfOk result (λ perms. IfSome (shown self.old).told
             (λ t. perms_in (map.get t.world.nodes path.now) ≡ Some perms)) }
         ensures shown { Seen Call.Perms (shown self.old) (shown self.new) result };
+
+    /// How many nodes stand directly in the directory at the path: one stands there, where the site tells it. `Failed`
+    /// is logged as refused.
+    fn children(&mut self, alloc: Global, path: &Path) -> Result<u64, OutsideErr>
+        requires { IfSome (shown self.old).told
+            (λ t. IsTrue (is_directory (map.get t.world.nodes path.now))) }
+        ensures answer { IfOk result (λ count. IfSome (shown self.old).told
+            (λ t. count ≡ children_of t.world.nodes path.now)) }
+        ensures shown { Seen Call.Children (shown self.old) (shown self.new) result };
 
     /// The row of the service; `None` where the host has no such service. `Failed` is logged as refused.
     fn service(&mut self, alloc: Global, name: &Name) -> Result<Option<ServiceRow>, OutsideErr>

@@ -50,6 +50,7 @@ fn asked_of(call: Call) -> &'static str {
         Call::Perms => "which permissions it has",
         Call::Service => "the row of a service",
         Call::Lock => "when a lock was set",
+        Call::Children => "what a directory holds",
         Call::Change => "to make a change, or to write a record",
     }
 }
