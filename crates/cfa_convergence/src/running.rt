@@ -46,11 +46,13 @@ pub fn run<S: Site, O: Sink, P: Patterns>(
         (S.shown site.old) (S.shown site.new) }
     // Then all before the promise with which it would have more was done and put, and nothing else.
     ensures limit { IsErrOf result Stop.Visits → IfBothTold (λ before after.
-        LimitAs (setting_of checked.now context.now) (started moment locks before after) before after
+        LimitAs (setting_of checked.now context.now) (started moment locks before after)
+        before after
         (O.shown out.old) (O.shown out.new)) (S.shown site.old) (S.shown site.new) }
     ensures stopped { IfErr result
         (StopsRun (S.shown site.old) (S.shown site.new) (O.shown out.old) (O.shown out.new)) }
-    ensures patterns { RunRefuses (λ text. RunBuilds (setting_of checked.now context.now) moment locks
+    ensures patterns { RunRefuses (λ text. RunBuilds (setting_of checked.now context.now) moment
+        locks
         (S.shown site.old) (S.shown site.new) (Some text)) result
         (P.shown pats.old) (P.shown pats.new) }
     ensures built { RunBuilds (setting_of checked.now context.now) moment locks

@@ -57,7 +57,8 @@ impl<S: Site> Site for CountingSite<S> {
 
     ghost use Rattle.cfa_demo.specs.Counts.{counted_parents};
 
-    ghost parents = { λ c. counted_parents c.entries c.changes (S.shown c.site) (S.parents c.site) };
+    ghost parents = { λ c. counted_parents c.entries c.changes (S.shown c.site)
+        (S.parents c.site) };
 
     fn look(&mut self, alloc: Global, path: &Path) -> Result<Look, OutsideErr> {
         if !may_rise(self.entries) {

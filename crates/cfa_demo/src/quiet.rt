@@ -17,7 +17,10 @@ impl Inputs for OneText {
     ghost use Rattle.std.specs.Prelude.{[], ◌∷◌, Some};
     ghost use Rattle.cfa_outside.specs.Inputs.{Library};
 
-    ghost shown = { λ one. record { told = Some (record { texts = (one.name, one.text) ∷ []; failed = [] }); faults = 0 } };
+    ghost shown = { λ one. record {
+      told = Some (record { texts = (one.name, one.text) ∷ []; failed = [] });
+      faults = 0;
+    } };
 
     fn read(&mut self, alloc: Global, name: &Name, limit: u32) -> Result<Bytes, OutsideErr> {
         if name.as_str() != self.name.as_str() {

@@ -57,7 +57,8 @@ fn skipped_by<'a, 'j>(
     told: &mut NameSet<'j>,
     record: &'j [u8],
 ) -> Result<Option<Restart<'a>>, NoMemory>
-    ensures { IfOk result (λ found. IfSome found (λ restart. Contains uses.now.restarts.items restart)) }
+    ensures { IfOk result (λ found. IfSome found (λ restart.
+        Contains uses.now.restarts.items restart)) }
 {
     let Some((id, key)) = opened_by(record) else {
         return Ok(None);

@@ -46,9 +46,11 @@ pub(crate) fn skip_visit(
     frame: &mut Frame<'_>,
     state: &mut State,
 ) -> Result<(), NoMemory>
-    requires at { All (IsAt frame.old.activation.path) (row_in frame.old.rows.items frame.old.hand) }
+    requires at { All (IsAt frame.old.activation.path)
+        (row_in frame.old.rows.items frame.old.hand) }
     ensures frame { OnOk result (frame.new ≡ record frame.old { doing = unasked frame.old.doing }) }
-    ensures stands { OnOk result ((s : Setting) (h : History) → Stands s state.old frame.old.activation h
+    ensures stands { OnOk result ((s : Setting) (h : History)
+        → Stands s state.old frame.old.activation h
         → Stands s state.new frame.old.activation
         (skipped_by (row_in frame.old.rows.items frame.old.hand) frame.old.doing h)) }
     ensures later { OnOk result (IsLater state.old state.new) }
@@ -75,7 +77,8 @@ fn begin_bundle<'a>(
     state: &mut State,
 ) -> Result<Option<Frame<'a>>, NoMemory>
     requires names { HasPlainNames (tree_of checked.now) }
-    ensures begins { IfOk result (λ made. (s : Setting) (h : History) → s.policy ≡ tree_of checked.now
+    ensures begins { IfOk result (λ made. (s : Setting) (h : History)
+        → s.policy ≡ tree_of checked.now
         → Keeps s state.old h → Begins s depth instance.now status (Work.Call name.now given.now)
         made state.new h) }
     ensures holds { IfOk result (λ made. IfSome made (FrameHolds (tree_of checked.now) state.new)) }
@@ -106,7 +109,8 @@ fn begin_work<'a>(
     state: &mut State,
 ) -> Result<Option<Frame<'a>>, NoMemory>
     requires names { HasPlainNames (tree_of checked.now) }
-    ensures begins { IfOk result (λ made. (s : Setting) (h : History) → s.policy ≡ tree_of checked.now
+    ensures begins { IfOk result (λ made. (s : Setting) (h : History)
+        → s.policy ≡ tree_of checked.now
         → Keeps s state.old h
         → Begins s depth instance.now status instance.now.work made state.new h) }
     ensures holds { IfOk result (λ made. IfSome made (FrameHolds (tree_of checked.now) state.new)) }
@@ -129,10 +133,12 @@ pub(crate) fn enter_visit<'a>(
     state: &mut State,
 ) -> Result<Option<Frame<'a>>, NoMemory>
     requires names { HasPlainNames (tree_of checked.now) }
-    requires at { All (IsAt frame.old.activation.path) (row_in frame.old.rows.items frame.old.hand) }
+    requires at { All (IsAt frame.old.activation.path)
+        (row_in frame.old.rows.items frame.old.hand) }
     ensures frame { OnOk result
         (frame.new ≡ record frame.old { doing = entered_doing frame.old.doing }) }
-    ensures enters { IfOk result (λ made. (s : Setting) (h : History) → s.policy ≡ tree_of checked.now
+    ensures enters { IfOk result (λ made. (s : Setting) (h : History)
+        → s.policy ≡ tree_of checked.now
         → Stands s state.old frame.old.activation h → Enters s frame.old.depth
         (row_in frame.old.rows.items frame.old.hand) frame.old.doing made state.new h) }
     ensures holds { IfOk result (λ made. IfSome made (FrameHolds (tree_of checked.now) state.new)) }
@@ -158,10 +164,12 @@ pub(crate) fn end_running(
     ending: Ending,
     state: &mut State,
 ) -> Result<(), NoMemory>
-    requires at { All (IsAt frame.old.activation.path) (row_in frame.old.rows.items frame.old.hand) }
+    requires at { All (IsAt frame.old.activation.path)
+        (row_in frame.old.rows.items frame.old.hand) }
     ensures frame { OnOk result (frame.new ≡ record frame.old
         { activation = frame.new.activation; doing = ended_doing frame.old.doing }) }
-    ensures stands { OnOk result ((s : Setting) (h : History) → Stands s state.old frame.old.activation h
+    ensures stands { OnOk result ((s : Setting) (h : History)
+        → Stands s state.old frame.old.activation h
         → Stands s state.new frame.new.activation
         (ended_by ending (row_in frame.old.rows.items frame.old.hand) frame.old.doing h)) }
     ensures later { OnOk result (AreLater state.old state.new frame.old.activation

@@ -28,7 +28,8 @@ pub(crate) fn common_top<'a>(
     bundle: &'a Bundle,
     state: &State,
 ) -> Result<Top<'a>, NoMemory>
-    ensures begins { IfOk result (λ top. (s : Setting) (h : History) → Keeps s state.now h → IsClear h
+    ensures begins { IfOk result (λ top. (s : Setting) (h : History)
+        → Keeps s state.now h → IsClear h
         → IsShared s.policy bundle.now.name.name
         → CommonBegins s (seen_bundle bundle.now) top h) }
     ensures common { IfOk result NotAgent }
@@ -75,7 +76,8 @@ pub(crate) fn named_top<'a>(
     name: &Name,
     state: &mut State,
 ) -> Result<Top<'a>, NoMemory>
-    ensures begins { IfOk result (λ top. (s : Setting) (h : History) → s.policy ≡ tree_of checked.now
+    ensures begins { IfOk result (λ top. (s : Setting) (h : History)
+        → s.policy ≡ tree_of checked.now
         → depth ≡ length s.policy → IsShared s.policy name.now → Keeps s state.old h
         → NamedBegins s name.now top state.new h) }
     ensures holds { IfOk result (TopHoldsAlone (tree_of checked.now) state.new) }

@@ -49,7 +49,8 @@ fn reach_quietly<P: Patterns>(
 ) -> Result<(), Stop>
     requires common { (promise.now.promise_type ≡ promises.Vars)
         ⊎ (promise.now.promise_type ≡ promises.Classes) }
-    ensures reached { (policy : PolicyTree) → Reaches policy true (seen_numbered promise.now) guard None
+    ensures reached { (policy : PolicyTree) → Reaches policy true (seen_numbered promise.now)
+        guard None
         state.old state.new activation.old activation.new (result_as false result) }
     ensures later { OnOk result (IsLater state.old state.new) }
     ensures patterns { PatternsAre result (P.shown pats.old) (P.shown pats.new) }
@@ -74,7 +75,9 @@ fn reach_in_common<P: Patterns>(
     requires kind { (kind ≡ promises.Vars) ⊎ (kind ≡ promises.Classes) }
     requires place { common.old.place < length common.old.promises.items }
     ensures stays { IfOk result (λ stays. stays ≡ true) }
-    ensures moved { (policy : PolicyTree) → CommonTypeStepsTo policy kind state.old state.new common.old common.new result }
+    ensures moved { (policy : PolicyTree)
+        → CommonTypeStepsTo policy kind state.old state.new
+        common.old common.new result }
     ensures later { OnOk result (IsLater state.old state.new) }
     ensures patterns { PatternsAre (done_of result) (P.shown pats.old) (P.shown pats.new) }
 {
@@ -105,7 +108,9 @@ fn step_common_type<P: Patterns>(
 ) -> Result<bool, Stop>
     requires kind { slice_get common_types common.old.kind ≡ Some kind }
     ensures stays { IfOk result (λ stays. stays ≡ true) }
-    ensures moved { (policy : PolicyTree) → CommonTypeStepsTo policy kind state.old state.new common.old common.new result }
+    ensures moved { (policy : PolicyTree)
+        → CommonTypeStepsTo policy kind state.old state.new
+        common.old common.new result }
     ensures later { OnOk result (IsLater state.old state.new) }
     ensures patterns { PatternsAre (done_of result) (P.shown pats.old) (P.shown pats.new) }
 {
@@ -124,7 +129,8 @@ pub(crate) fn step_common<P: Patterns>(
     state: &mut State,
     pats: &mut P,
 ) -> Result<bool, Stop>
-    ensures moved { (policy : PolicyTree) → CommonStepsTo policy state.old state.new common.old common.new result }
+    ensures moved { (policy : PolicyTree)
+        → CommonStepsTo policy state.old state.new common.old common.new result }
     ensures leaves { IfOk result (λ stays. stays ≡ false → (common.new ≡ common.old)
         × (state.new ≡ state.old)) }
     ensures later { OnOk result (IsLater state.old state.new) }

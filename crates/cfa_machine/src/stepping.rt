@@ -144,7 +144,8 @@ fn reach<P: Patterns>(
     requires holds { FrameHolds (tree_of checked.now) state.old frame.old }
     ensures stays { IfOk result (λ stays. stays ≡ true) }
     ensures idle { OnOk result (frame.new.doing ≡ Doing.Idle) }
-    ensures moved { TypeStepsTo (tree_of checked.now) kind state.old state.new frame.old frame.new result }
+    ensures moved { TypeStepsTo (tree_of checked.now) kind state.old state.new
+        frame.old frame.new result }
     ensures holds { OnOk result (FrameHolds (tree_of checked.now) state.new frame.new) }
     ensures later { OnOk result (IsLater state.old state.new) }
     ensures patterns { PatternsAre (done_of result) (P.shown pats.old) (P.shown pats.new) }
@@ -190,7 +191,8 @@ fn step_type<P: Patterns>(
     requires holds { FrameHolds (tree_of checked.now) state.old frame.old }
     ensures stays { IfOk result (λ stays. stays ≡ true) }
     ensures idle { OnOk result (frame.new.doing ≡ Doing.Idle) }
-    ensures moved { TypeStepsTo (tree_of checked.now) kind state.old state.new frame.old frame.new result }
+    ensures moved { TypeStepsTo (tree_of checked.now) kind state.old state.new
+        frame.old frame.new result }
     ensures holds { OnOk result (FrameHolds (tree_of checked.now) state.new frame.new) }
     ensures later { OnOk result (IsLater state.old state.new) }
     ensures patterns { PatternsAre (done_of result) (P.shown pats.old) (P.shown pats.new) }

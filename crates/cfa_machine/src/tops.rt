@@ -97,7 +97,8 @@ pub(crate) fn enter_top<'a>(
 ) -> Result<Option<Frame<'a>>, NoMemory>
     requires names { HasPlainNames (tree_of checked.now) }
     requires holds { TopRemembers (tree_of checked.now) state.old top.old }
-    ensures entered { IfOk result (TopEnters (tree_of checked.now) state.old state.new top.old top.new) }
+    ensures entered { IfOk result (TopEnters (tree_of checked.now) state.old state.new
+        top.old top.new) }
     ensures holds { IfOk result (λ made. IfSome made (FrameHolds (tree_of checked.now) state.new)) }
     ensures later { OnOk result (IsLater state.old state.new) }
 {
