@@ -1,5 +1,6 @@
 pub mod Conflicts
 pub mod Contained
+pub mod Keyed
 pub mod Keys
 pub mod Lasting
 pub mod Policies

@@ -2,6 +2,7 @@
 //! without locks changes nothing.
 #![tactic(auto)]
 
+mod actuations;
 mod containment;
 mod keys;
 mod lasting;
@@ -13,6 +14,7 @@ mod settling;
 mod sources;
 mod verdicts;
 
+pub use actuations::actuations_are_keyed;
 pub use containment::unfailing_runs_are_contained;
 pub use keys::keys_tell_works;
 pub use lasting::{live_posts_hold, posts_last};

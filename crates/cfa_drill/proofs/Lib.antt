@@ -1,0 +1,6 @@
+pub mod QuietLemmas
+pub mod ActedLemmas
+pub mod StepLemmas
+pub mod TellerLemmas
+pub mod TraceLemmas
+pub mod SettleLemmas

@@ -1,0 +1,4 @@
+pub mod Ends
+pub mod Interleaving
+pub mod Settling
+pub mod Traces
