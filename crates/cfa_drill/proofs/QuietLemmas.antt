@@ -121,8 +121,7 @@ module _ (i : Instance) (os : List Outcome) (status : Status) where
   lists_are [] h = ([], refl, tt)
   lists_are (outcome ∷ outcomes) h =
       let each = each_is (classes_for i outcome) h in
-      let rest = lists_are outcomes (raise_each i os status (classes_for i outcome) h) in
-      (
+      let rest = lists_are outcomes (raise_each i os status (classes_for i outcome) h) in (
         rest.0 ++ each.0,
         rest.1 ∙ ap (λ k. rest.0 ++ k) each.1 ∙ sym (append_assoc rest.0 each.0 h),
         quiet_both rest.0 each.0 rest.2 each.2,
