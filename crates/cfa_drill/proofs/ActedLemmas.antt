@@ -1,16 +1,12 @@
 -- What an instance does that didn't fail: its changes are made on its host, and what else it adds is no part of that.
-use Rattle.std.proofs.Common.{◌≡◌, ◌∙◌, ℕ, suc, Bool, true, false, List, [], ◌∷◌, ◌++◌, length, Option, Some, None, refl, sym, ap, subst}
-use Rattle.std.specs.Prelude.{take}
+use Rattle.std.proofs.Common.{◌≡◌, ◌∙◌, ℕ, Bool, List, [], ◌∷◌, ◌++◌, length, Option, Some, None, refl, sym, subst}
 use Rattle.cfa_outside.specs.declared.worlds.World.{World}
 use Rattle.cfa_outside.specs.declared.sites.Change.{Change}
-use Rattle.cfa_outside.specs.declared.sites.Entry.{Entry}
 use Rattle.cfa_outside.specs.Sites.{after}
 use Rattle.cfa_acts.specs.declared.acts.Reason.{Reason}
-use Rattle.cfa_acts.specs.declared.acts.Reason.TheVariants.{Fault}
 use Rattle.cfa_journal.specs.declared.records.Record.TheVariants as records
 use Rattle.cfa_locks.specs.Locks.{key_of}
-use Rattle.cfa_outcomes.specs.declared.outcomes.Outcome.{Outcome}
-use Rattle.cfa_outcomes.specs.declared.outcomes.Outcome.TheVariants.{Kept, Repaired, Failed}
+use Rattle.cfa_outcomes.specs.declared.outcomes.Outcome.TheVariants.{Failed}
 use Rattle.cfa_resolve.specs.declared.instances.Instance.{Instance}
 use Rattle.cfa_states.specs.Tellers.{Actuated, actuated, after_all, acts_of, outcome_by}
 use Rattle.cfa_agent.specs.Actuations.{Mark, mark_of, done_by, done_on, outcome_done, appended, changed, run_record, closing_record, entries_of}

@@ -4,3 +4,4 @@ pub mod StepLemmas
 pub mod TellerLemmas
 pub mod TraceLemmas
 pub mod SettleLemmas
+pub mod MarkLemmas

@@ -1,10 +1,9 @@
 -- What the step of a turn does: it actuates one instance behind quiet events, or adds quiet events alone.
-use Rattle.std.proofs.Common.{◌≡◌, ◌∙◌, ◌⊎◌, inl, inr, ℕ, suc, Bool, true, false, ◌||◌, List, [], ◌∷◌, ◌++◌, refl, sym, ap, subst, append-nil, append_assoc}
-use Rattle.cfa_outside.specs.declared.worlds.World.{World}
+use Rattle.std.proofs.Common.{◌≡◌, ◌∙◌, inl, inr, suc, true, false, ◌||◌, List, [], ◌∷◌, ◌++◌, refl, sym, ap, subst, append_assoc}
 use Rattle.cfa_outside.specs.declared.sites.Entry.{Entry}
 use Rattle.cfa_outside.specs.Sites.{after}
 use Rattle.cfa_outcomes.specs.declared.outcomes.Outcome.{Outcome}
-use Rattle.cfa_outcomes.specs.declared.outcomes.Outcome.TheVariants.{Kept, Repaired, Failed}
+use Rattle.cfa_outcomes.specs.declared.outcomes.Outcome.TheVariants.{Failed}
 use Rattle.cfa_resolve.specs.declared.instances.Instance.{Instance}
 use Rattle.cfa_resolve.specs.declared.instances.Work.{Work}
 use Rattle.cfa_resolve.specs.declared.instances.Work.TheVariants.{Acts, Call, Report}
@@ -16,7 +15,6 @@ use Rattle.cfa_frames.specs.Frames.{Stack}
 use Rattle.cfa_frames.specs.Growing.{Grows, NextGrows}
 use Rattle.cfa_frames.specs.Moves.{Next, goes_on, is_too_large}
 use Rattle.cfa_frames.specs.Steps.{has_acts, actuations_in as acted_in, step, HasActuated, IsQuiet, IsWhole}
-use Rattle.cfa_agent.specs.Actuations.{done_on, entries_of, outcome_done}
 use Rattle.cfa_agent.specs.Agents.{history_at, next_by}
 use Rattle.cfa_agent.specs.Runs.{Start, actuations_in, has_record, outcome_by_work, tally_in}
 use Rattle.cfa_agent.specs.Stepping.{events_since, log_since, recorded_in, stepper, work_added, world_since}
@@ -45,7 +43,7 @@ module _ (start : Start) (unlocked : start.has_locks ≡ false) (h : History) wh
       quietly (quiet_actuations events h quiet) (entries_are events ∙ quiet_log start unlocked h (recorded_in h) events quiet)
 
   -- the world on which the instance is told is that of the start
-  world_is : (before : List Event) → Quiet before → world_since start h (recorded_in h) (events_since h (before ++ h)) ≡ start.world
+  pub world_is : (before : List Event) → Quiet before → world_since start h (recorded_in h) (events_since h (before ++ h)) ≡ start.world
   world_is before quiet =
       ap (λ events. after (log_since start h (recorded_in h) events) start.world) (since_is h before)
       ∙ ap (λ log. after log start.world) (quiet_log start unlocked h (recorded_in h) before quiet)

@@ -1,4 +1,5 @@
 pub mod Ends
 pub mod Interleaving
+pub mod Marking
 pub mod Settling
 pub mod Traces

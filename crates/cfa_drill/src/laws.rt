@@ -1,5 +1,6 @@
 // What holds of several agents on one host, each the contract of a function that changes nothing.
 ghost use Rattle.cfa_schema.specs.Seen.{tree_of};
+ghost use Rattle.cfa_drill.specs.Marking.{TurnsHaveTheirMarks};
 ghost use Rattle.cfa_drill.specs.Settling.{AcceptedAgentsSettle, FreeAgentsSettle};
 ghost use Rattle.cfa_drill.specs.Traces.{StepsAreInterleaved};
 
@@ -45,3 +46,8 @@ pub fn accepted_agents_settle(checked: &Checked)
     accepted_are_free(checked);
     free_agents_settle();
 }
+
+/// The marks of a turn hang on what its own step added, not on what other turns did.
+pub fn turns_have_their_marks()
+    ensures { TurnsHaveTheirMarks }
+{}

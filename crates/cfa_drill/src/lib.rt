@@ -3,4 +3,6 @@
 
 mod laws;
 
-pub use laws::{accepted_agents_settle, free_agents_settle, steps_are_interleaved};
+pub use laws::{
+    accepted_agents_settle, free_agents_settle, steps_are_interleaved, turns_have_their_marks,
+};
