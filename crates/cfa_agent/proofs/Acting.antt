@@ -290,6 +290,7 @@ refused_by heading instance whole count site'' start now made (decisions.Needs c
 refused_by heading instance whole count site'' start now made (decisions.Needs change) kept f calls.Perms counted does left takes = look_done heading instance whole count site'' start now made _ calls.Perms counted does left takes
 refused_by heading instance whole count site'' start now made (decisions.Needs change) kept f calls.Service counted does left takes = look_done heading instance whole count site'' start now made _ calls.Service counted does left takes
 refused_by heading instance whole count site'' start now made (decisions.Needs change) kept f calls.Lock counted does left takes = look_done heading instance whole count site'' start now made _ calls.Lock counted does left takes
+refused_by heading instance whole count site'' start now made (decisions.Needs change) kept f calls.Children counted does left takes = look_done heading instance whole count site'' start now made _ calls.Children counted does left takes
 
 failed_done : (heading : Heading) (instance : Instance) (whole rest : List Act) (count : ℕ) (site'' : Shown Told) (start now : Told) (made : List Change) (d : Decision) (number : ℕ) (opened : List Entry) (reason : Reason) (f : Change → Actuated) →
     count ≡ length made → now ≡ adds (begun heading.number (opening heading instance) start.world made) start →

@@ -71,6 +71,7 @@ module _ (heading : Heading) (instance : Instance) (world : World) where
   all_refused [] next calls.Perms = refl
   all_refused [] next calls.Service = refl
   all_refused [] next calls.Lock = refl
+  all_refused [] next calls.Children = refl
   all_refused [] next calls.Change =
       three_parts run open_entry [] (next_entries [] next) (Refused calls.Change ∷ []) (appended (closing_record heading.number 0 (Some Fault)) ∷ [])
   all_refused (first ∷ made) next call =

@@ -82,6 +82,7 @@ made_takes opened n file change before mid after' (steps.Refused calls.Read) tol
 made_takes opened n file change before mid after' (steps.Refused calls.Perms) told begun made = absurd made
 made_takes opened n file change before mid after' (steps.Refused calls.Service) told begun made = absurd made
 made_takes opened n file change before mid after' (steps.Refused calls.Lock) told begun made = absurd made
+made_takes opened n file change before mid after' (steps.Refused calls.Children) told begun made = absurd made
 
 pub made_faults : (change : Change) (entries : List Entry) (before mid after' : Shown Told) (step : Step) → Follows (adds entries) before mid → IsMade change mid after' step → StepFaults step before after'
 made_faults change entries before mid after' steps.Kept begun made = absurd made
@@ -94,6 +95,7 @@ made_faults change entries before mid after' (steps.Refused calls.Read) begun ma
 made_faults change entries before mid after' (steps.Refused calls.Perms) begun made = absurd made
 made_faults change entries before mid after' (steps.Refused calls.Service) begun made = absurd made
 made_faults change entries before mid after' (steps.Refused calls.Lock) begun made = absurd made
+made_faults change entries before mid after' (steps.Refused calls.Children) begun made = absurd made
 
 -- ---- a look that was refused
 
@@ -106,6 +108,7 @@ look_takes opened n (decisions.Needs change) calls.Read after' t look = look
 look_takes opened n (decisions.Needs change) calls.Perms after' t look = look
 look_takes opened n (decisions.Needs change) calls.Service after' t look = look
 look_takes opened n (decisions.Needs change) calls.Lock after' t look = look
+look_takes opened n (decisions.Needs change) calls.Children after' t look = look
 look_takes opened n (decisions.Needs change) calls.Change after' t look = absurd (true≢false look.0)
 
 pub refused_takes : (opened : List Entry) (n : ℕ) (decided : World → Decision) (call : Call) (before after' : Shown Told) → is_change call ≡ false → after'.told ≡ option_map (adds (Refused call ∷ [])) before.told →

@@ -58,6 +58,7 @@ is_change calls.Read = false
 is_change calls.Perms = false
 is_change calls.Service = false
 is_change calls.Lock = false
+is_change calls.Children = false
 is_change calls.Change = true
 
 abbrev pub is_some_change : List Change → Bool
