@@ -20,6 +20,7 @@ pub mod Behind
 pub mod TellLemmas
 pub mod ActsTold
 pub mod Stopping
+pub mod FaultLemmas
 pub mod ShortPuts
 pub mod WholeRuns
 pub mod RunSteps

@@ -11,6 +11,7 @@ pub mod Locking
 pub mod Stepping
 pub mod Standing
 pub mod Ending
+pub mod Faults
 pub mod Putting
 pub mod Agents
 pub mod lemmas

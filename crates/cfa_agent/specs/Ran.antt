@@ -4,7 +4,7 @@
 --
 -- A run is stopped where a lock or the journal fails, where a line can't be put, where memory ends, where more visits are needed
 -- than a run may make, and where a pattern is refused for its size.
-use Rattle.std.specs.Prelude.{ℕ, ◌≡◌, Bool, List, ◌++◌, drop, length, flat_map, Option, Some, None, Result, Ok, Err, IfSome, ⊤}
+use Rattle.std.specs.Prelude.{ℕ, ◌≡◌, ◌≤◌, Bool, List, ◌++◌, drop, length, flat_map, Option, Some, None, Result, Ok, Err, IfSome, ⊤}
 use Rattle.cfa_base.specs.Shown.{Shown, Follows, HasFailed}
 use Rattle.cfa_base.specs.Patterns.{refuses}
 use Rattle.cfa_outside.specs.declared.sites.Entry.{Entry}
@@ -58,6 +58,13 @@ pub record RunsAs (setting : Setting) (s : Start) (before after : Told) (out out
   pub site_is : after ≡ adds (log_of setting s) before
   pub out_is : Follows (adds_bytes (text_of setting s)) out out'
   pub tally_is : counts_of tally ≡ tally_of setting s
+
+-- by counts alone, also on a site that tells nothing: neither that of failed promises falls nor that of the site's faults, and
+-- where the first stands, so does the second
+pub record CountsFaults (failed failed' faults faults' : ℕ) : Type 0 where
+  pub failed_later : failed ≤ failed'
+  pub later : faults ≤ faults'
+  pub calm : failed' ≡ failed → faults' ≡ faults
 
 -- this holds of what a site told before and after, where it tells
 abbrev pub IfBothTold : (Holds : (before after : Told) → Type 0) → (site site' : Shown Told) → Type 0

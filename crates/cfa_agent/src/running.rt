@@ -11,7 +11,7 @@ ghost use Rattle.cfa_agent.specs.Runs.{run_of};
 ghost use Rattle.cfa_agent.specs.Bracketed.{AllBracketed};
 ghost use Rattle.cfa_agent.specs.Putting.{RunEnds, StepPut};
 ghost use Rattle.cfa_agent.specs.Standing.{IsFirst};
-ghost use Rattle.cfa_agent.specs.Ran.{added, started, LimitAs, RunsAs, RunBuilds, IfBothTold, text_too_big, StopsRun, RunRefuses};
+ghost use Rattle.cfa_agent.specs.Ran.{added, started, CountsFaults, LimitAs, RunsAs, RunBuilds, IfBothTold, text_too_big, StopsRun, RunRefuses};
 
 use crate::progress::Running;
 use crate::putting::{put_lines, put_total};
@@ -66,6 +66,8 @@ fn step_on<S: Site, O: Sink, P: Patterns>(
     ensures put { StepPut running.old running.new machine.old machine.new
         (S.shown site.old) (S.shown site.new) (O.shown out.old) (O.shown out.new)
         (P.shown pats.old) (P.shown pats.new) result }
+    ensures counted { OnOk result (CountsFaults running.old.tally.failed running.new.tally.failed
+        (S.shown site.old).faults (S.shown site.new).faults) }
     ensures over { IfOk result (λ is_more. is_more ≡ false
         → need_of (seen_stack machine.new) ≡ over) }
     ensures holds { OnOk result (Holds machine.new) }
@@ -90,9 +92,11 @@ fn run_on<S: Site, O: Sink, P: Patterns>(
 ) -> Result<(), Stop>
     requires holds { Holds machine.old }
     requires stands { (s : Setting) × ((h : History) × Stands s machine.old h) }
-    ensures { RunEnds running.old running.new machine.old machine.new
+    ensures ends { RunEnds running.old running.new machine.old machine.new
         (S.shown site.old) (S.shown site.new) (O.shown out.old) (O.shown out.new)
         (P.shown pats.old) (P.shown pats.new) result }
+    ensures counted { OnOk result (CountsFaults running.old.tally.failed running.new.tally.failed
+        (S.shown site.old).faults (S.shown site.new).faults) }
 {
     loop {
         if !step_on(alloc, machine, running, site, out, pats)? {
@@ -125,6 +129,9 @@ pub fn run<S: Site, O: Sink, P: Patterns>(
     ensures bracketed { OnOk result (IfBothTold (λ before after.
         AllBracketed before.world (added before after)) (S.shown site.old) (S.shown site.new)) }
     ensures calm { OnOk result ((O.shown out.new).faults ≡ (O.shown out.old).faults) }
+    // Where no promise failed no call on the site did, also on one that tells nothing.
+    ensures faults { IfOk result (λ tally. CountsFaults 0 tally.failed
+        (S.shown site.old).faults (S.shown site.new).faults) }
     // A run is stopped by too many visits only where its definition has too many.
     ensures too_large { IsErrOf result Stop.Visits → IfBothTold (λ before after. IsTooLarge
         (run_of (setting_of checked.now context.now) (started moment locks before after)))

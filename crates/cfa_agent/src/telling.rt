@@ -5,6 +5,7 @@ ghost use Rattle.cfa_schema.specs.Laws.{IsCounted};
 ghost use Rattle.cfa_resolve.specs.declared.instances.Work.TheVariants as Work;
 ghost use Rattle.cfa_outcomes.specs.declared.outcomes.Outcome.{Outcome as AnyOutcome};
 ghost use Rattle.cfa_agent.specs.Stepping.{is_recorded};
+ghost use Rattle.cfa_agent.specs.Faults.{CountsOn, IsCalmUnless};
 ghost use Rattle.cfa_agent.specs.Ending.{outcome_ended, one_ended, tallied, heard, acted_on, Hears, ActsNext, Settles, Tells};
 
 use crate::actuating::{Actuation, actuate};
@@ -117,8 +118,10 @@ fn act<S: Site>(
 ) -> Result<Actuation, Stop>
     requires acts { All IsAct acts.now }
     requires source { IsCounted instance.now.source }
-    ensures { ActsNext running.old running.new instance.now acts.now
+    ensures next { ActsNext running.old running.new instance.now acts.now
         (S.shown site.old) (S.shown site.new) result }
+    ensures calm { IfOk result (λ a. IsCalmUnless a.failure
+        (S.shown site.old) (S.shown site.new)) }
 {
     let number = next_number(running.number)?;
     let moment = running.moment;
@@ -158,9 +161,12 @@ fn tell_acts<S: Site>(
     requires asked { instance.now.work ≡ Work.Acts acts.now }
     requires acts { All IsAct acts.now }
     requires source { IsCounted instance.now.source }
-    ensures { (called : AnyOutcome) →
+    ensures tells { (called : AnyOutcome) →
         Tells (running.old, (S.shown site.old, lines.old.items))
         (running.new, (S.shown site.new, lines.new.items)) instance.now called result }
+    ensures counted { OnOk result (CountsOn
+        (running.old, (S.shown site.old, lines.old.items))
+        (running.new, (S.shown site.new, lines.new.items))) }
 {
     have_names(acts);
     let ended = act(alloc, running, instance, acts, site)?;
@@ -179,9 +185,12 @@ fn tell_report<S: Site>(
     lines: &mut Vec<Name>,
 ) -> Result<Outcome, Stop>
     requires { instance.now.work ≡ Work.Report text.now }
-    ensures { (called : AnyOutcome) →
+    ensures tells { (called : AnyOutcome) →
         Tells (running.old, (S.shown site.old, lines.old.items))
         (running.new, (S.shown site.new, lines.new.items)) instance.now called result }
+    ensures counted { OnOk result (CountsOn
+        (running.old, (S.shown site.old, lines.old.items))
+        (running.new, (S.shown site.new, lines.new.items))) }
 {
     settle(alloc, running, instance, Outcome::Kept, site)?;
     tell_text(alloc, text, lines)?;
@@ -198,8 +207,11 @@ fn tell_instance<S: Site>(
     lines: &mut Vec<Name>,
 ) -> Result<Outcome, Stop>
     requires { IsCounted instance.now.source }
-    ensures { Tells (running.old, (S.shown site.old, lines.old.items))
+    ensures tells { Tells (running.old, (S.shown site.old, lines.old.items))
         (running.new, (S.shown site.new, lines.new.items)) instance.now called result }
+    ensures counted { OnOk result (CountsOn
+        (running.old, (S.shown site.old, lines.old.items))
+        (running.new, (S.shown site.new, lines.new.items))) }
 {
     match &instance.work {
         Work::Acts(acts) => tell_acts(alloc, running, instance, acts.as_slice(), site, lines),
@@ -212,6 +224,7 @@ fn tell_instance<S: Site>(
 }
 
 impl<S: Site> Teller<S, Vec<Name>> for Running {
+    ghost use Rattle.cfa_agent.specs.Faults.{counts_on_none, counts_on_then};
     ghost use Rattle.cfa_agent.specs.Standing.{Given, teller_of, faults_of, Agrees, IsBehind, stays_behind};
 
     ghost given = { Given };
@@ -223,6 +236,14 @@ impl<S: Site> Teller<S, Vec<Name>> for Running {
     ghost behind = { λ w g h. IsBehind (w.0, (S.shown w.1.0, w.1.1.items)) g h };
 
     ghost faults = { λ w. faults_of (w.0, (S.shown w.1.0, w.1.1.items)) };
+
+    ghost counts = { λ v w. CountsOn (v.0, (S.shown v.1.0, v.1.1.items))
+        (w.0, (S.shown w.1.0, w.1.1.items)) };
+
+    ghost counts_none = { λ w. counts_on_none (w.0, (S.shown w.1.0, w.1.1.items)) };
+
+    ghost counts_then = { λ v w x. counts_on_then (v.0, (S.shown v.1.0, v.1.1.items))
+        (w.0, (S.shown w.1.0, w.1.1.items)) (x.0, (S.shown x.1.0, x.1.1.items)) };
 
     ghost steady = { λ w g event h quiet b.
         stays_behind (w.0, (S.shown w.1.0, w.1.1.items)) g event h quiet b };

@@ -4,7 +4,7 @@ ghost use Rattle.cfa_states.specs.Levels.{IsTooLarge};
 ghost use Rattle.cfa_walk.specs.Settings.{setting_of};
 ghost use Rattle.cfa_agent.specs.Bracketed.{AllBracketed};
 ghost use Rattle.cfa_agent.specs.Runs.{run_of};
-ghost use Rattle.cfa_agent.specs.Ran.{added, started, LimitAs, RunsAs, RunBuilds, IfBothTold, text_too_big, StopsRun, RunRefuses};
+ghost use Rattle.cfa_agent.specs.Ran.{added, started, CountsFaults, LimitAs, RunsAs, RunBuilds, IfBothTold, text_too_big, StopsRun, RunRefuses};
 ghost use Rattle.cfa_conflict.specs.Analyses.{analysis_of};
 ghost use Rattle.cfa_conflict.specs.declared.verdicts.Verdict as verdicts;
 ghost use Rattle.cfa_convergence.specs.Settled.{Settles};
@@ -41,6 +41,8 @@ pub fn run<S: Site, O: Sink, P: Patterns>(
     ensures bracketed { OnOk result (IfBothTold (λ before after.
         AllBracketed before.world (added before after)) (S.shown site.old) (S.shown site.new)) }
     ensures calm { OnOk result ((O.shown out.new).faults ≡ (O.shown out.old).faults) }
+    ensures faults { IfOk result (λ tally. CountsFaults 0 tally.failed
+        (S.shown site.old).faults (S.shown site.new).faults) }
     ensures too_large { IsErrOf result Stop.Visits → IfBothTold (λ before after. IsTooLarge
         (run_of (setting_of checked.now context.now) (started moment locks before after)))
         (S.shown site.old) (S.shown site.new) }

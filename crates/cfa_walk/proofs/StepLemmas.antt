@@ -9,16 +9,17 @@ use Rattle.cfa_statuses.specs.declared.levels.Status.{Status}
 use Rattle.cfa_frames.specs.Frames.{Ahead, Doing, Frame, Stack, asked, idle, rest, running}
 use Rattle.cfa_frames.specs.Moves.{Need, Next, ahead_need, answered, doing_ended, doing_need, ended, ending, frames_ended, frames_need, goes_on, is_too_large, need_of, nothing, over, skipping}
 use Rattle.cfa_frames.specs.Steps.{awaits_actuation, step, then_step}
-use Rattle.cfa_machine.specs.Stacks.{seen_stack}
+use Rattle.cfa_base.specs.Shown.{Shown}
+use Rattle.cfa_machine.specs.Stacks.{Holds, Stands, seen_stack}
 use Rattle.cfa_machine.specs.declared.machines.Machine.{Machine}
 use Rattle.cfa_states.specs.Builds.{BuiltOn}
 use Rattle.cfa_states.specs.History.{History}
-use Rattle.cfa_states.specs.Levels.{outcomes_of}
+use Rattle.cfa_states.specs.Levels.{Faults, outcomes_of}
 use Rattle.cfa_states.specs.Tellers.{Teller}
 use Rattle.cfa_states.specs.Views.{Setting}
 use Rattle.cfa_tree.specs.Tree.{BlockTree}
 use Rattle.cfa_walk.specs.Turns.{Relation, IsLeft, IsAnswered, IsStepping, HasStepped, EndsStep, HasGone, GoesPastLimit, StepDone, TurnDone}
-use Rattle.cfa_walk.proofs.TurnLemmas.{Compose, built_then, gone_then, past_then}
+use Rattle.cfa_walk.proofs.TurnLemmas.{AfterTurns, Compose, built_then, gone_then, later_same, past_then}
 
 -- ---- behind an actuation nothing is waited for
 
@@ -78,6 +79,18 @@ past_mid s t mid k l true it_does goes acts is = acts s t mid k it_does ∙ is
 past_mid s t mid k l false it_does_not goes acts is = goes s t mid k it_does_not ∙ ap (then_step s t) is
 
 module _ {W X : Type 0} (teller : X → Teller) (agrees : W → X → Type 0) (behind : W → X → History → Type 0) where
+  -- where nothing was made
+  pub stepping_none : (faults : W → Faults) (w : W) (m : Machine) (pats : Shown (List (List ℕ))) → Holds m → (s : Setting) × ((h : History) × Stands s m h) →
+      AfterTurns teller agrees behind IsStepping faults w w m m pats pats
+  stepping_none faults w m pats holds stands = record {
+    holds = holds;
+    stands = stands;
+    turned = λ s x h agree. (agree, λ stands stays. (h, (stands, (stays, stepping_same s (teller x) (seen_stack m) h))));
+    lighter = omega arith;
+    faults_are = later_same (faults w);
+    patterns_are = refl;
+  }
+
   -- where nothing is left
   pub step_over : (w w' : W) (m m' : Machine) → need_of (seen_stack m') ≡ over → StepIsOver → HasGone teller agrees behind IsStepping w w' m m' →
       HasGone teller agrees behind (EndsStep false) w w' m m'

@@ -36,6 +36,12 @@ use Rattle.cfa_walk.specs.Turns.{GoesOn, Relation, IsLeft, IsAnswered, HasGone, 
 use Rattle.cfa_walk.specs.Walked.{HasRunTo}
 use Rattle.cfa_states.specs.lemmas.Later.{at_most}
 
+-- ---- what holds whatever is answered
+
+pub counted_still : (P : Type 0) (result : Result (Unit {0}) Stop) → P → OnOk result P
+counted_still P (Ok done) holds = holds
+counted_still P (Err stop) holds = tt
+
 -- ---- what was built
 
 built_more : (s : Setting) (text : List ℕ) (event : Event) (h : History) → BuiltIn s h text → BuiltIn s (event ∷ h) text

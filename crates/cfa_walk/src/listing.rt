@@ -82,6 +82,12 @@ impl Teller<(), ()> for Telling {
 
     ghost faults = { λ w. (0, 0) };
 
+    ghost counts = { λ v w. ⊤ };
+
+    ghost counts_none = { λ w. tt };
+
+    ghost counts_then = { λ v w x first second. tt };
+
     ghost steady = { λ w telling event h quiet b. b };
 
     fn visit(

@@ -60,6 +60,8 @@ pub fn step<S, O, T: Teller<S, O>, P: Patterns>(
         → machine_weight machine.new < machine_weight machine.old) }
     ensures faults { FaultsAre (T.faults (teller.old, (site.old, out.old)))
         (T.faults (teller.new, (site.new, out.new))) (done_of result) }
+    ensures counted { OnOk result (T.counts (teller.old, (site.old, out.old))
+        (teller.new, (site.new, out.new))) }
     ensures patterns { PatternsAre (done_of result) (P.shown pats.old) (P.shown pats.new) }
 {
     moves_keep_what_is_left();

@@ -1,5 +1,5 @@
 // Who tells how instances end.
-ghost use Rattle.std.specs.Prelude.{◌∷◌, IfErr, IfOk, IsTrue};
+ghost use Rattle.std.specs.Prelude.{◌∷◌, IfErr, IfOk, IsTrue, OnOk};
 ghost use Rattle.cfa_schema.specs.Laws.{IsCounted};
 ghost use Rattle.cfa_states.specs.History.{History, Event};
 ghost use Rattle.cfa_states.specs.Levels.{HasVisited, HasTold, Faults, Later, Stops, IsTellersStop, is_quiet};
@@ -29,6 +29,15 @@ pub trait Teller<S, O> {
     /// How often a call on the site failed, and how often one on the sink did.
     ghost faults: { Self × (S × O) → Faults };
 
+    /// What its counts come to from one point to a later one, behind answers alone.
+    ghost counts: { Self × (S × O) → Self × (S × O) → Type 0 };
+
+    /// So they do where nothing was asked.
+    ghost counts_none: { (w : Self × (S × O)) → counts w w };
+
+    /// They do over two stretches if they do over each.
+    ghost counts_then: { (v w x : Self × (S × O)) → counts v w → counts w x → counts v x };
+
     /// Hears of a visit of an instance, and answers whether it is skipped.
     fn visit(
         &mut self,
@@ -41,6 +50,8 @@ pub trait Teller<S, O> {
         ensures visited { IfOk result (HasVisited teller agrees behind
             (self.old, (site.old, out.old)) (self.new, (site.new, out.new))
             instance.now status) }
+        ensures counted { OnOk result (counts (self.old, (site.old, out.old))
+            (self.new, (site.new, out.new))) }
         ensures later { IfOk result (λ skipped. Later (faults (self.old, (site.old, out.old)))
             (faults (self.new, (site.new, out.new)))) }
         ensures stopped { IfErr result (Stops (faults (self.old, (site.old, out.old)))
@@ -59,6 +70,8 @@ pub trait Teller<S, O> {
         requires { IsCounted instance.now.source }
         ensures told { IfOk result (HasTold teller agrees behind (self.old, (site.old, out.old))
             (self.new, (site.new, out.new)) instance.now called) }
+        ensures counted { OnOk result (counts (self.old, (site.old, out.old))
+            (self.new, (site.new, out.new))) }
         ensures later { IfOk result (λ ending. Later (faults (self.old, (site.old, out.old)))
             (faults (self.new, (site.new, out.new)))) }
         ensures stopped { IfErr result (Stops (faults (self.old, (site.old, out.old)))

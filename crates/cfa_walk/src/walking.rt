@@ -62,6 +62,8 @@ fn visit<S, O, T: Teller<S, O>>(
     ensures holds { OnOk result (Holds machine.new) }
     ensures faults { FaultsAre (T.faults (teller.old, (site.old, out.old)))
         (T.faults (teller.new, (site.new, out.new))) result }
+    ensures counted { OnOk result (T.counts (teller.old, (site.old, out.old))
+        (teller.new, (site.new, out.new))) }
     ensures own { IfErr result IsTellersStop }
 {
     moves_keep_what_is_left();
@@ -92,6 +94,8 @@ fn finish<S, O, T: Teller<S, O>>(
     ensures holds { OnOk result (Holds machine.new) }
     ensures faults { FaultsAre (T.faults (teller.old, (site.old, out.old)))
         (T.faults (teller.new, (site.new, out.new))) result }
+    ensures counted { OnOk result (T.counts (teller.old, (site.old, out.old))
+        (teller.new, (site.new, out.new))) }
     ensures own { IfErr result IsTellersStop }
 {
     moves_keep_what_is_left();
@@ -125,6 +129,8 @@ pub(crate) fn turn<S, O, T: Teller<S, O>, P: Patterns>(
     ensures holds { OnOk result (Holds machine.new) }
     ensures faults { FaultsAre (T.faults (teller.old, (site.old, out.old)))
         (T.faults (teller.new, (site.new, out.new))) result }
+    ensures counted { OnOk result (T.counts (teller.old, (site.old, out.old))
+        (teller.new, (site.new, out.new))) }
     ensures patterns { PatternsAre result (P.shown pats.old) (P.shown pats.new) }
 {
     moves_keep_what_is_left();

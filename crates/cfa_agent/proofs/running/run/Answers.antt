@@ -1,10 +1,11 @@
-use Rattle.std.proofs.Common.{ℕ, List, [], Some, Result, IfErr, refl, sym, ap, ◌∙◌}
+use Rattle.std.proofs.Common.{ℕ, List, [], Some, Result, IfErr, refl, sym, ap, subst, ◌∙◌}
 use Rattle.cfa_base.specs.lemmas.Results.{on_err}
 use Rattle.cfa_base.specs.Shown.{Shown}
 use Rattle.cfa_output.specs.declared.ends.Stop.{Stop}
 use Rattle.cfa_output.specs.declared.ends.Stop.TheVariants.{Memory}
 use Rattle.cfa_agent.specs.declared.running.Tally.{Tally}
-use Rattle.cfa_agent.specs.Ran.{RunBuilds, RunRefuses, StopsRun, text_too_big}
+use Rattle.cfa_agent.specs.Runs.{Counts}
+use Rattle.cfa_agent.specs.Ran.{CountsFaults, RunBuilds, RunRefuses, StopsRun, text_too_big}
 use Rattle.cfa_walk.specs.Settings.{setting_of}
 use Rattle.cfa_agent.proofs.RunSteps.{short_run, whole_run}
 use Rattle.cfa_agent.proofs.RunTold.{run_bracketed, run_built, run_large, run_limit, run_ran, run_refuses, run_stops, total_builds, total_refuses, total_stops}
@@ -29,7 +30,7 @@ returns-in_err-ended-clause-too_large g c is =
     let ended = c.run_on-ended in
     let stop = c.in_err-ended.field-0.0 in
     let short = short_run first ended.new.running c.in_ok-machine.machine ended.new.machine (site c.args.site.now) (site ended.new.site)
-    (out c.args.out.now) (out ended.new.out) (pats c.args.pats.now) (pats ended.new.pats) stop c.in_err-ended.ensures in
+    (out c.args.out.now) (out ended.new.out) (pats c.args.pats.now) (pats ended.new.pats) stop c.in_err-ended.ensures.ends in
     run_large setting (c.moves_keep_what_is_left.ensures.begins setting) (c.moves_keep_what_is_left.ensures.over setting) (c.histories_only_grow.ensures.alike setting)
     c.args.moment c.args.locks first c.begin-running.ensures c.in_ok-machine.machine begins.stands begins.stack
     short.running ended.new.running short.machine ended.new.machine (site c.args.site.now) short.site_there (site ended.new.site)
@@ -46,7 +47,7 @@ returns-in_err-ended-clause-limit g c is =
     let ended = c.run_on-ended in
     let stop = c.in_err-ended.field-0.0 in
     let short = short_run first ended.new.running c.in_ok-machine.machine ended.new.machine (site c.args.site.now) (site ended.new.site)
-    (out c.args.out.now) (out ended.new.out) (pats c.args.pats.now) (pats ended.new.pats) stop c.in_err-ended.ensures in
+    (out c.args.out.now) (out ended.new.out) (pats c.args.pats.now) (pats ended.new.pats) stop c.in_err-ended.ensures.ends in
     run_limit setting (c.moves_keep_what_is_left.ensures.begins setting) (c.moves_keep_what_is_left.ensures.over setting) (c.histories_only_grow.ensures.alike setting)
     c.args.moment c.args.locks first c.begin-running.ensures c.in_ok-machine.machine begins.stands begins.stack
     short.running ended.new.running short.machine ended.new.machine (site c.args.site.now) short.site_there (site ended.new.site)
@@ -63,7 +64,7 @@ returns-in_err-ended-clause-stopped g c =
     let ended = c.run_on-ended in
     let stop = c.in_err-ended.field-0.0 in
     let short = short_run first ended.new.running c.in_ok-machine.machine ended.new.machine (site c.args.site.now) (site ended.new.site)
-    (out c.args.out.now) (out ended.new.out) (pats c.args.pats.now) (pats ended.new.pats) stop c.in_err-ended.ensures in
+    (out c.args.out.now) (out ended.new.out) (pats c.args.pats.now) (pats ended.new.pats) stop c.in_err-ended.ensures.ends in
     on_err (λ (r : Result Tally Stop). IfErr r (StopsRun (site c.args.site.now) (site ended.new.site) (out c.args.out.now) (out ended.new.out))) c.from_residual-in_err-ended.result stop c.from_residual-in_err-ended.ensures.1
     (run_stops setting (c.moves_keep_what_is_left.ensures.begins setting) (c.moves_keep_what_is_left.ensures.over setting) (c.histories_only_grow.ensures.alike setting)
     c.args.moment c.args.locks first c.begin-running.ensures c.in_ok-machine.machine begins.stands begins.stack
@@ -81,7 +82,7 @@ returns-in_err-ended-clause-patterns g c =
     let ended = c.run_on-ended in
     let stop = c.in_err-ended.field-0.0 in
     let short = short_run first ended.new.running c.in_ok-machine.machine ended.new.machine (site c.args.site.now) (site ended.new.site)
-    (out c.args.out.now) (out ended.new.out) (pats c.args.pats.now) (pats ended.new.pats) stop c.in_err-ended.ensures in
+    (out c.args.out.now) (out ended.new.out) (pats c.args.pats.now) (pats ended.new.pats) stop c.in_err-ended.ensures.ends in
     on_err (λ (r : Result Tally Stop). RunRefuses (λ text. RunBuilds setting c.args.moment c.args.locks (site c.args.site.now) (site ended.new.site) (Some text)) r (pats c.args.pats.now) (pats ended.new.pats)) c.from_residual-in_err-ended.result stop c.from_residual-in_err-ended.ensures.1
     (run_refuses setting (c.moves_keep_what_is_left.ensures.begins setting) (c.moves_keep_what_is_left.ensures.over setting) (c.histories_only_grow.ensures.alike setting)
     c.args.moment c.args.locks first c.begin-running.ensures c.in_ok-machine.machine begins.stands begins.stack
@@ -99,7 +100,7 @@ returns-in_err-ended-clause-built g c =
     let ended = c.run_on-ended in
     let stop = c.in_err-ended.field-0.0 in
     let short = short_run first ended.new.running c.in_ok-machine.machine ended.new.machine (site c.args.site.now) (site ended.new.site)
-    (out c.args.out.now) (out ended.new.out) (pats c.args.pats.now) (pats ended.new.pats) stop c.in_err-ended.ensures in
+    (out c.args.out.now) (out ended.new.out) (pats c.args.pats.now) (pats ended.new.pats) stop c.in_err-ended.ensures.ends in
     on_err (λ (r : Result Tally Stop). RunBuilds setting c.args.moment c.args.locks (site c.args.site.now) (site ended.new.site) (text_too_big r)) c.from_residual-in_err-ended.result stop c.from_residual-in_err-ended.ensures.1
     (run_built setting (c.moves_keep_what_is_left.ensures.begins setting) (c.moves_keep_what_is_left.ensures.over setting) (c.histories_only_grow.ensures.alike setting)
     c.args.moment c.args.locks first c.begin-running.ensures c.in_ok-machine.machine begins.stands begins.stack
@@ -116,7 +117,7 @@ returns-clause-ran g c =
     let begins = c.in_ok-machine.ensures.begins in
     let ended = c.run_on-ended in
     let whole = whole_run first ended.new.running c.in_ok-machine.machine ended.new.machine (site c.args.site.now) (site ended.new.site)
-    (out c.args.out.now) (out ended.new.out) (pats c.args.pats.now) (pats ended.new.pats) c.in_ok-ended.field-0 c.in_ok-ended.ensures in
+    (out c.args.out.now) (out ended.new.out) (pats c.args.pats.now) (pats ended.new.pats) c.in_ok-ended.field-0 c.in_ok-ended.ensures.ends in
     run_ran setting (c.moves_keep_what_is_left.ensures.begins setting) (c.moves_keep_what_is_left.ensures.over setting) (c.histories_only_grow.ensures.alike setting)
     c.args.moment c.args.locks first c.begin-running.ensures c.in_ok-machine.machine begins.stands begins.stack
     ended.new.running ended.new.machine (site c.args.site.now) (site ended.new.site)
@@ -132,7 +133,7 @@ returns-clause-bracketed g c =
     let begins = c.in_ok-machine.ensures.begins in
     let ended = c.run_on-ended in
     let whole = whole_run first ended.new.running c.in_ok-machine.machine ended.new.machine (site c.args.site.now) (site ended.new.site)
-    (out c.args.out.now) (out ended.new.out) (pats c.args.pats.now) (pats ended.new.pats) c.in_ok-ended.field-0 c.in_ok-ended.ensures in
+    (out c.args.out.now) (out ended.new.out) (pats c.args.pats.now) (pats ended.new.pats) c.in_ok-ended.field-0 c.in_ok-ended.ensures.ends in
     run_bracketed setting (c.moves_keep_what_is_left.ensures.begins setting) (c.moves_keep_what_is_left.ensures.over setting) (c.histories_only_grow.ensures.alike setting)
     c.args.moment c.args.locks first c.begin-running.ensures c.in_ok-machine.machine begins.stands begins.stack
     ended.new.running ended.new.machine (site c.args.site.now) (site ended.new.site)
@@ -160,7 +161,7 @@ returns-in_err-put_total-clause-stopped g c =
     let pats = g.P.Patterns.shown in
     let ended = c.run_on-ended in
     let whole = whole_run c.begin-running.result ended.new.running c.in_ok-machine.machine ended.new.machine (site c.args.site.now) (site ended.new.site)
-    (out c.args.out.now) (out ended.new.out) (pats c.args.pats.now) (pats ended.new.pats) c.in_ok-ended.field-0 c.in_ok-ended.ensures in
+    (out c.args.out.now) (out ended.new.out) (pats c.args.pats.now) (pats ended.new.pats) c.in_ok-ended.field-0 c.in_ok-ended.ensures.ends in
     let stop = c.in_err-put_total.field-0.0 in
     on_err (λ (r : Result Tally Stop). IfErr r (StopsRun (site c.args.site.now) (site ended.new.site) (out c.args.out.now) (out c.put_total.new.out)))
     c.from_residual-in_err-put_total.result stop c.from_residual-in_err-put_total.ensures.1
@@ -175,7 +176,7 @@ returns-in_err-put_total-clause-patterns g c =
     let pats = g.P.Patterns.shown in
     let ended = c.run_on-ended in
     let whole = whole_run c.begin-running.result ended.new.running c.in_ok-machine.machine ended.new.machine (site c.args.site.now) (site ended.new.site)
-    (out c.args.out.now) (out ended.new.out) (pats c.args.pats.now) (pats ended.new.pats) c.in_ok-ended.field-0 c.in_ok-ended.ensures in
+    (out c.args.out.now) (out ended.new.out) (pats c.args.pats.now) (pats ended.new.pats) c.in_ok-ended.field-0 c.in_ok-ended.ensures.ends in
     let stop = c.in_err-put_total.field-0.0 in
     let B : List ℕ → Type 0 = λ text. RunBuilds setting c.args.moment c.args.locks (site c.args.site.now) (site ended.new.site) (Some text) in
     on_err (λ (r : Result Tally Stop). RunRefuses B r (pats c.args.pats.now) (pats ended.new.pats))
@@ -200,7 +201,7 @@ returns-clause-calm g c =
     let pats = g.P.Patterns.shown in
     let ended = c.run_on-ended in
     let whole = whole_run c.begin-running.result ended.new.running c.in_ok-machine.machine ended.new.machine (site c.args.site.now) (site ended.new.site)
-    (out c.args.out.now) (out ended.new.out) (pats c.args.pats.now) (pats ended.new.pats) c.in_ok-ended.field-0 c.in_ok-ended.ensures in
+    (out c.args.out.now) (out ended.new.out) (pats c.args.pats.now) (pats ended.new.pats) c.in_ok-ended.field-0 c.in_ok-ended.ensures.ends in
     ap (λ (o : Shown (List ℕ)). o.faults) c.in_ok-put_total.ensures.put ∙ ap (λ (o : Shown (List ℕ)). o.faults) whole.1.out_is
 
 pub returns-clause-patterns : goal.returns-clause-patterns
@@ -210,5 +211,13 @@ returns-clause-patterns g c =
     let pats = g.P.Patterns.shown in
     let ended = c.run_on-ended in
     let whole = whole_run c.begin-running.result ended.new.running c.in_ok-machine.machine ended.new.machine (site c.args.site.now) (site ended.new.site)
-    (out c.args.out.now) (out ended.new.out) (pats c.args.pats.now) (pats ended.new.pats) c.in_ok-ended.field-0 c.in_ok-ended.ensures in
+    (out c.args.out.now) (out ended.new.out) (pats c.args.pats.now) (pats ended.new.pats) c.in_ok-ended.field-0 c.in_ok-ended.ensures.ends in
     whole.1.patterns_are
+
+pub returns-clause-faults : goal.returns-clause-faults
+returns-clause-faults g c =
+    let site = g.S.Site.shown in
+    let first = c.begin-running.result in
+    let ended = c.run_on-ended in
+    let P : ℕ → Type 0 = λ n. CountsFaults n ended.new.running.tally.failed (site c.args.site.now).faults (site ended.new.site).faults in
+    subst P (ap (λ (counts : Counts). counts.failed) c.begin-running.ensures.counts_are) c.in_ok-ended.ensures.counted

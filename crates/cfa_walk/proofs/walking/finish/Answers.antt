@@ -1,7 +1,7 @@
 use Rattle.std.proofs.Common.{sym}
 use Rattle.cfa_machine.specs.Stacks.{seen_stack}
 use Rattle.cfa_states.specs.Tellers.{outcomes_in}
-use Rattle.cfa_walk.proofs.TurnLemmas.{by_answer, ending_goes, ok_then, told_so}
+use Rattle.cfa_walk.proofs.TurnLemmas.{by_answer, counted_still, ending_goes, ok_then, told_so}
 use Rattle.cfa_walk.proofs.walking.finish.Goals as goal
 
 pub returns-in-Ok-clause-turned : goal.returns-in-Ok-clause-turned
@@ -23,3 +23,8 @@ pub returns-in-Ok-clause-lighter : goal.returns-in-Ok-clause-lighter
 returns-in-Ok-clause-lighter g c =
     ending_goes c.args.machine.now c.answer_ending.new.machine c.in-Ending.instance.now c.in-Ending.field-1 (sym c.in-Ending.ensures) (outcomes_in c.in-Ok.ending)
     c.moves_lower_the_weight.ensures.ended c.answer_ending.result c.answer_ending.ensures.moved
+
+pub returns-in-Ok-clause-counted : goal.returns-in-Ok-clause-counted
+returns-in-Ok-clause-counted g c =
+    counted_still (g.T.Teller.counts (c.args.teller.now, (c.args.site.now, c.args.out.now)) (c.tell.new.self, (c.tell.new.site, c.tell.new.out)))
+    c.answer_ending.result c.in-Ok.ensures.counted

@@ -1,7 +1,7 @@
 use Rattle.std.proofs.Common.{sym}
 use Rattle.cfa_frames.specs.Moves.{moved}
 use Rattle.cfa_machine.specs.Stacks.{seen_stack}
-use Rattle.cfa_walk.proofs.TurnLemmas.{advanced, move_faults, move_goes}
+use Rattle.cfa_walk.proofs.TurnLemmas.{advanced, counted_still, move_faults, move_goes}
 use Rattle.cfa_walk.proofs.walking.turn.Goals as goal
 
 pub returns-in-Nothing-clause-turned : goal.returns-in-Nothing-clause-turned
@@ -18,3 +18,7 @@ returns-in-Nothing-clause-faults g c =
     let st = c.requires.stands in
     move_faults st.0 c.advance.new.self c.advance.result (moved st.0 (seen_stack c.args.machine.now) st.1.0)
     (g.T.Teller.faults (c.args.teller.now, (c.args.site.now, c.args.out.now))) (c.advance.ensures.moved st.0 st.1.0 st.1.1)
+
+pub returns-in-Nothing-clause-counted : goal.returns-in-Nothing-clause-counted
+returns-in-Nothing-clause-counted g c =
+    counted_still (g.T.Teller.counts (c.args.teller.now, (c.args.site.now, c.args.out.now)) (c.args.teller.now, (c.args.site.now, c.args.out.now))) c.advance.result (g.T.Teller.counts_none (c.args.teller.now, (c.args.site.now, c.args.out.now)))

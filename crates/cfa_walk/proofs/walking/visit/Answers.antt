@@ -1,5 +1,5 @@
 use Rattle.std.proofs.Common.{sym}
-use Rattle.cfa_walk.proofs.TurnLemmas.{by_answer, ok_then, visit_goes, visit_meets, visit_quiet, visited}
+use Rattle.cfa_walk.proofs.TurnLemmas.{by_answer, counted_still, ok_then, visit_goes, visit_meets, visit_quiet, visited}
 use Rattle.cfa_machine.specs.Stacks.{seen_stack}
 use Rattle.cfa_walk.proofs.walking.visit.Goals as goal
 
@@ -22,3 +22,8 @@ pub returns-in-Ok-clause-lighter : goal.returns-in-Ok-clause-lighter
 returns-in-Ok-clause-lighter g c =
     visit_goes c.args.machine.now c.answer_visit.new.machine c.in-Visit.instance.now c.in-Visit.status (sym c.in-Visit.ensures) c.in-Ok.is_skipped
     c.moves_lower_the_weight.ensures.skipped c.moves_lower_the_weight.ensures.entered c.answer_visit.result c.answer_visit.ensures.moved
+
+pub returns-in-Ok-clause-counted : goal.returns-in-Ok-clause-counted
+returns-in-Ok-clause-counted g c =
+    counted_still (g.T.Teller.counts (c.args.teller.now, (c.args.site.now, c.args.out.now)) (c.visit.new.self, (c.visit.new.site, c.visit.new.out)))
+    c.answer_visit.result c.in-Ok.ensures.counted
