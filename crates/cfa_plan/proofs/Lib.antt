@@ -1,0 +1,5 @@
+pub mod OverlayPaths
+pub mod OverlayCounts
+pub mod OverlayNodes
+pub mod OverlayLooks
+pub mod OverlayChanges

@@ -1,0 +1,3 @@
+pub mod OverlayChanges
+pub mod OverlayLooks
+pub mod Overlays
