@@ -100,6 +100,10 @@ fn tell_path(site: &mut RealHost, word: &str, path: &str, report: &mut Report) -
         "read" => tell_bytes(site, &path, report),
         "length" => tell_length(site, &path, report),
         "perms" => tell_perms(site, &path, report),
+        "children" => {
+            let count = site.children(report.alloc, &path);
+            report.tell(&count);
+        }
         _ => {
             let look = site.look(report.alloc, &path);
             report.tell(&look);
@@ -152,7 +156,7 @@ fn tell_change(site: &mut RealHost, kind: &str, text: &str, report: &mut Report)
     Some(())
 }
 
-// Makes a call of an agent, and takes what it is answered. `look`, `read`, `perms` and `row` are
+// Makes a call of an agent, and takes what it is answered. `look`, `read`, `perms`, `children` and `row` are
 // asked at a path or a name, and so is `length`, which reads a file and tells its bytes' number;
 // `moment` is asked of the lock of 64 zeros; `tables` writes the tables; `fault` tells the last
 // fault. The others are changes: `file PATH TEXT`, `set PATH MODE OWNER GROUP`, `service ROW`,
@@ -161,7 +165,7 @@ fn tell_change(site: &mut RealHost, kind: &str, text: &str, report: &mut Report)
 pub fn make_call(site: &mut RealHost, call: &str, report: &mut Report) -> Option<()> {
     let (word, text) = parts(call, " ");
     match word {
-        "look" | "read" | "length" | "perms" => tell_path(site, word, text, report),
+        "look" | "read" | "length" | "perms" | "children" => tell_path(site, word, text, report),
         "row" => tell_row(site, text, report),
         "moment" => tell_moment(site, report),
         "tables" => tell_tables(site, report),
